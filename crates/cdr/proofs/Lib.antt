@@ -1,0 +1,5 @@
+-- Laws that other crates cite.
+pub mod Alignment
+pub mod Numbers
+pub mod Stores
+pub mod Texts

@@ -1,0 +1,24 @@
+-- Octets stored in a lent buffer, where they fit.
+--   writtenOf    whether n octets fit at a place, and the place after them
+--   holding      what the buffer then holds: the octets where they were written, and the rest as it was
+use Prim.Native.Nat.{ℕ, _+_}
+use mathlib.Core.List.{List}
+use mathlib.Core.Bool.{cond}
+use lib.Dec.{ltb}
+use lib.ListN.{length}
+use lib.Seq.{sets}
+use mathlib.Core.Path.{_≡_}
+use Rattle.cdr.specs.declared.Written.{Written}
+use Rattle.cdr.specs.declared.Written.the-variants.{Upto, NoRoom}
+
+abbrev pub writtenOf : List ℕ → ℕ → ℕ → Written
+writtenOf out at n = cond (ltb (length out) (at + n)) NoRoom (Upto (at + n))
+
+abbrev pub holding : Written → List ℕ → ℕ → List ℕ → List ℕ
+holding NoRoom out at xs = out
+holding (Upto e) out at xs = sets out at xs
+
+-- the answer of a writer that was lent `out`, and what `out` holds at its end
+pub record Stored (out : List ℕ) (at : ℕ) (xs : List ℕ) (r : Written) (last : List ℕ) : Type 0 where
+  pub answer : r ≡ writtenOf out at (length xs)
+  pub contents : last ≡ holding r out at xs

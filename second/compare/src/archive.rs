@@ -1,0 +1,59 @@
+//! The proved library, each of its functions behind one safe call.
+
+/// The numbers of an accepted header: minor, order, more, type, size, whether
+/// there is a request id, request id.
+pub type HeaderNumbers = [u64; 7];
+
+extern "C" {
+    fn haulspar_decode(
+        line: *const u8,
+        line_len: usize,
+        out: *mut u8,
+        out_len: usize,
+        count: *mut u64,
+    ) -> u32;
+
+    fn haulspar_encode(
+        octets: *const u8,
+        len: usize,
+        out: *mut u8,
+        out_len: usize,
+        count: *mut u64,
+    ) -> u32;
+
+    fn haulspar_frame(octets: *const u8, len: usize, header: *mut u64) -> u32;
+}
+
+/// A line's characters to octets at the start of `out`.
+pub fn decode(line: &[u8], out: &mut [u8], count: &mut u64) -> u32 {
+    // SAFETY: pointers and lengths are those of live, distinct borrows.
+    unsafe {
+        haulspar_decode(
+            line.as_ptr(),
+            line.len(),
+            out.as_mut_ptr(),
+            out.len(),
+            count,
+        )
+    }
+}
+
+/// Octets to upper-case digits at the start of `out`.
+pub fn encode(octets: &[u8], out: &mut [u8], count: &mut u64) -> u32 {
+    // SAFETY: pointers and lengths are those of live, distinct borrows.
+    unsafe {
+        haulspar_encode(
+            octets.as_ptr(),
+            octets.len(),
+            out.as_mut_ptr(),
+            out.len(),
+            count,
+        )
+    }
+}
+
+/// The header of a message's octets.
+pub fn frame(octets: &[u8], header: &mut HeaderNumbers) -> u32 {
+    // SAFETY: pointers and lengths are those of live, distinct borrows.
+    unsafe { haulspar_frame(octets.as_ptr(), octets.len(), header.as_mut_ptr()) }
+}

@@ -1,0 +1,188 @@
+//! Frames before they are octets, so that faults can be planted in them.
+
+use second::frame::{
+    CANCEL_REQUEST, CLOSE_CONNECTION, FRAGMENT, HEADER_LENGTH, LOCATE_REPLY, LOCATE_REQUEST,
+    MESSAGE_ERROR, REPLY, REQUEST,
+};
+
+use crate::chance::Chance;
+
+/// The flag of little-endian messages.
+pub const LITTLE: u8 = 1;
+/// The flag that says more fragments follow.
+pub const MORE: u8 = 2;
+
+/// What a frame says of its body's length.
+#[derive(Clone, Copy)]
+pub enum Size {
+    /// The length and so many more, or fewer.
+    Off(i64),
+    /// This number.
+    Exactly(u32),
+    /// The length in the other byte order.
+    WrongOrder,
+}
+
+/// The parts of a frame.
+#[derive(Clone, Copy)]
+pub struct Draft {
+    /// The first four octets.
+    pub magic: [u8; 4],
+    /// Major version.
+    pub major: u8,
+    /// Minor version.
+    pub minor: u8,
+    /// Flags octet.
+    pub flags: u8,
+    /// Type octet.
+    pub kind: u8,
+    /// What the size field says.
+    pub size: Size,
+    /// Octets of the body.
+    pub body: usize,
+    /// How many of the octets there are, all others being cut off.
+    pub kept: usize,
+}
+
+impl Draft {
+    /// A frame whose size is that of its body.
+    pub fn new(minor: u8, flags: u8, kind: u8, body: usize) -> Self {
+        Draft {
+            magic: *b"GIOP",
+            major: 1,
+            minor,
+            flags,
+            kind,
+            size: Size::Off(0),
+            body,
+            kept: usize::MAX,
+        }
+    }
+
+    /// A frame that is accepted.
+    pub fn valid(chance: &mut Chance) -> Self {
+        let minor = chance.pick(&[0, 1, 2, 2]);
+        let flags = chance.pick(&[0, LITTLE]);
+        let kind = chance.below(if minor == 2 { 8 } else { 7 }) as u8;
+        match kind {
+            CANCEL_REQUEST => Draft::new(minor, flags, kind, 4),
+            CLOSE_CONNECTION | MESSAGE_ERROR => Draft::new(minor, flags, kind, 0),
+            _ if minor < 2 => Draft::new(minor, flags, kind, 1 + chance.below(80)),
+            _ if chance.once_in(2) => Draft::new(minor, flags, kind, 4 + chance.below(80)),
+            _ => Draft::new(minor, flags | MORE, kind, 4 + 8 * chance.below(10)),
+        }
+    }
+
+    /// The octets, the body's by chance.
+    pub fn octets(&self, chance: &mut Chance) -> Vec<u8> {
+        let mut octets = Vec::with_capacity(HEADER_LENGTH + self.body);
+        octets.extend_from_slice(&self.magic);
+        octets.extend_from_slice(&[self.major, self.minor, self.flags, self.kind]);
+        octets.extend_from_slice(&self.size_field());
+        octets.extend_from_slice(&chance.octets(self.body));
+        octets.truncate(self.kept);
+        octets
+    }
+
+    /// The four octets of the size field.
+    fn size_field(&self) -> [u8; 4] {
+        let little = self.flags & LITTLE != 0;
+        match self.size {
+            Size::Off(by) => in_order((self.body as i64 + by) as u32, little),
+            Size::Exactly(size) => in_order(size, little),
+            Size::WrongOrder => in_order(self.body as u32, !little),
+        }
+    }
+}
+
+/// An unsigned long in the given byte order.
+fn in_order(number: u32, little: bool) -> [u8; 4] {
+    if little {
+        number.to_le_bytes()
+    } else {
+        number.to_be_bytes()
+    }
+}
+
+/// A fault to plant in a frame. Some are faults in some frames only.
+#[derive(Clone, Copy)]
+pub enum Fault {
+    /// The whole has so many octets.
+    Whole(usize),
+    /// The frame is cut to so many octets.
+    Cut(usize),
+    /// The magic's octet at this index is another.
+    Magic(usize),
+    /// The major version is this.
+    Major(u8),
+    /// The minor version is this.
+    Minor(u8),
+    /// The flags of these bits are set.
+    Flags(u8),
+    /// The type is this.
+    Kind(u8),
+    /// The size field says this.
+    Said(Size),
+    /// The body has so many octets.
+    Body(usize),
+}
+
+/// Faults of every row of the table, several kinds for most rows.
+pub const FAULTS: [Fault; 36] = [
+    Fault::Whole(4_097),
+    Fault::Whole(4_096),
+    Fault::Cut(0),
+    Fault::Cut(4),
+    Fault::Cut(8),
+    Fault::Cut(11),
+    Fault::Cut(12),
+    Fault::Magic(0),
+    Fault::Magic(3),
+    Fault::Major(0),
+    Fault::Major(2),
+    Fault::Minor(3),
+    Fault::Minor(255),
+    Fault::Flags(MORE),
+    Fault::Flags(4),
+    Fault::Flags(128),
+    Fault::Kind(FRAGMENT),
+    Fault::Kind(8),
+    Fault::Kind(255),
+    Fault::Kind(CANCEL_REQUEST),
+    Fault::Kind(CLOSE_CONNECTION),
+    Fault::Said(Size::Off(1)),
+    Fault::Said(Size::Off(-1)),
+    Fault::Said(Size::Off(256)),
+    Fault::Said(Size::Off(1 << 16)),
+    Fault::Said(Size::Exactly(0)),
+    Fault::Said(Size::Exactly(u32::MAX)),
+    Fault::Said(Size::WrongOrder),
+    Fault::Body(0),
+    Fault::Body(1),
+    Fault::Body(3),
+    Fault::Body(4),
+    Fault::Body(5),
+    Fault::Body(8),
+    Fault::Body(12),
+    Fault::Body(13),
+];
+
+/// The types of the messages with a body of any length.
+pub const OPEN_KINDS: [u8; 5] = [REQUEST, REPLY, LOCATE_REQUEST, LOCATE_REPLY, FRAGMENT];
+
+impl Fault {
+    /// Plants the fault.
+    pub fn plant(self, draft: &mut Draft) {
+        match self {
+            Fault::Whole(length) => draft.body = length - HEADER_LENGTH,
+            Fault::Cut(length) => draft.kept = length,
+            Fault::Magic(index) => draft.magic[index] ^= 0x20,
+            Fault::Major(major) => draft.major = major,
+            Fault::Minor(minor) => draft.minor = minor,
+            Fault::Flags(bits) => draft.flags |= bits,
+            Fault::Kind(kind) => draft.kind = kind,
+            Fault::Said(size) => draft.size = size,
+            Fault::Body(length) => draft.body = length,
+        }
+    }
+}

@@ -1,0 +1,125 @@
+//! Memory to lend, filled with a pattern so that every write to it shows.
+
+use crate::archive::HeaderNumbers;
+
+/// Octets on either side of the lent ones, which nobody may touch.
+const MARGIN: usize = 32;
+
+/// The pattern's octet at an index.
+fn pattern(seed: u64, index: usize) -> u8 {
+    (seed as usize).wrapping_add(index.wrapping_mul(0x9D)) as u8
+}
+
+/// The pattern's 64-bit number at an index.
+fn pattern_number(seed: u64, index: u64) -> u64 {
+    (seed ^ 0xA5C3_96E1_5A3C_691E).wrapping_add(index.wrapping_mul(0x0123_4567_89AB_CDEF))
+}
+
+/// A lent output and a lent count.
+pub struct LentOutput {
+    seed: u64,
+    memory: Vec<u8>,
+    /// The lent count.
+    pub count: u64,
+}
+
+impl LentOutput {
+    /// An output with room for so many octets.
+    pub fn new(seed: u64, room: usize) -> Self {
+        LentOutput {
+            seed,
+            memory: (0..room + 2 * MARGIN).map(|i| pattern(seed, i)).collect(),
+            count: pattern_number(seed, 0),
+        }
+    }
+
+    /// The lent octets and the lent count.
+    pub fn lend(&mut self) -> (&mut [u8], &mut u64) {
+        let end = self.memory.len() - MARGIN;
+        (&mut self.memory[MARGIN..end], &mut self.count)
+    }
+
+    /// The first octets of the lent ones, at most so many.
+    pub fn first(&self, count: u64) -> &[u8] {
+        let lent = &self.memory[MARGIN..self.memory.len() - MARGIN];
+        &lent[..lent.len().min(count as usize)]
+    }
+
+    /// What is not as it was.
+    pub fn touched(&self) -> Option<String> {
+        self.differs(&[], pattern_number(self.seed, 0))
+    }
+
+    /// What is not as if the octets were written and counted.
+    pub fn unlike(&self, written: &[u8]) -> Option<String> {
+        self.differs(written, written.len() as u64)
+    }
+
+    /// What differs from these octets followed by the pattern, or this count.
+    fn differs(&self, written: &[u8], count: u64) -> Option<String> {
+        if self.count != count {
+            return Some(format!("count is {}, not {count}", self.count));
+        }
+        let mut expected: Vec<u8> = (0..self.memory.len())
+            .map(|index| pattern(self.seed, index))
+            .collect();
+        expected[MARGIN..MARGIN + written.len()].copy_from_slice(written);
+        let index = (0..expected.len()).find(|&index| self.memory[index] != expected[index])?;
+        Some(format!(
+            "octet {} of the output is {:02X}, not {:02X}",
+            index as i64 - MARGIN as i64,
+            self.memory[index],
+            expected[index]
+        ))
+    }
+}
+
+/// A lent header, with a number on either side that nobody may touch.
+pub struct LentHeader {
+    seed: u64,
+    memory: [u64; 9],
+}
+
+impl LentHeader {
+    /// A header filled with the pattern.
+    pub fn new(seed: u64) -> Self {
+        LentHeader {
+            seed,
+            memory: Self::pattern(seed),
+        }
+    }
+
+    /// The lent numbers.
+    pub fn lend(&mut self) -> &mut HeaderNumbers {
+        let [_, header @ .., _] = &mut self.memory;
+        header
+    }
+
+    /// What is not as it was.
+    pub fn touched(&self) -> Option<String> {
+        self.differs(Self::pattern(self.seed))
+    }
+
+    /// What is not as if these numbers were written.
+    pub fn unlike(&self, written: &HeaderNumbers) -> Option<String> {
+        let mut expected = Self::pattern(self.seed);
+        expected[1..8].copy_from_slice(written);
+        self.differs(expected)
+    }
+
+    /// What differs from these contents.
+    fn differs(&self, expected: [u64; 9]) -> Option<String> {
+        let index = (0..expected.len()).find(|&index| self.memory[index] != expected[index])?;
+        Some(format!(
+            "number {} of the header is {:X}, not {:X}",
+            index as i64 - 1,
+            self.memory[index],
+            expected[index]
+        ))
+    }
+
+    /// The contents before the call.
+    fn pattern(seed: u64) -> [u64; 9] {
+        std::array::from_fn(|index| pattern_number(seed, index as u64))
+    }
+}

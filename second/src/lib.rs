@@ -1,0 +1,14 @@
+//! A second reading of recorded GIOP traffic, written from the paper alone.
+//!
+//! The modules follow the paper's sections. Each answer is either accepted or
+//! the number of a refusal, of those in [`refusal`].
+
+pub mod frame;
+pub mod hexline;
+pub mod joining;
+pub mod primitive;
+pub mod recording;
+pub mod refusal;
+
+pub use frame::{frame, Header};
+pub use hexline::{decode, encode};
