@@ -75,7 +75,7 @@ pub fn frame(octets: &[u8]) -> Result<Header, u32> {
     demand(u64::from(size) >= body.len() as u64, SIZE_BELOW)?;
     demand(size_fits(minor, kind, size), SIZE_UNFIT)?;
     demand(fragmentation_fits(minor, kind, more), FRAGMENT_UNFIT)?;
-    demand(!more || octets.len() % 8 == 0, FRAGMENT_UNALIGNED)?;
+    demand(!more || octets.len().is_multiple_of(8), FRAGMENT_UNALIGNED)?;
 
     Ok(Header {
         minor,

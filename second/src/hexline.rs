@@ -14,7 +14,7 @@ const UPPER_CASE: &[u8; 16] = b"0123456789ABCDEF";
 /// Turns a line's characters, without its LF, into octets; refusals 10 and 11.
 pub fn decode(line: &[u8]) -> Result<Vec<u8>, u32> {
     demand(line.len() <= LONGEST_LINE, LINE_TOO_LONG)?;
-    demand(line.len() % 2 == 0, NOT_HEXADECIMAL)?;
+    demand(line.len().is_multiple_of(2), NOT_HEXADECIMAL)?;
     line.chunks_exact(2)
         .map(|pair| octet(pair[0], pair[1]).ok_or(NOT_HEXADECIMAL))
         .collect()

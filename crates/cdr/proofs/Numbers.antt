@@ -15,35 +15,30 @@ use Rattle.cdr.specs.declared.Order.the-variants.{Big, Little}
 use Rattle.cdr.specs.Number.{littleNumber, littleOctets, numberOf, octetsOf, numberAt, firstHalf, secondHalf, Loaded, signExtended}
 
 -- every element is an octet
-pub Octets : List ℕ → Type 0
+abbrev pub Octets : List ℕ → Type 0
 Octets v = (k : ℕ) → getD v k 0 < 256
 
 -- so is every element of a part
 part-octet-by : (v : List ℕ) (at n k : ℕ) (b : Bool) → ltb k n ≡ b → Octets v → getD (take n (drop at v)) k 0 < 256
-unfolding Octets
 part-octet-by v at n k true e h = let l : k < n = ltb-true k n e in rw (getD-take, getD-drop) (h (at + k))
 part-octet-by v at n k false e h =
     let l : length (take n (drop at v)) ≤ k = let g = ltb-false k n e in simp length-take (omega (arith, min-le-left n (length (drop at v)))) in
     rw (List·getD-eq-default (take n (drop at v)) 0 l) (lit< tt)
 
 pub part-octets : (v : List ℕ) (at n : ℕ) → Octets v → Octets (take n (drop at v))
-unfolding Octets
 part-octets v at n h k = part-octet-by v at n k _ refl h
 
 octets-append-by : (a b : List ℕ) (k : ℕ) (t : Bool) → ltb k (length a) ≡ t → Octets a → Octets b → getD (a ++ b) k 0 < 256
-unfolding Octets
 octets-append-by a b k true e g h = rw (List·getD-append a b 0 k (ltb-true k (length a) e)) (g k)
 octets-append-by a b k false e g h =
     let d : k ≡ length a + (k - length a) = let l = ltb-false k (length a) e in omega arith in
     subst (λ (j : ℕ). getD (a ++ b) j 0 < 256) (sym d) (rw (getD-append-add a b (k - length a) 0) (h (k - length a)))
 
 octets-one : (x : ℕ) → x < 256 → Octets (x ∷ [])
-unfolding Octets
 octets-one x h zero = h
 octets-one x h (suc k) = lit< tt
 
 octets-reverse : (l : List ℕ) → Octets l → Octets (reverse l)
-unfolding Octets
 octets-reverse [] h = h
 octets-reverse (x ∷ l) h =
     rw (reverse-cons x l) (λ k. octets-append-by (reverse l) (x ∷ []) k _ refl (octets-reverse l (λ j. h (suc j))) (octets-one x (h 0)))
@@ -115,7 +110,7 @@ octets-length Big n x = length-reverse (littleOctets n x) ∙ little-octets-leng
 
 -- a number of n octets is below 256 ^ n
 little-small : (l : List ℕ) → Octets l → littleNumber l < 256 ^ length l
-unfolding littleNumber Octets
+unfolding littleNumber
 little-small [] h = lit< tt
 little-small (x ∷ l) h =
     let a = little-small l (λ k. h (suc k)) in
@@ -129,7 +124,7 @@ of-small Big l h = subst (λ (k : ℕ). littleNumber (reverse l) < 256 ^ k) (len
 
 -- so is the number at a place
 pub number-small : (v : List ℕ) (at n : ℕ) (order : Order) → Octets v → at + n ≤ length v → numberAt v at n order < 256 ^ n
-unfolding numberAt Octets
+unfolding numberAt
 number-small v at n order h f =
     subst (λ (k : ℕ). numberOf order (take n (drop at v)) < 256 ^ k) (length-take-le n (drop at v) (simp length-drop (omega arith)))
     (of-small order (take n (drop at v)) (part-octets v at n h))
@@ -155,7 +150,7 @@ rest : (y d : ℕ) → d < 256 → (y * 256 + d) % 256 ≡ d
 rest y d h = omega arith
 
 little-octets-back : (l : List ℕ) → Octets l → littleOctets (length l) (littleNumber l) ≡ l
-unfolding littleNumber littleOctets Octets
+unfolding littleNumber littleOctets
 little-octets-back [] h = refl
 little-octets-back (x ∷ l) h =
     rw (whole (littleNumber l) x (h 0), rest (littleNumber l) x (h 0), little-octets-back l (λ k. h (suc k)))

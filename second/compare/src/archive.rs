@@ -5,6 +5,7 @@
 pub type HeaderNumbers = [u64; 7];
 
 extern "C" {
+    /// A line's characters to octets: 0, or a refusal, 10, 11 or 27.
     fn haulspar_decode(
         line: *const u8,
         line_len: usize,
@@ -13,6 +14,7 @@ extern "C" {
         count: *mut u64,
     ) -> u32;
 
+    /// Octets to upper-case digits: 0, or refusal 27.
     fn haulspar_encode(
         octets: *const u8,
         len: usize,
@@ -21,6 +23,7 @@ extern "C" {
         count: *mut u64,
     ) -> u32;
 
+    /// The header of a message: 0, or a refusal, 10 or 12 to 21.
     fn haulspar_frame(octets: *const u8, len: usize, header: *mut u64) -> u32;
 }
 

@@ -11,6 +11,7 @@ use crate::tally::{Held, Tally};
 
 /// Asks both programs, and keeps the tally.
 pub struct Judge {
+    /// Patterns for the lent memory.
     seeds: Chance,
     /// What was found so far.
     pub tally: Tally,

@@ -17,7 +17,9 @@ fn pattern_number(seed: u64, index: u64) -> u64 {
 
 /// A lent output and a lent count.
 pub struct LentOutput {
+    /// Which pattern.
     seed: u64,
+    /// The lent octets between their margins.
     memory: Vec<u8>,
     /// The lent count.
     pub count: u64,
@@ -76,7 +78,9 @@ impl LentOutput {
 
 /// A lent header, with a number on either side that nobody may touch.
 pub struct LentHeader {
+    /// Which pattern.
     seed: u64,
+    /// The lent numbers between two others.
     memory: [u64; 9],
 }
 

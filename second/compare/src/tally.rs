@@ -25,9 +25,13 @@ pub struct Held {
 /// What the inputs have brought so far.
 #[derive(Default)]
 pub struct Tally {
+    /// Inputs without a difference.
     passed: u64,
+    /// Inputs with one.
     different: u64,
+    /// How often both programs gave a number.
     given: BTreeMap<u32, u64>,
+    /// The first differences.
     shown: Vec<String>,
 }
 

@@ -1,0 +1,96 @@
+-- One law for each way out of the table, and that a size which its type allows has room for the request id.
+use mathlib.Core.Path.{_≡_, refl}
+use mathlib.Core.List.{List}
+use mathlib.Core.Bool.{Bool, true, false, cond, _&&_, _||_}
+use Prim.Native.Nat.{ℕ, _-_, _<_, _≤_}
+use native.Mathlib.Omega.{arith}
+use lib.Dec.{leb, eqb}
+use lib.ListN.{length}
+use borrow.Author.Tests.{lt-ltb, le-ltb, eq-eqb, ne-eqb, leb-true, eqb-true}
+use Rattle.frame.specs.declared.Frame.the-variants.{Accepted, TooLong, Short, NotGiop, NoSuchVersion, FlagsSet, NoSuchType, SizeAbove, SizeBelow, SizeOfType, Fragmented, NotInEights}
+use Rattle.frame.specs.Version.{versionExists, flagsAllowed, typeExists, isRequestOrReply, bodyStartsWithId, hasRequestId}
+use Rattle.frame.specs.Header.{headerSize, giop, magicAt, majorAt, flagsAt, minorAt, kindAt, moreAt, sizeAt, headerOf, IdThere}
+use Rattle.frame.specs.Frames.{messageLimit, sizeAllowed, fragmentAllowed, eightsAllowed, sizedOf, frameOf}
+
+false-true : false ≡ true → ⊥
+false-true e = let z : _≡_ {A = ℕ} 0 1 = cc in omega arith
+
+-- by whether the type is a request or reply, whether bodies start with an id, a fragment, a cancel
+id-by : (r b f c : Bool) (size : ℕ) → (c ≡ true → r ≡ false)
+    → cond r (leb (cond b 4 1) size) (cond f (leb 4 size) (cond c (eqb size 4) (eqb size 0))) ≡ true
+    → (c || (b && (r || f))) ≡ true
+    → 4 ≤ size
+id-by r b true true size x h k = leb-true 4 size (rw (x refl) at h)
+id-by r b false true size x h k = let e = eqb-true size 4 (rw (x refl) at h) in omega arith
+id-by r false f false size x h k = absurd (false-true k)
+id-by true true f false size x h k = leb-true 4 size h
+id-by false true true false size x h k = leb-true 4 size h
+id-by false true false false size x h k = absurd (false-true k)
+
+cancel-apart : (kind : ℕ) → eqb kind 2 ≡ true → isRequestOrReply kind ≡ false
+unfolding isRequestOrReply
+cancel-apart kind e = rw (eqb-true kind 2 e)
+
+pub id-fits : (minor kind size : ℕ) → sizeAllowed minor kind size ≡ true → hasRequestId minor kind ≡ true → 4 ≤ size
+unfolding sizeAllowed hasRequestId
+id-fits minor kind size h k =
+    id-by (isRequestOrReply kind) (bodyStartsWithId minor) (eqb kind 7) (eqb kind 2) size (cancel-apart kind) h k
+
+module _ (v : List ℕ) where
+  pub sized-above : length v - headerSize < sizeAt v → sizedOf v ≡ SizeAbove
+  unfolding sizedOf
+  sized-above h = rw (lt-ltb (length v - headerSize) (sizeAt v) h)
+
+  pub sized-below : sizeAt v < length v - headerSize → sizedOf v ≡ SizeBelow
+  unfolding sizedOf
+  sized-below h = rw (le-ltb (length v - headerSize) (sizeAt v) (omega arith), lt-ltb (sizeAt v) (length v - headerSize) h)
+
+  module _ (e : sizeAt v ≡ length v - headerSize) where
+    pub sized-of-type : sizeAllowed (minorAt v) (kindAt v) (sizeAt v) ≡ false → sizedOf v ≡ SizeOfType
+    unfolding sizedOf
+    sized-of-type a =
+        rw (le-ltb (length v - headerSize) (sizeAt v) (omega arith), le-ltb (sizeAt v) (length v - headerSize) (omega arith), a)
+
+    module _ (a : sizeAllowed (minorAt v) (kindAt v) (sizeAt v) ≡ true) where
+      pub id-there : headerSize ≤ length v → IdThere v
+      id-there h =
+          record { header = h; id = λ k. let f = id-fits (minorAt v) (kindAt v) (sizeAt v) a k in omega arith }
+
+      pub sized-fragmented : fragmentAllowed (minorAt v) (kindAt v) (moreAt v) ≡ false → sizedOf v ≡ Fragmented
+      unfolding sizedOf
+      sized-fragmented f =
+          rw (le-ltb (length v - headerSize) (sizeAt v) (omega arith), le-ltb (sizeAt v) (length v - headerSize) (omega arith), a, f)
+
+      module _ (f : fragmentAllowed (minorAt v) (kindAt v) (moreAt v) ≡ true) where
+        pub sized-last : (t : Bool) → eightsAllowed (moreAt v) (sizeAt v) ≡ t → sizedOf v ≡ cond t (Accepted (headerOf v)) NotInEights
+        unfolding sizedOf
+        sized-last true g =
+            rw (le-ltb (length v - headerSize) (sizeAt v) (omega arith), le-ltb (sizeAt v) (length v - headerSize) (omega arith), a, f, g)
+        sized-last false g =
+            rw (le-ltb (length v - headerSize) (sizeAt v) (omega arith), le-ltb (sizeAt v) (length v - headerSize) (omega arith), a, f, g)
+
+-- 10 and 12 to 16: each row's test, where no earlier one holds
+module _ (v : List ℕ) where
+  pub frame-too-long : messageLimit < length v → frameOf v ≡ TooLong
+  unfolding frameOf
+  frame-too-long h = rw (lt-ltb messageLimit (length v) h)
+
+  pub frame-short : length v < headerSize → frameOf v ≡ Short
+  unfolding frameOf
+  frame-short h = rw (le-ltb messageLimit (length v) (omega arith), lt-ltb (length v) headerSize h)
+
+  module _ (l : length v ≤ messageLimit) (s : headerSize ≤ length v) where
+    pub frame-not-giop : (magicAt v ≡ giop → ⊥) → frameOf v ≡ NotGiop
+    unfolding frameOf
+    frame-not-giop h = rw (le-ltb messageLimit (length v) l, le-ltb (length v) headerSize s, ne-eqb (magicAt v) giop h)
+
+    module _ (m : magicAt v ≡ giop) where
+      -- the four rows that are left, by their tests
+      pub frame-by : (a b c : Bool) → versionExists (majorAt v) (minorAt v) ≡ a → flagsAllowed (minorAt v) (flagsAt v) ≡ b
+          → typeExists (minorAt v) (kindAt v) ≡ c
+          → frameOf v ≡ cond a (cond b (cond c (sizedOf v) NoSuchType) FlagsSet) NoSuchVersion
+      unfolding frameOf
+      frame-by false b c e f g = rw (le-ltb messageLimit (length v) l, le-ltb (length v) headerSize s, eq-eqb (magicAt v) giop m, e)
+      frame-by true false c e f g = rw (le-ltb messageLimit (length v) l, le-ltb (length v) headerSize s, eq-eqb (magicAt v) giop m, e, f)
+      frame-by true true false e f g = rw (le-ltb messageLimit (length v) l, le-ltb (length v) headerSize s, eq-eqb (magicAt v) giop m, e, f, g)
+      frame-by true true true e f g = rw (le-ltb messageLimit (length v) l, le-ltb (length v) headerSize s, eq-eqb (magicAt v) giop m, e, f, g)

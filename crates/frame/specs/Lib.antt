@@ -1,0 +1,4 @@
+-- The frame header.
+pub mod Version
+pub mod Header
+pub mod Frames

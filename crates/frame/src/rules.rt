@@ -1,0 +1,97 @@
+// The rules of the versions and the table, as tests on numbers.
+ghost use mathlib.Core.Path.{_≡_};
+ghost use Rattle.frame.specs.Version.{versionExists, flagsAllowed, typeExists, bodyStartsWithId, isRequestOrReply, isBare, hasRequestId};
+ghost use Rattle.frame.specs.Frames.{sizeAllowed, fragmentAllowed, eightsAllowed};
+
+// Whether the version is one of GIOP's that are read here.
+pub(crate) fn version_exists(major: u8, minor: u8) -> bool
+    ensures { λ r. ⌜ r ≡ versionExists major minor ⌝ }
+{
+    major == 1 && minor <= 2
+}
+
+// Whether the version allows these flags.
+pub(crate) fn flags_allowed(minor: u8, flags: u8) -> bool
+    ensures { λ r. ⌜ r ≡ flagsAllowed minor flags ⌝ }
+{
+    if minor == 0 { flags <= 1 } else { flags <= 3 }
+}
+
+// Whether the version has this message type.
+pub(crate) fn type_exists(minor: u8, kind: u8) -> bool
+    ensures { λ r. ⌜ r ≡ typeExists minor kind ⌝ }
+{
+    if minor == 0 { kind <= 6 } else { kind <= 7 }
+}
+
+// Whether the first four body octets are the request id from this version on.
+fn body_starts_with_id(minor: u8) -> bool
+    ensures { λ r. ⌜ r ≡ bodyStartsWithId minor ⌝ }
+{
+    2 <= minor
+}
+
+// Whether the type is Request, Reply, LocateRequest or LocateReply.
+fn is_request_or_reply(kind: u8) -> bool
+    ensures { λ r. ⌜ r ≡ isRequestOrReply kind ⌝ }
+{
+    kind <= 1 || 3 <= kind && kind <= 4
+}
+
+// Whether the message has its request id in its first four body octets.
+pub(crate) fn has_request_id(minor: u8, kind: u8) -> bool
+    ensures { λ r. ⌜ r ≡ hasRequestId minor kind ⌝ }
+{
+    kind == 2 || body_starts_with_id(minor) && (is_request_or_reply(kind) || kind == 7)
+}
+
+// Whether a message of this type may have this size.
+pub(crate) fn size_allowed(minor: u8, kind: u8, size: u32) -> bool
+    ensures { λ r. ⌜ r ≡ sizeAllowed minor kind size ⌝ }
+{
+    if is_request_or_reply(kind) {
+        return if body_starts_with_id(minor) {
+            4 <= size
+        } else {
+            1 <= size
+        };
+    }
+    if kind == 7 {
+        return 4 <= size;
+    }
+    if kind == 2 {
+        return size == 4;
+    }
+    size == 0
+}
+
+// Whether the type is CloseConnection or MessageError.
+fn is_bare(kind: u8) -> bool
+    ensures { λ r. ⌜ r ≡ isBare kind ⌝ }
+{
+    5 <= kind && kind <= 6
+}
+
+// Whether a message of this type may be a fragment, or have fragments after it.
+pub(crate) fn fragment_allowed(minor: u8, kind: u8, more: bool) -> bool
+    ensures { λ r. ⌜ r ≡ fragmentAllowed minor kind more ⌝ }
+{
+    if minor == 1 {
+        return if kind == 7 { false } else { !more };
+    }
+    if more {
+        return if kind == 2 { false } else { !is_bare(kind) };
+    }
+    true
+}
+
+// Whether a message with fragments after it ends at a multiple of 8.
+pub(crate) fn eights_allowed(more: bool, size: u32) -> bool
+    ensures { λ r. ⌜ r ≡ eightsAllowed more size ⌝ }
+{
+    if more {
+        (size as u64 + 12) % 8 == 0
+    } else {
+        true
+    }
+}

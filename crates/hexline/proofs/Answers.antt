@@ -1,0 +1,113 @@
+-- The answers of decoding and encoding, what an accepted line is, and that a line over the limit may be cut.
+use mathlib.Core.Path.{_≡_, refl, sym, ap, _∙_}
+use mathlib.Core.Bool.{Bool, true, false}
+use mathlib.Core.List.{List}
+use Prim.Native.Nat.{ℕ, _*_, _/_, _%_, _<_, _≤_}
+use native.Mathlib.Omega.{arith}
+use lib.Dec.{ltb, eqb}
+use lib.ListN.{length, take}
+use lib.Seq.{take-all, length-take-le}
+use borrow.Author.Tests.{ltb-true, ltb-false, eqb-false, lt-ltb, le-ltb, eq-eqb, ne-eqb}
+use Rattle.hexline.specs.declared.Decoded.the-variants.{Octets, TooLong, NotDigits, NoRoom}
+use Rattle.hexline.specs.declared.Encoded.the-variants.{Digits, NoRoom as NoRoomForDigits}
+use Rattle.hexline.specs.Decoding.{lineLimit, allDigits, decodedOf, decodedInto}
+use Rattle.hexline.specs.Encoding.{encodedOf}
+use Rattle.hexline.proofs.Laws.{clash}
+
+-- the answers of decoding, in the order of the tests
+module _ (line : List ℕ) (room : ℕ) where
+  pub too-long : lineLimit < length line → decodedOf line room ≡ TooLong
+  unfolding decodedOf
+  too-long h = simp (lt-ltb lineLimit (length line) h)
+
+  pub odd-count : length line ≤ lineLimit → length line % 2 ≡ 1 → decodedOf line room ≡ NotDigits
+  unfolding decodedOf
+  odd-count h o = simp (le-ltb lineLimit (length line) h, eq-eqb (length line % 2) 1 o)
+
+  module _ (h : length line ≤ lineLimit) (o : length line % 2 ≡ 1 → ⊥) where
+    pub no-digit : allDigits line ≡ false → decodedOf line room ≡ NotDigits
+    unfolding decodedOf
+    no-digit a = simp (le-ltb lineLimit (length line) h, ne-eqb (length line % 2) 1 o, a)
+
+    pub no-room : allDigits line ≡ true → room < length line / 2 → decodedOf line room ≡ NoRoom
+    unfolding decodedOf
+    no-room a l = simp (le-ltb lineLimit (length line) h, ne-eqb (length line % 2) 1 o, a, lt-ltb room (length line / 2) l)
+
+    pub taken : allDigits line ≡ true → length line / 2 ≤ room → decodedOf line room ≡ Octets (length line / 2)
+    unfolding decodedOf
+    taken a l = simp (le-ltb lineLimit (length line) h, ne-eqb (length line % 2) 1 o, a, le-ltb room (length line / 2) l)
+
+-- what an accepted line is
+pub record Accepted (line : List ℕ) (room n : ℕ) : Type 0 where
+  pub short : length line ≤ lineLimit
+  pub even : length line % 2 ≡ 0
+  pub digits : allDigits line ≡ true
+  pub count : n ≡ length line / 2
+  pub fits : n ≤ room
+
+module _ (line : List ℕ) (room n : ℕ) where
+  accepted-by : (a b d f : Bool) → ltb lineLimit (length line) ≡ a → eqb (length line % 2) 1 ≡ b → allDigits line ≡ d
+      → ltb room (length line / 2) ≡ f → decodedOf line room ≡ Octets n → Accepted line room n
+  unfolding decodedOf
+  accepted-by true b d f p q r s e = let h = simp p at e in clash (cc)
+  accepted-by false true d f p q r s e = let h = simp (p, q) at e in clash (cc)
+  accepted-by false false false f p q r s e = let h = simp (p, q, r) at e in clash (cc)
+  accepted-by false false true true p q r s e = let h = simp (p, q, r, s) at e in clash (cc)
+  accepted-by false false true false p q r s e =
+      let h = simp (p, q, r, s) at e in
+      let c : n ≡ length line / 2 = cc in
+      let o = eqb-false (length line % 2) 1 q in
+      record {
+        short = ltb-false lineLimit (length line) p;
+        even = omega arith;
+        digits = r;
+        count = c;
+        fits = omega (arith, ltb-false room (length line / 2) s);
+      }
+
+  pub accepted : decodedOf line room ≡ Octets n → Accepted line room n
+  accepted e = accepted-by _ _ _ _ refl refl refl refl e
+
+-- the answers of encoding
+module _ (octets : List ℕ) (room : ℕ) where
+  pub no-room-for-digits : room < length octets * 2 → encodedOf octets room ≡ NoRoomForDigits
+  unfolding encodedOf
+  no-room-for-digits h = simp (lt-ltb room (length octets * 2) h)
+
+  pub digits-fit : length octets * 2 ≤ room → encodedOf octets room ≡ Digits (length octets * 2)
+  unfolding encodedOf
+  digits-fit h = simp (le-ltb room (length octets * 2) h)
+
+  encoded-by : (n : ℕ) (a : Bool) → ltb room (length octets * 2) ≡ a → encodedOf octets room ≡ Digits n → (n ≡ length octets * 2) × (n ≤ room)
+  unfolding encodedOf
+  encoded-by n true p e = let h = simp p at e in clash (cc)
+  encoded-by n false p e =
+      let h = simp p at e in
+      let c : n ≡ length octets * 2 = cc in
+      (c, omega (arith, ltb-false room (length octets * 2) p))
+
+  -- what was encoded has two digits an octet, and they fit
+  pub encoded : (n : ℕ) → encodedOf octets room ≡ Digits n → (n ≡ length octets * 2) × (n ≤ room)
+  encoded n e = encoded-by n _ refl e
+
+-- a line is judged by its first 8,193 characters, and by any more
+module _ (line : List ℕ) (room n : ℕ) (h : lineLimit < n) where
+  cut-by : (a : Bool) → ltb n (length line) ≡ a → decodedOf (take n line) room ≡ decodedOf line room
+  cut-by true e =
+      let l = ltb-true n (length line) e in
+      let k = length-take-le n line (omega arith) in
+      too-long (take n line) room (omega arith) ∙ sym (too-long line room (omega arith))
+  cut-by false e = ap (λ (l : List ℕ). decodedOf l room) (take-all n line (ltb-false n (length line) e))
+
+  pub cut-decoded : decodedOf (take n line) room ≡ decodedOf line room
+  cut-decoded = cut-by _ refl
+
+  into-by : (out : List ℕ) (a : Bool) → ltb n (length line) ≡ a
+      → decodedInto (decodedOf line room) (take n line) out ≡ decodedInto (decodedOf line room) line out
+  into-by out true e =
+      let l = ltb-true n (length line) e in
+      simp (too-long line room (omega arith))
+  into-by out false e = ap (λ (l : List ℕ). decodedInto (decodedOf line room) l out) (take-all n line (ltb-false n (length line) e))
+
+  pub cut-into : (out : List ℕ) → decodedInto (decodedOf line room) (take n line) out ≡ decodedInto (decodedOf line room) line out
+  cut-into out = into-by out _ refl

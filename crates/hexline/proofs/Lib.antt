@@ -1,0 +1,5 @@
+-- What is shown of digits, of lines and their octets, of the answers, and of the loops.
+pub mod Digit
+pub mod Laws
+pub mod Answers
+pub mod Steps

@@ -1,0 +1,44 @@
+-- What `all_digits` has judged so far, with what is left of the line, gives the answer for the whole line.
+use mathlib.Core.Path.{_≡_, refl, _∙_}
+use mathlib.Core.Bool.{_&&_}
+use Prim.Native.Nat.{_≤_, _-_}
+use native.Mathlib.Omega.{arith}
+use lib.ListN.{length, drop}
+use Rattle.hexline.specs.Decoding.{allDigits}
+use Rattle.hexline.proofs.Steps.{judge-turn, judge-done}
+use Rattle.hexline.proofs.all_digits.Statement.{statement}
+use Rattle.hexline.proofs.all_digits.Tie as tie
+
+abbrev Inv-loop : tie.InvT-loop
+Inv-loop line all₀ i₀ all i = (i ≤ length line) × ((all && allDigits (drop i line)) ≡ allDigits line)
+
+abbrev μ-loop : tie.MeasureT-loop
+μ-loop line all₀ i₀ all i = length line - i
+
+loop-holds : tie.Need-loop-holds Inv-loop μ-loop
+loop-holds c = (omega arith, refl)
+
+shared-slice-read-value : tie.Need-shared-slice-read-value Inv-loop μ-loop
+shared-slice-read-value c = omega arith
+
+value-requires : tie.Need-value-requires Inv-loop μ-loop
+value-requires c κs = tt
+
+add-i : tie.Need-add-i Inv-loop μ-loop
+add-i c = omega arith
+
+loop-less : tie.Need-loop-less Inv-loop μ-loop
+loop-less c = omega arith
+
+loop-again : tie.Need-loop-again Inv-loop μ-loop
+loop-again c =
+    let l = c .before .before .before .loop in
+    (omega arith, judge-turn _ (l .all) (l .i) _ (c .before .before .loop-test .taken) (c .value .ensures) ∙ l .inv .1)
+
+returns : tie.Need-returns Inv-loop μ-loop
+returns c = let l = c .before .loop in judge-done _ (l .all) (l .i) (c .loop-test .left) ∙ l .inv .1
+
+pub all-digits-spec : {M : Type 1} → statement M
+all-digits-spec =
+    tie.close
+    (tie.spec Inv-loop μ-loop loop-holds shared-slice-read-value value-requires add-i loop-less loop-again returns)

@@ -1,0 +1,108 @@
+-- What the steps of `find_lf` and `take_line` amount to.
+use mathlib.Core.Path.{_≡_, sym, ap, _∙_}
+use mathlib.Core.List.{List}
+use Prim.Native.Nat.{ℕ, suc, _+_, _-_, _<_, _≤_, min}
+use native.Mathlib.Nat.{min-le-right, sub-eq-zero-of-le}
+use native.Mathlib.Numerals.{add-one}
+use native.Mathlib.Omega.{arith, min-cases}
+use lib.Dec.{ltb}
+use lib.ListN.{getD, length, take, drop, length-drop, drop-of-length-le}
+use lib.Seq.{sets, drop-cons, take-all, take-take}
+use borrow.Author.Tests.{eq-eqb, ne-eqb, lt-ltb, le-ltb, ltb-true, ltb-false}
+use Rattle.lines.specs.Lines.{lf, upToLF, hasLF, takenOf, keptInto, LineTaken}
+use Rattle.lines.specs.declared.Taken.{Taken}
+use Rattle.lines.proofs.Laws.{by-test, up-lf, up-other, up-prefix, up-length, has-by-length, drop-within}
+
+module _ (block : List ℕ) (i : ℕ) where
+  -- the search has met an LF
+  pub found : i < length block → getD block i 0 ≡ lf → i + length (upToLF (drop i block)) ≡ i
+  found h e = rw (drop-cons block i 0 h, up-lf (getD block i 0) (drop (suc i) block) (eq-eqb _ _ e)) (omega arith)
+
+  -- it goes on past another character
+  pub onward : i < length block → (getD block i 0 ≡ lf → ⊥) → i + 1 + length (upToLF (drop (i + 1) block)) ≡ i + length (upToLF (drop i block))
+  onward h n =
+      rw (drop-cons block i 0 h, up-other (getD block i 0) (drop (suc i) block) (ne-eqb _ _ n), add-one i) (omega arith)
+
+  -- it has come to the end
+  pub at-end : length block ≤ i → i + length (upToLF (drop i block)) ≡ i
+  unfolding upToLF
+  at-end h = rw (drop-of-length-le block h) (omega arith)
+
+-- as many of the line's characters as there is room for, counted in the block
+pub up-take : (room : ℕ) (s : List ℕ) → take room (upToLF s) ≡ take (min (length (upToLF s)) room) s
+up-take room s =
+    min-cases (length (upToLF s)) room _
+    (λ h e. rw e (take-all room (upToLF s) h ∙ up-prefix s))
+    (λ h e. rw e (ap (take room) (up-prefix s) ∙ take-take room (length (upToLF s)) s h))
+
+pub up-within : (i : ℕ) (s : List ℕ) → i ≤ length s → i + length (upToLF (drop i s)) ≤ length s
+up-within i s h = omega (arith, up-length (drop i s), length-drop i s)
+
+-- numbers of the steps: the characters found, the next one, those kept
+steps-found : (start n : ℕ) → start + n - start ≡ n
+steps-found start n = omega arith
+
+steps-next : (from n end : ℕ) → min from end + n ≤ end → min (min from end + n + 1) end ≡ min (from + n + 1) end
+steps-next from n end h = omega arith
+
+steps-kept : (kept n room : ℕ) → min kept room + min n (room - min kept room) ≡ min (kept + n) room
+steps-kept kept n room = omega arith
+
+steps-full : (n kept room : ℕ) → room ≤ kept → min n (room - min kept room) ≡ 0
+steps-full n kept room h = omega arith
+
+steps-ended : (start n end : ℕ) → start ≤ end → ltb (start + n) end ≡ ltb n (end - start)
+steps-ended start n end h =
+    by-test (ltb n (end - start))
+    (λ t. lt-ltb (start + n) end (omega (arith, ltb-true)) ∙ sym t)
+    (λ t. le-ltb (start + n) end (omega (arith, ltb-false)) ∙ sym t)
+
+-- what the steps of taking amount to, each step's number given by its equation
+module _ (block line : List ℕ) (from kept start held stop next count : ℕ)
+    (starts : start ≡ min from (length block))
+    (holds : held ≡ min kept (length line))
+    (stops : stop ≡ start + length (upToLF (drop start block)))
+    (goes-on : next ≡ min (stop + 1) (length block))
+    (counts : count ≡ min (stop - start) (length line - held))
+  where
+    same-rest : drop start block ≡ drop from block
+    same-rest = ap (λ (k : ℕ). drop k block) starts ∙ drop-within from block
+
+    stops-there : stop ≡ start + length (upToLF (drop from block))
+    stops-there = rw (← same-rest) stops
+
+    start-within : start ≤ length block
+    start-within = rw starts (min-le-right from (length block))
+
+    within : start + length (upToLF (drop from block)) ≤ length block
+    within = rw (← same-rest) (up-within start block start-within)
+
+    found-count : stop - start ≡ length (upToLF (drop from block))
+    found-count = rw stops-there (steps-found start (length (upToLF (drop from block))))
+
+    ends : ltb stop (length block) ≡ hasLF (drop from block)
+    ends =
+        rw (stops, ← same-rest, has-by-length (drop start block), length-drop start block)
+        (steps-ended start (length (upToLF (drop start block))) (length block) start-within)
+
+    steps-answer : _≡_ {A = Taken} (record { next = next; kept = held + count; ended = ltb stop (length block) }) (takenOf block from (length line) kept)
+    unfolding takenOf
+    steps-answer =
+        let n : next ≡ min (from + length (upToLF (drop from block)) + 1) (length block) =
+        rw (goes-on, stops-there, starts) (steps-next from (length (upToLF (drop from block))) (length block) (rw starts at within))
+        in
+        let k : held + count ≡ min (kept + length (upToLF (drop from block))) (length line) =
+        rw (counts, found-count, holds) (steps-kept kept (length (upToLF (drop from block))) (length line))
+        in
+        rw (n, k, ends)
+
+    steps-buffer : sets line held (take count (drop start block)) ≡ keptInto block from line kept
+    unfolding keptInto
+    steps-buffer =
+        min-cases kept (length line) _
+        (λ h e.
+        rw (same-rest, counts, found-count, holds, e) (ap (sets line kept) (sym (up-take (length line - kept) (drop from block)))))
+        (λ h e. rw (counts, holds, steps-full (stop - start) kept (length line) h, sub-eq-zero-of-le h))
+
+    pub steps-taken : LineTaken block from line kept (record { next = next; kept = held + count; ended = ltb stop (length block) }) (sets line held (take count (drop start block)))
+    steps-taken = record { answered = steps-answer; filled = steps-buffer }
