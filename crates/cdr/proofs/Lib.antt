@@ -1,5 +1,6 @@
 -- Laws that other crates cite.
 pub mod Alignment
+pub mod Fields
 pub mod Numbers
 pub mod Stores
 pub mod Texts

@@ -12,7 +12,8 @@ use lib.ListN.{getD, length, take, drop, length-take, length-drop, length-revers
 use lib.Seq.{take-add, drop-cons, drop-drop, getD-take, getD-drop, getD-append-add, length-take-le}
 use Rattle.cdr.specs.declared.Order.{Order}
 use Rattle.cdr.specs.declared.Order.the-variants.{Big, Little}
-use Rattle.cdr.specs.Number.{littleNumber, littleOctets, numberOf, octetsOf, numberAt, firstHalf, secondHalf, Loaded, signExtended}
+use Rattle.cdr.specs.Number.{littleNumber, littleOctets, numberOf, octetsOf, numberAt, signExtended}
+use Rattle.cdr.specs.Inner.{firstHalf, secondHalf, Loaded}
 
 -- every element is an octet
 abbrev pub Octets : List ℕ → Type 0

@@ -1,32 +1,39 @@
 -- Texts and counted octets: which answer each test leads to, and the zeros found one octet at a time.
-use mathlib.Core.Path.{_≡_, sym}
+use mathlib.Core.Path.{_≡_, refl, sym}
 use mathlib.Core.List.{List, [], _∷_}
-use mathlib.Core.Bool.{Bool, false, cond}
+use mathlib.Core.Bool.{Bool, true, false, cond}
 use Prim.Native.Nat.{ℕ, suc, _+_, _-_, _<_, _≤_}
 use native.Mathlib.Numerals.{add-one}
 use native.Mathlib.Omega.{arith}
-use lib.Dec.{eqb}
+use lib.Dec.{eqb, ltb}
 use lib.ListN.{getD, length, take, drop, length-drop, drop-of-length-le}
 use lib.Seq.{drop-cons}
-use borrow.Author.Tests.{lt-ltb, le-ltb, eq-eqb, ne-eqb}
-use Rattle.cdr.specs.declared.Text.the-variants.{Is, Empty, Short, Zeros}
+use borrow.Author.Tests.{lt-ltb, le-ltb, ltb-true, ltb-false, eq-eqb, ne-eqb}
+use Rattle.cdr.specs.declared.Text.the-variants.{Chars, Empty, Over, Short, Zeros}
 use Rattle.cdr.specs.declared.Run.the-variants.{To, Past}
-use Rattle.cdr.specs.Text.{isNil, endsText, textOf, runOf}
+use Rattle.cdr.specs.Text.{overBound, isNil, endsText, textOf, runOf}
 
-module _ (v : List ℕ) (at n : ℕ) where
-  pub text-empty : n ≡ 0 → textOf v at n ≡ Empty
+module _ (v : List ℕ) (at n bound : ℕ) where
+  pub text-empty : n ≡ 0 → textOf v at n bound ≡ Empty
   unfolding textOf
   text-empty e = rw (eq-eqb n 0 e)
 
-  pub text-short : (n ≡ 0 → ⊥) → length v - at < n → textOf v at n ≡ Short
-  unfolding textOf
-  text-short e h = rw (ne-eqb n 0 e, lt-ltb (length v - at) n h)
+  module _ (e : n ≡ 0 → ⊥) where
+    pub text-over : overBound (n - 1) bound ≡ true → textOf v at n bound ≡ Over
+    unfolding textOf
+    text-over o = rw (ne-eqb n 0 e, o)
 
-  pub text-zeros : (n ≡ 0 → ⊥) → n ≤ length v - at → (b : Bool) → b ≡ endsText (take n (drop at v))
-      → textOf v at n ≡ cond b (Is (n - 1)) Zeros
-  unfolding textOf
-  text-zeros e h b f = rw (ne-eqb n 0 e, le-ltb (length v - at) n h, f)
+    module _ (o : overBound (n - 1) bound ≡ false) where
+      pub text-short : length v < at + n → textOf v at n bound ≡ Short
+      unfolding textOf
+      text-short h = rw (ne-eqb n 0 e, o, lt-ltb (length v) (at + n) h)
 
+      pub text-zeros : at + n ≤ length v → (b : Bool) → b ≡ endsText (take n (drop at v))
+          → textOf v at n bound ≡ cond b (Chars (n - 1)) Zeros
+      unfolding textOf
+      text-zeros h b f = rw (ne-eqb n 0 e, o, le-ltb (length v) (at + n) h, f)
+
+module _ (v : List ℕ) (at n : ℕ) where
   pub run-past : length v < at + n → runOf v at n ≡ Past
   unfolding runOf
   run-past h = rw (lt-ltb (length v) (at + n) h)
@@ -34,6 +41,21 @@ module _ (v : List ℕ) (at n : ℕ) where
   pub run-to : at + n ≤ length v → runOf v at n ≡ To (at + n)
   unfolding runOf
   run-to h = rw (le-ltb (length v) (at + n) h)
+
+  run-by : (t : Bool) → ltb (length v) (at + n) ≡ t → (e : ℕ) → runOf v at n ≡ To e → (e ≡ at + n) × (at + n ≤ length v)
+  run-by true t e r = let p = run-past (ltb-true _ _ t) in let z : _≡_ {A = ℕ} 0 1 = cc in absurd (omega arith)
+  run-by false t e r = let p = run-to (ltb-false _ _ t) in (cc, ltb-false _ _ t)
+
+  short-by : (t : Bool) → ltb (length v) (at + n) ≡ t → runOf v at n ≡ Past → length v < at + n
+  short-by true t r = ltb-true _ _ t
+  short-by false t r = let p = run-to (ltb-false _ _ t) in let z : _≡_ {A = ℕ} 0 1 = cc in absurd (omega arith)
+
+  -- what each answer of a run tells
+  pub run-facts : (e : ℕ) → runOf v at n ≡ To e → (e ≡ at + n) × (at + n ≤ length v)
+  run-facts e r = run-by _ refl e r
+
+  pub run-short : runOf v at n ≡ Past → length v < at + n
+  run-short r = short-by _ refl r
 
 -- no octets are left exactly where the length is reached
 nil-last : (l : List ℕ) (i n : ℕ) → length l ≡ n - suc i → i < n → isNil l ≡ eqb (i + 1) n

@@ -3,6 +3,7 @@
 --   octets       the octets of a size
 --   gap          the smallest gap before a multiple of n, at an index
 --   aligned      the next multiple of n, the index itself included
+--   behindGap    where a number of n octets starts at or after `at`, in octets whose first has the index `start`
 --   indexOf      an index in an encapsulation
 --   alignedOf    the next aligned index for a size, where a machine word can hold it
 use Prim.Native.Nat.{ℕ, _+_, _-_, _%_, _^_}
@@ -25,6 +26,9 @@ gap i n = (n - i % n) % n
 
 abbrev pub aligned : ℕ → ℕ → ℕ
 aligned i n = i + gap i n
+
+abbrev pub behindGap : Index → ℕ → ℕ → ℕ
+behindGap start at n = at + gap (start .0 + at) n
 
 abbrev pub indexOf : ℕ → Index
 indexOf i = record { 0 = i }

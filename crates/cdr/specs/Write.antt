@@ -1,6 +1,7 @@
 -- Octets stored in a lent buffer, where they fit.
---   writtenOf    whether n octets fit at a place, and the place after them
---   holding      what the buffer then holds: the octets where they were written, and the rest as it was
+--   writtenOf    whether n octets fit from `at` on, and where they end
+--   holding      what the buffer then holds: the octets stored from `at` on, one after the other, and the rest as it was
+--   Stored       both, as the contract of a writer that was lent `out` says them
 use Prim.Native.Nat.{ℕ, _+_}
 use mathlib.Core.List.{List}
 use mathlib.Core.Bool.{cond}
@@ -18,7 +19,6 @@ abbrev pub holding : Written → List ℕ → ℕ → List ℕ → List ℕ
 holding NoRoom out at xs = out
 holding (Upto e) out at xs = sets out at xs
 
--- the answer of a writer that was lent `out`, and what `out` holds at its end
 pub record Stored (out : List ℕ) (at : ℕ) (xs : List ℕ) (r : Written) (last : List ℕ) : Type 0 where
   pub answer : r ≡ writtenOf out at (length xs)
   pub contents : last ≡ holding r out at xs

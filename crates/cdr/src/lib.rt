@@ -1,11 +1,12 @@
 // CDR, the encoding of GIOP: alignment, numbers of 1, 2, 4 and 8 octets in either byte order, texts and counted octets, read and
 // written. Every function answers for any slice, index and length.
 ghost use mathlib.Core.Path.{_≡_};
-ghost use Prim.Native.Nat.{_+_};
-ghost use lib.ListN.{length, take, drop, replicate};
+ghost use lib.ListN.{replicate};
 ghost use Rattle.cdr.specs.Align.{octets, gap, alignedOf};
+ghost use Rattle.cdr.specs.Orders.{orderOctet, orderOf};
+ghost use Rattle.cdr.specs.Encapsulation.{fieldOf, stringOf, countedOf};
 ghost use Rattle.cdr.specs.Number.{octetsOf, readOf, signExtended};
-ghost use Rattle.cdr.specs.Text.{textOf, runOf};
+ghost use Rattle.cdr.specs.Text.{overBound, textOf, runOf};
 ghost use Rattle.cdr.specs.Write.{Stored};
 
 mod load;
@@ -15,6 +16,37 @@ mod store;
 pub enum Order {
     Big,
     Little,
+}
+
+// The order that an octet names, if it names one.
+pub enum Named {
+    Is(Order),
+    NoOrder,
+}
+
+impl Order {
+    // The octet that names the order in an encapsulation.
+    pub fn octet(self) -> u8
+        ensures { λ r. ⌜ r ≡ orderOctet self ⌝ }
+    {
+        match self {
+            Order::Big => 0,
+            Order::Little => 1,
+        }
+    }
+
+    // The order that an octet of an encapsulation names.
+    pub fn named(octet: u8) -> Named
+        ensures { λ r. ⌜ r ≡ orderOf octet ⌝ }
+    {
+        if octet == 0 {
+            return Named::Is(Order::Big);
+        }
+        if octet == 1 {
+            return Named::Is(Order::Little);
+        }
+        Named::NoOrder
+    }
 }
 
 // The size of a primitive.
@@ -74,17 +106,60 @@ impl Index {
     {
         let i = self.0;
         let g = self.gap(size);
-        if g <= 18446744073709551615 - i {
+        if g <= usize::MAX - i {
             Aligned::At(Index(i + g))
         } else {
             Aligned::Beyond
         }
     }
+
+    // The number of the size at this index of an encapsulation's octets.
+    pub fn number(self, s: &[u8], size: Size, order: Order) -> Field
+        ensures { λ r. ⌜ r ≡ fieldOf (now (s .entry)) self size order ⌝ }
+    {
+        match read_number(s, Index::START, self.0, size, order) {
+            Read::Number { at, value } => Field::Value {
+                value,
+                next: Index(at + size.octets()),
+            },
+            Read::Ends => Field::NoField,
+        }
+    }
+
+    // The length and text at this index of an encapsulation's octets.
+    pub fn string(self, s: &[u8], order: Order) -> Str
+        ensures { λ r. ⌜ r ≡ stringOf (now (s .entry)) self order ⌝ }
+    {
+        let Field::Value { value, next } = self.number(s, Size::Four, order) else {
+            return Str::NoText;
+        };
+        match read_text(s, next.0, value as usize, 0) {
+            Text::Chars(length) => Str::Text { from: next, length },
+            Text::Empty => Str::BadText,
+            Text::Over => Str::BadText,
+            Text::Short => Str::NoText,
+            Text::Zeros => Str::BadText,
+        }
+    }
+
+    // The count and octets at this index of an encapsulation's octets.
+    pub fn counted(self, s: &[u8], order: Order) -> Counted
+        ensures { λ r. ⌜ r ≡ countedOf (now (s .entry)) self order ⌝ }
+    {
+        let Field::Value { value, next } = self.number(s, Size::Four, order) else {
+            return Counted::NoOctets;
+        };
+        let count = value as usize;
+        match read_run(s, next.0, count) {
+            Run::To(_) => Counted::Octets { from: next, count },
+            Run::Past => Counted::NoOctets,
+        }
+    }
 }
 
-// A number that was read: where it stands behind its gap, and its value; or that the octets end.
+// A number that was read: where it starts behind its gap, and its value; or that the octets end.
 pub enum Read {
-    Number { place: usize, value: u64 },
+    Number { at: usize, value: u64 },
     Ends,
 }
 
@@ -92,16 +167,20 @@ pub enum Read {
 pub fn read_number(s: &[u8], start: Index, at: usize, size: Size, order: Order) -> Read
     ensures { λ r. ⌜ r ≡ readOf (now (s .entry)) start at size order ⌝ }
 {
-    let n = size.octets();
     if s.len() < at {
         return Read::Ends;
     }
-    let p = at + Index(start.0 % 8 + at).gap(size);
-    if s.len() < p + n {
+    // Alignment counts modulo 8, so that no start can make the index wrap.
+    let first = start.0 % 8;
+    let Aligned::At(index) = Index(first + at).aligned(size) else {
+        return Read::Ends;
+    };
+    let p = index.0 - first;
+    if s.len() < p + size.octets() {
         return Read::Ends;
     }
     Read::Number {
-        place: p,
+        at: p,
         value: load::number(s, p, size, order),
     }
 }
@@ -118,41 +197,49 @@ pub fn sign_extended(size: Size, x: u64) -> u64
     }
 }
 
+// Whether a count is over a bound, of which 0 is none.
+pub fn over_bound(count: usize, bound: usize) -> bool
+    ensures { λ r. ⌜ r ≡ overBound count bound ⌝ }
+{
+    if bound == 0 { false } else { bound < count }
+}
+
 // A text's octets: its length without the final zero, or the first rule that they break.
 pub enum Text {
-    Is(usize),
+    Chars(usize),
     Empty,
+    Over,
     Short,
     Zeros,
 }
 
-// The text of `length` octets at a place, its final zero among them.
-pub fn read_text(s: &[u8], at: usize, length: usize) -> Text
-    ensures { λ r. ⌜ r ≡ textOf (now (s .entry)) at length ⌝ }
+// The text of `length` octets from `at` on, its final zero among them, with a bound of which 0 is none.
+pub fn read_text(s: &[u8], at: usize, length: usize, bound: usize) -> Text
+    ensures { λ r. ⌜ r ≡ textOf (now (s .entry)) at length bound ⌝ }
 {
     if length == 0 {
         return Text::Empty;
     }
-    if s.len() < at {
-        return Text::Short;
+    if over_bound(length - 1, bound) {
+        return Text::Over;
     }
-    if s.len() - at < length {
+    let Run::To(end) = read_run(s, at, length) else {
         return Text::Short;
-    }
-    if load::ends_text(&s[at..at + length]) {
-        Text::Is(length - 1)
+    };
+    if load::ends_text(&s[at..end]) {
+        Text::Chars(length - 1)
     } else {
         Text::Zeros
     }
 }
 
-// Counted octets: the place after them, or that there are fewer.
+// Counted octets: where they end, or that there are fewer.
 pub enum Run {
     To(usize),
     Past,
 }
 
-// The run of `count` octets at a place.
+// The run of `count` octets from `at` on.
 pub fn read_run(s: &[u8], at: usize, count: usize) -> Run
     ensures { λ r. ⌜ r ≡ runOf (now (s .entry)) at count ⌝ }
 {
@@ -165,13 +252,32 @@ pub fn read_run(s: &[u8], at: usize, count: usize) -> Run
     Run::To(at + count)
 }
 
-// What writing gives: the place after what was written, or that it does not fit and nothing was written.
+// A number of an encapsulation, and the index after it; or that the octets end.
+pub enum Field {
+    Value { value: u64, next: Index },
+    NoField,
+}
+
+// A text of an encapsulation: its first character's index, and its length without the final zero.
+pub enum Str {
+    Text { from: Index, length: usize },
+    BadText,
+    NoText,
+}
+
+// Counted octets of an encapsulation: the first one's index, and their count.
+pub enum Counted {
+    Octets { from: Index, count: usize },
+    NoOctets,
+}
+
+// What writing gives: where what was written ends, or that it does not fit and nothing was written.
 pub enum Written {
     Upto(usize),
     NoRoom,
 }
 
-// Writes a number of the size at a place; of a larger number, the octets that fit the size.
+// Writes a number of the size from `at` on; of a larger number, the least significant octets.
 pub fn write_number(out: &mut [u8], at: usize, size: Size, order: Order, x: u64) -> Written
     ensures { λ r. ⌜ Stored (now (out .entry)) at (octetsOf order (octets size) x) r (now (out .exit)) ⌝ }
 {
@@ -186,7 +292,7 @@ pub fn write_number(out: &mut [u8], at: usize, size: Size, order: Order, x: u64)
     Written::Upto(at + n)
 }
 
-// Writes zeros at a place, as a gap holds them.
+// Writes zeros from `at` on, as a gap holds them.
 pub fn write_zeros(out: &mut [u8], at: usize, count: usize) -> Written
     ensures { λ r. ⌜ Stored (now (out .entry)) at (replicate count 0) r (now (out .exit)) ⌝ }
 {
@@ -200,7 +306,7 @@ pub fn write_zeros(out: &mut [u8], at: usize, count: usize) -> Written
     Written::Upto(at + count)
 }
 
-// Writes octets at a place, as they are.
+// Writes octets from `at` on, as they are.
 pub fn write_octets(out: &mut [u8], at: usize, octets: &[u8]) -> Written
     ensures { λ r. ⌜ Stored (now (out .entry)) at (now («octets» .entry)) r (now (out .exit)) ⌝ }
 {

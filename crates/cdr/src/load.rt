@@ -5,7 +5,7 @@ ghost use Prim.Native.Nat.{_+_, _-_, _*_, _^_, _≤_, _<_};
 ghost use lib.Dec.{ltb};
 ghost use lib.ListN.{length};
 ghost use Rattle.cdr.specs.Align.{octets};
-ghost use Rattle.cdr.specs.Number.{Loaded};
+ghost use Rattle.cdr.specs.Inner.{Loaded};
 ghost use Rattle.cdr.specs.Text.{endsText};
 use crate::Order;
 use crate::Size;

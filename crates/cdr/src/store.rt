@@ -4,7 +4,8 @@ ghost use Prim.Native.Nat.{_+_, _≤_, _<_};
 ghost use lib.ListN.{length, replicate};
 ghost use lib.Seq.{sets};
 ghost use Rattle.cdr.specs.Align.{octets};
-ghost use Rattle.cdr.specs.Number.{octetsOf, firstHalf, secondHalf};
+ghost use Rattle.cdr.specs.Number.{octetsOf};
+ghost use Rattle.cdr.specs.Inner.{firstHalf, secondHalf};
 use crate::Order;
 use crate::Size;
 
@@ -16,7 +17,7 @@ fn number1(out: &mut [u8], at: usize, order: Order, x: u64)
     out[at] = (x % 256) as u8;
 }
 
-// What the first half of a number's octets is worth.
+// A number whose last octets are the first half of another's.
 fn first_half(order: Order, x: u64, base: u64) -> u64
     requires { ⌜ 0 < base ⌝ }
     ensures { λ r. ⌜ r ≡ firstHalf order base x ⌝ }
@@ -27,7 +28,7 @@ fn first_half(order: Order, x: u64, base: u64) -> u64
     }
 }
 
-// What the second half is worth.
+// A number whose last octets are the second half of another's.
 fn second_half(order: Order, x: u64, base: u64) -> u64
     requires { ⌜ 0 < base ⌝ }
     ensures { λ r. ⌜ r ≡ secondHalf order base x ⌝ }

@@ -7,10 +7,12 @@ use native.Mathlib.Omega.{arith}
 use lib.Dec.{leb, eqb}
 use lib.ListN.{length}
 use borrow.Author.Tests.{lt-ltb, le-ltb, eq-eqb, ne-eqb, leb-true, eqb-true}
-use Rattle.frame.specs.declared.Frame.the-variants.{Accepted, TooLong, Short, NotGiop, NoSuchVersion, FlagsSet, NoSuchType, SizeAbove, SizeBelow, SizeOfType, Fragmented, NotInEights}
-use Rattle.frame.specs.Version.{versionExists, flagsAllowed, typeExists, isRequestOrReply, bodyStartsWithId, hasRequestId}
-use Rattle.frame.specs.Header.{headerSize, giop, magicAt, majorAt, flagsAt, minorAt, kindAt, moreAt, sizeAt, headerOf, IdThere}
-use Rattle.frame.specs.Frames.{messageLimit, sizeAllowed, fragmentAllowed, eightsAllowed, sizedOf, frameOf}
+use Rattle.frame.specs.declared.Frame.the-variants.{Accepted, Refused}
+use Rattle.frame.specs.declared.Refusal.the-variants.{TooLong, Short, NotGiop, NoSuchVersion, FlagsSet, NoSuchType, SizeAbove, SizeBelow, SizeOfType, Fragmented, NotInEights}
+use Rattle.frame.specs.Messages.{versionExists, flagsAllowed, typeExists, isRequestOrReply, bodyStartsWithId, hasRequestId}
+use Rattle.frame.specs.Header.{headerSize, giop, magicAt, majorAt, flagsAt, minorAt, kindAt, moreAt, sizeAt, headerOf}
+use Rattle.frame.specs.Inner.{IdThere}
+use Rattle.frame.specs.Frames.{messageLimit, sizeAllowed, fragmentAllowed, eightsAllowed, sizedOf, messageOf, frameOf}
 
 false-true : false ≡ true → ⊥
 false-true e = let z : _≡_ {A = ℕ} 0 1 = cc in omega arith
@@ -37,16 +39,16 @@ id-fits minor kind size h k =
     id-by (isRequestOrReply kind) (bodyStartsWithId minor) (eqb kind 7) (eqb kind 2) size (cancel-apart kind) h k
 
 module _ (v : List ℕ) where
-  pub sized-above : length v - headerSize < sizeAt v → sizedOf v ≡ SizeAbove
+  pub sized-above : length v - headerSize < sizeAt v → sizedOf v ≡ Refused SizeAbove
   unfolding sizedOf
   sized-above h = rw (lt-ltb (length v - headerSize) (sizeAt v) h)
 
-  pub sized-below : sizeAt v < length v - headerSize → sizedOf v ≡ SizeBelow
+  pub sized-below : sizeAt v < length v - headerSize → sizedOf v ≡ Refused SizeBelow
   unfolding sizedOf
   sized-below h = rw (le-ltb (length v - headerSize) (sizeAt v) (omega arith), lt-ltb (sizeAt v) (length v - headerSize) h)
 
   module _ (e : sizeAt v ≡ length v - headerSize) where
-    pub sized-of-type : sizeAllowed (minorAt v) (kindAt v) (sizeAt v) ≡ false → sizedOf v ≡ SizeOfType
+    pub sized-of-type : sizeAllowed (minorAt v) (kindAt v) (sizeAt v) ≡ false → sizedOf v ≡ Refused SizeOfType
     unfolding sizedOf
     sized-of-type a =
         rw (le-ltb (length v - headerSize) (sizeAt v) (omega arith), le-ltb (sizeAt v) (length v - headerSize) (omega arith), a)
@@ -56,13 +58,13 @@ module _ (v : List ℕ) where
       id-there h =
           record { header = h; id = λ k. let f = id-fits (minorAt v) (kindAt v) (sizeAt v) a k in omega arith }
 
-      pub sized-fragmented : fragmentAllowed (minorAt v) (kindAt v) (moreAt v) ≡ false → sizedOf v ≡ Fragmented
+      pub sized-fragmented : fragmentAllowed (minorAt v) (kindAt v) (moreAt v) ≡ false → sizedOf v ≡ Refused Fragmented
       unfolding sizedOf
       sized-fragmented f =
           rw (le-ltb (length v - headerSize) (sizeAt v) (omega arith), le-ltb (sizeAt v) (length v - headerSize) (omega arith), a, f)
 
       module _ (f : fragmentAllowed (minorAt v) (kindAt v) (moreAt v) ≡ true) where
-        pub sized-last : (t : Bool) → eightsAllowed (moreAt v) (sizeAt v) ≡ t → sizedOf v ≡ cond t (Accepted (headerOf v)) NotInEights
+        pub sized-last : (t : Bool) → eightsAllowed (moreAt v) (sizeAt v) ≡ t → sizedOf v ≡ cond t (Accepted (headerOf v)) (Refused NotInEights)
         unfolding sizedOf
         sized-last true g =
             rw (le-ltb (length v - headerSize) (sizeAt v) (omega arith), le-ltb (sizeAt v) (length v - headerSize) (omega arith), a, f, g)
@@ -71,26 +73,30 @@ module _ (v : List ℕ) where
 
 -- 10 and 12 to 16: each row's test, where no earlier one holds
 module _ (v : List ℕ) where
-  pub frame-too-long : messageLimit < length v → frameOf v ≡ TooLong
+  pub frame-too-long : messageLimit < length v → frameOf v ≡ Refused TooLong
   unfolding frameOf
   frame-too-long h = rw (lt-ltb messageLimit (length v) h)
 
-  pub frame-short : length v < headerSize → frameOf v ≡ Short
+  pub frame-message : length v ≤ messageLimit → frameOf v ≡ messageOf v
   unfolding frameOf
-  frame-short h = rw (le-ltb messageLimit (length v) (omega arith), lt-ltb (length v) headerSize h)
+  frame-message h = rw (le-ltb messageLimit (length v) h)
 
-  module _ (l : length v ≤ messageLimit) (s : headerSize ≤ length v) where
-    pub frame-not-giop : (magicAt v ≡ giop → ⊥) → frameOf v ≡ NotGiop
-    unfolding frameOf
-    frame-not-giop h = rw (le-ltb messageLimit (length v) l, le-ltb (length v) headerSize s, ne-eqb (magicAt v) giop h)
+  pub message-short : length v < headerSize → messageOf v ≡ Refused Short
+  unfolding messageOf
+  message-short h = rw (lt-ltb (length v) headerSize h)
+
+  module _ (s : headerSize ≤ length v) where
+    pub message-not-giop : (magicAt v ≡ giop → ⊥) → messageOf v ≡ Refused NotGiop
+    unfolding messageOf
+    message-not-giop h = rw (le-ltb (length v) headerSize s, ne-eqb (magicAt v) giop h)
 
     module _ (m : magicAt v ≡ giop) where
       -- the four rows that are left, by their tests
-      pub frame-by : (a b c : Bool) → versionExists (majorAt v) (minorAt v) ≡ a → flagsAllowed (minorAt v) (flagsAt v) ≡ b
+      pub message-by : (a b c : Bool) → versionExists (majorAt v) (minorAt v) ≡ a → flagsAllowed (minorAt v) (flagsAt v) ≡ b
           → typeExists (minorAt v) (kindAt v) ≡ c
-          → frameOf v ≡ cond a (cond b (cond c (sizedOf v) NoSuchType) FlagsSet) NoSuchVersion
-      unfolding frameOf
-      frame-by false b c e f g = rw (le-ltb messageLimit (length v) l, le-ltb (length v) headerSize s, eq-eqb (magicAt v) giop m, e)
-      frame-by true false c e f g = rw (le-ltb messageLimit (length v) l, le-ltb (length v) headerSize s, eq-eqb (magicAt v) giop m, e, f)
-      frame-by true true false e f g = rw (le-ltb messageLimit (length v) l, le-ltb (length v) headerSize s, eq-eqb (magicAt v) giop m, e, f, g)
-      frame-by true true true e f g = rw (le-ltb messageLimit (length v) l, le-ltb (length v) headerSize s, eq-eqb (magicAt v) giop m, e, f, g)
+          → messageOf v ≡ cond a (cond b (cond c (sizedOf v) (Refused NoSuchType)) (Refused FlagsSet)) (Refused NoSuchVersion)
+      unfolding messageOf
+      message-by false b c e f g = rw (le-ltb (length v) headerSize s, eq-eqb (magicAt v) giop m, e)
+      message-by true false c e f g = rw (le-ltb (length v) headerSize s, eq-eqb (magicAt v) giop m, e, f)
+      message-by true true false e f g = rw (le-ltb (length v) headerSize s, eq-eqb (magicAt v) giop m, e, f, g)
+      message-by true true true e f g = rw (le-ltb (length v) headerSize s, eq-eqb (magicAt v) giop m, e, f, g)

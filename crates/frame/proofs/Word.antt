@@ -4,24 +4,26 @@ use mathlib.Core.List.{List}
 use Prim.Native.Nat.{ℕ, _+_, _≤_, _%_}
 use native.Mathlib.Omega.{arith}
 use lib.ListN.{length}
+use Rattle.cdr.specs.declared.Index.{Index}
 use Rattle.cdr.specs.declared.Order.{Order}
 use Rattle.cdr.specs.declared.Size.the-variants.{Four}
-use Rattle.cdr.specs.declared.Read.the-variants.{Number, Ends}
-use Rattle.cdr.specs.Align.{gap, indexOf}
-use Rattle.cdr.specs.Number.{numberAt, readOf}
+use Rattle.cdr.specs.declared.Field.the-variants.{Value, NoField}
+use Rattle.cdr.specs.Align.{behindGap, indexOf}
+use Rattle.cdr.specs.Number.{numberAt}
+use Rattle.cdr.specs.Encapsulation.{start, fieldOf}
 use Rattle.cdr.proofs.Alignment.{read-number}
+use Rattle.cdr.proofs.Fields.{field-is, field-facts}
 
-module _ (v : List ℕ) (at : ℕ) (order : Order) (m : at % 4 ≡ 0) (h : at + 4 ≤ length v) where
-  no-gap : at + gap (0 + at) 4 ≡ at
+module _ (v : List ℕ) (at : ℕ) (order : Order) (m : at % 4 ≡ 0) where
+  no-gap : behindGap start at 4 ≡ at
   no-gap = omega arith
 
-  word-read : readOf v (indexOf 0) at Four order ≡ Number at (numberAt v at 4 order)
-  word-read =
-      read-number v (indexOf 0) at Four order (omega arith)
-      ∙ ap (λ (p : ℕ). Number p (numberAt v p 4 order)) no-gap
+  pub word-value : (x : ℕ) (next : Index) → fieldOf v (indexOf at) Four order ≡ Value x next → x ≡ numberAt v at 4 order
+  word-value x next e = field-facts v (indexOf at) Four order x next e .value ∙ ap (λ (p : ℕ). numberAt v p 4 order) no-gap
 
-  pub word-value : (p x : ℕ) → readOf v (indexOf 0) at Four order ≡ Number p x → x ≡ numberAt v at 4 order
-  word-value p x e = let f = word-read in cc
-
-  pub word-there : readOf v (indexOf 0) at Four order ≡ Ends → ⊥
-  word-there e = let f = word-read in let z : _≡_ {A = ℕ} 0 1 = cc in omega arith
+  pub word-there : at + 4 ≤ length v → fieldOf v (indexOf at) Four order ≡ NoField → ⊥
+  word-there h e =
+      let g = no-gap in
+      let f = field-is v (indexOf at) Four order _ _ (read-number v start at Four order (omega arith)) in
+      let z : _≡_ {A = ℕ} 0 1 = cc in
+      omega arith

@@ -1,25 +1,31 @@
 -- The table of the frame header: each number "given exactly when no lower number is, and" its row's test.
 --   messageLimit       "one message of at most 4,096 octets"
---   sizeAllowed        19: "size 0 for types 0, 1, 3, 4; under 4 for these in 1.2 and for type 7; not 4 for type 2; not 0 for types 5, 6"
---   fragmentAllowed    20: "type 7 or the more flag in 1.1; the more flag on types 2, 5, 6"
---   eightsAllowed      21: "the more flag, and size + 12 not a multiple of 8"
+--   sizeAllowed        19: "size 0 for types 0, 1, 3, 4; under 4 for these in 1.2 and for type 7; not 4 for type 2; not 0 for types
+--                      5, 6" is refused; the types above 7 have been refused by 16
+--   fragmentAllowed    20: "type 7 or the more flag in 1.1; the more flag on types 2, 5, 6" is refused
+--   eightsAllowed      21: "the more flag, and size + 12 not a multiple of 8" is refused
 --   sizedOf            17 to 21, then what the header says
---   frameOf            10, 12 to 16, then the rest
---   frameNumber        the paper's number for each answer, 0 for an accepted frame
---   headerNumbers      a header as numbers: minor, order, more, type, size, whether it has a request id, request id
+--   messageOf          12 to 21 of a message of any length
+--   frameOf            "An entry that takes a line's octets gives 10 above 4,096", then 12 to 21
+--   refusalNumber      the number of each row
+--   frameNumber        the number of each answer, 0 for an accepted frame
+--   idNumbers          1 and the request id, or "other numbers are 0"
+--   headerNumbers      minor, order, more, type, size, and the request id's two
+--   frameNumbers       the number and the values of each answer; "a refusal's other numbers are 0"
 use Prim.Native.Nat.{ℕ, _+_, _-_, _%_}
 use mathlib.Core.List.{List, [], _∷_}
 use mathlib.Core.Bool.{Bool, true, cond, not, _||_}
 use lib.Dec.{ltb, leb, eqb}
-use lib.ListN.{length}
-use Rattle.cdr.specs.declared.Order.{Order}
-use Rattle.cdr.specs.declared.Order.the-variants.{Big, Little}
+use lib.ListN.{length, replicate}
+use Rattle.cdr.specs.Orders.{orderOctet}
 use Rattle.frame.specs.declared.RequestId.{RequestId}
 use Rattle.frame.specs.declared.RequestId.the-variants.{Id, NoId}
 use Rattle.frame.specs.declared.Header.{Header}
 use Rattle.frame.specs.declared.Frame.{Frame}
-use Rattle.frame.specs.declared.Frame.the-variants.{Accepted, TooLong, Short, NotGiop, NoSuchVersion, FlagsSet, NoSuchType, SizeAbove, SizeBelow, SizeOfType, Fragmented, NotInEights}
-use Rattle.frame.specs.Version.{versionExists, flagsAllowed, typeExists, bodyStartsWithId, isRequestOrReply, isCancel, isFragment, isBare}
+use Rattle.frame.specs.declared.Frame.the-variants.{Accepted, Refused}
+use Rattle.frame.specs.declared.Refusal.{Refusal}
+use Rattle.frame.specs.declared.Refusal.the-variants.{TooLong, Short, NotGiop, NoSuchVersion, FlagsSet, NoSuchType, SizeAbove, SizeBelow, SizeOfType, Fragmented, NotInEights}
+use Rattle.frame.specs.Messages.{versionExists, flagsAllowed, typeExists, bodyStartsWithId, isRequestOrReply, isCancel, isFragment, isBare}
 use Rattle.frame.specs.Header.{headerSize, giop, magicAt, majorAt, minorAt, flagsAt, kindAt, moreAt, sizeAt, headerOf}
 
 abbrev pub messageLimit : ℕ
@@ -43,44 +49,49 @@ eightsAllowed more size = cond more (eqb ((size + headerSize) % 8) 0) true
 
 unfoldable pub sizedOf : List ℕ → Frame
 sizedOf v =
-    cond (ltb (length v - headerSize) (sizeAt v)) SizeAbove
-    (cond (ltb (sizeAt v) (length v - headerSize)) SizeBelow
-    (cond (not (sizeAllowed (minorAt v) (kindAt v) (sizeAt v))) SizeOfType
-    (cond (not (fragmentAllowed (minorAt v) (kindAt v) (moreAt v))) Fragmented
-    (cond (not (eightsAllowed (moreAt v) (sizeAt v))) NotInEights
+    cond (ltb (length v - headerSize) (sizeAt v)) (Refused SizeAbove)
+    (cond (ltb (sizeAt v) (length v - headerSize)) (Refused SizeBelow)
+    (cond (not (sizeAllowed (minorAt v) (kindAt v) (sizeAt v))) (Refused SizeOfType)
+    (cond (not (fragmentAllowed (minorAt v) (kindAt v) (moreAt v))) (Refused Fragmented)
+    (cond (not (eightsAllowed (moreAt v) (sizeAt v))) (Refused NotInEights)
     (Accepted (headerOf v))))))
 
+unfoldable pub messageOf : List ℕ → Frame
+messageOf v =
+    cond (ltb (length v) headerSize) (Refused Short)
+    (cond (not (eqb (magicAt v) giop)) (Refused NotGiop)
+    (cond (not (versionExists (majorAt v) (minorAt v))) (Refused NoSuchVersion)
+    (cond (not (flagsAllowed (minorAt v) (flagsAt v))) (Refused FlagsSet)
+    (cond (not (typeExists (minorAt v) (kindAt v))) (Refused NoSuchType)
+    (sizedOf v)))))
+
 unfoldable pub frameOf : List ℕ → Frame
-frameOf v =
-    cond (ltb messageLimit (length v)) TooLong
-    (cond (ltb (length v) headerSize) Short
-    (cond (not (eqb (magicAt v) giop)) NotGiop
-    (cond (not (versionExists (majorAt v) (minorAt v))) NoSuchVersion
-    (cond (not (flagsAllowed (minorAt v) (flagsAt v))) FlagsSet
-    (cond (not (typeExists (minorAt v) (kindAt v))) NoSuchType
-    (sizedOf v))))))
+frameOf v = cond (ltb messageLimit (length v)) (Refused TooLong) (messageOf v)
+
+abbrev pub refusalNumber : Refusal → ℕ
+refusalNumber TooLong = 10
+refusalNumber Short = 12
+refusalNumber NotGiop = 13
+refusalNumber NoSuchVersion = 14
+refusalNumber FlagsSet = 15
+refusalNumber NoSuchType = 16
+refusalNumber SizeAbove = 17
+refusalNumber SizeBelow = 18
+refusalNumber SizeOfType = 19
+refusalNumber Fragmented = 20
+refusalNumber NotInEights = 21
 
 abbrev pub frameNumber : Frame → ℕ
 frameNumber (Accepted h) = 0
-frameNumber TooLong = 10
-frameNumber Short = 12
-frameNumber NotGiop = 13
-frameNumber NoSuchVersion = 14
-frameNumber FlagsSet = 15
-frameNumber NoSuchType = 16
-frameNumber SizeAbove = 17
-frameNumber SizeBelow = 18
-frameNumber SizeOfType = 19
-frameNumber Fragmented = 20
-frameNumber NotInEights = 21
-
-abbrev pub orderNumber : Order → ℕ
-orderNumber Big = 0
-orderNumber Little = 1
+frameNumber (Refused r) = refusalNumber r
 
 abbrev pub idNumbers : RequestId → List ℕ
 idNumbers (Id x) = 1 ∷ x ∷ []
 idNumbers NoId = 0 ∷ 0 ∷ []
 
 abbrev pub headerNumbers : Header → List ℕ
-headerNumbers h = h .minor ∷ orderNumber (h .order) ∷ cond (h .more) 1 0 ∷ h .kind ∷ h .size ∷ idNumbers (h .id)
+headerNumbers h = h .minor ∷ orderOctet (h .order) ∷ cond (h .more) 1 0 ∷ h .kind ∷ h .size ∷ idNumbers (h .id)
+
+abbrev pub frameNumbers : Frame → List ℕ
+frameNumbers (Accepted h) = 0 ∷ headerNumbers h
+frameNumbers (Refused r) = refusalNumber r ∷ replicate 7 0

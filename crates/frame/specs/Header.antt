@@ -3,23 +3,28 @@
 --   giop          the magic, as a number of four octets
 --   orderFlag     "Flag bit 0 is 1 for little-endian"
 --   moreFlag      "bit 1 says more fragments follow"
---   magicAt .. sizeAt    the fields of a frame's octets
+--   magicAt       the fields of a frame's octets, in their order: magic,
+--   majorAt       major version,
+--   minorAt       minor version,
+--   flagsAt       flags,
+--   kindAt        type,
+--   orderAt       the byte order that the flags name,
+--   moreAt        whether more fragments follow,
+--   sizeAt        and size
 --   idAt          the request id, where the message has one
 --   headerOf      what the header says
---   IdThere       the octets of the header, and of the request id of a message that has one
-use mathlib.Core.Path.{_≡_}
-use Prim.Native.Nat.{ℕ, _+_, _/_, _%_, _≤_}
+use Prim.Native.Nat.{ℕ, _/_, _%_}
 use mathlib.Core.List.{List}
-use mathlib.Core.Bool.{Bool, true, cond}
+use mathlib.Core.Bool.{Bool, cond}
 use lib.Dec.{eqb}
-use lib.ListN.{length, getD}
+use lib.ListN.{getD}
 use Rattle.cdr.specs.declared.Order.{Order}
 use Rattle.cdr.specs.declared.Order.the-variants.{Big, Little}
 use Rattle.cdr.specs.Number.{numberAt}
 use Rattle.frame.specs.declared.RequestId.{RequestId}
 use Rattle.frame.specs.declared.RequestId.the-variants.{Id, NoId}
 use Rattle.frame.specs.declared.Header.{Header}
-use Rattle.frame.specs.Version.{hasRequestId}
+use Rattle.frame.specs.Messages.{hasRequestId}
 
 abbrev pub headerSize : ℕ
 headerSize = 12
@@ -62,7 +67,3 @@ idAt v = cond (hasRequestId (minorAt v) (kindAt v)) (Id (numberAt v headerSize 4
 
 abbrev pub headerOf : List ℕ → Header
 headerOf v = record { minor = minorAt v; order = orderAt v; more = moreAt v; kind = kindAt v; size = sizeAt v; id = idAt v }
-
-pub record IdThere (v : List ℕ) : Type 0 where
-  pub header : headerSize ≤ length v
-  pub id : hasRequestId (minorAt v) (kindAt v) ≡ true → headerSize + 4 ≤ length v

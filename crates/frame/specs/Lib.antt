@@ -1,4 +1,5 @@
 -- The frame header.
-pub mod Version
+pub mod Messages
 pub mod Header
 pub mod Frames
+pub mod Inner

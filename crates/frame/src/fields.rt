@@ -4,9 +4,9 @@ ghost use Prim.Native.Nat.{_+_, _%_, _≤_};
 ghost use lib.ListN.{length};
 ghost use Rattle.cdr.specs.Number.{numberAt};
 ghost use Rattle.frame.specs.Header.{orderFlag, moreFlag};
+use cdr::Field;
 use cdr::Index;
 use cdr::Order;
-use cdr::Read;
 use cdr::Size;
 
 // The byte order that the flags name.
@@ -32,8 +32,8 @@ pub(crate) fn word(octets: &[u8], at: usize, order: Order) -> u32
     requires { ⌜ (at % 4 ≡ 0) × (at + 4 ≤ length (now octets)) ⌝ }
     ensures { λ r. ⌜ r ≡ numberAt (now (octets .entry)) at 4 order ⌝ }
 {
-    match cdr::read_number(octets, Index::START, at, Size::Four, order) {
-        Read::Number { place: _, value } => value as u32,
-        Read::Ends => 0,
+    match Index(at).number(octets, Size::Four, order) {
+        Field::Value { value, next: _ } => value as u32,
+        Field::NoField => 0,
     }
 }

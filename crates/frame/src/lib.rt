@@ -2,8 +2,9 @@
 ghost use mathlib.Core.Path.{_≡_};
 ghost use Prim.Native.Nat.{_≤_};
 ghost use lib.ListN.{length};
-ghost use Rattle.frame.specs.Header.{headerSize, idAt, IdThere};
-ghost use Rattle.frame.specs.Frames.{frameOf, sizedOf};
+ghost use Rattle.frame.specs.Header.{headerSize, idAt};
+ghost use Rattle.frame.specs.Inner.{IdThere};
+ghost use Rattle.frame.specs.Frames.{sizedOf, messageOf, frameOf, refusalNumber};
 use cdr::Order;
 
 mod fields;
@@ -25,9 +26,8 @@ pub struct Header {
     pub id: RequestId,
 }
 
-// A frame that is accepted, or the row of the table that refuses it.
-pub enum Frame {
-    Accepted(Header),
+// A row of the table that refuses a frame.
+pub enum Refusal {
     TooLong,
     Short,
     NotGiop,
@@ -41,27 +41,70 @@ pub enum Frame {
     NotInEights,
 }
 
-// Judges a message's octets: length, magic, version, flags and type first, then what depends on the size.
+impl Refusal {
+    // The paper's number of the row.
+    pub fn number(self) -> u32
+        ensures { λ r. ⌜ r ≡ refusalNumber self ⌝ }
+    {
+        match self {
+            Refusal::TooLong => refusals::LINE_TOO_LONG,
+            Refusal::Short => refusals::FRAME_SHORT,
+            Refusal::NotGiop => refusals::NOT_GIOP,
+            Refusal::NoSuchVersion => refusals::NO_SUCH_VERSION,
+            Refusal::FlagsSet => refusals::FLAGS_SET,
+            Refusal::NoSuchType => refusals::NO_SUCH_TYPE,
+            Refusal::SizeAbove => refusals::SIZE_ABOVE,
+            Refusal::SizeBelow => refusals::SIZE_BELOW,
+            Refusal::SizeOfType => refusals::SIZE_OF_TYPE,
+            Refusal::Fragmented => refusals::FRAGMENTED,
+            Refusal::NotInEights => refusals::NOT_IN_EIGHTS,
+        }
+    }
+}
+
+// What judging a frame gives.
+pub enum Frame {
+    Accepted(Header),
+    Refused(Refusal),
+}
+
+// The octets of a header.
+const HEADER_SIZE: usize = 12;
+
+// The most octets of a line's message.
+const MESSAGE_LIMIT: usize = 4096;
+
+// `GIOP`, as a number of four octets.
+const GIOP: u32 = 0x47494F50;
+
+// Judges the octets of a line: their number, then the message.
 pub fn judge(octets: &[u8]) -> Frame
     ensures { λ r. ⌜ r ≡ frameOf (now (octets .entry)) ⌝ }
 {
-    if 4096 < octets.len() {
-        return Frame::TooLong;
+    if MESSAGE_LIMIT < octets.len() {
+        return Frame::Refused(Refusal::TooLong);
     }
-    if octets.len() < 12 {
-        return Frame::Short;
+    judge_message(octets)
+}
+
+// Judges a message of any length: magic, version, flags and type, then what depends on the size.
+pub fn judge_message(octets: &[u8]) -> Frame
+    ensures { λ r. ⌜ r ≡ messageOf (now (octets .entry)) ⌝ }
+{
+    if octets.len() < HEADER_SIZE {
+        return Frame::Refused(Refusal::Short);
     }
-    if fields::word(octets, 0, Order::Big) != 0x47494F50 {
-        return Frame::NotGiop;
+    if fields::word(octets, 0, Order::Big) != GIOP {
+        return Frame::Refused(Refusal::NotGiop);
     }
     if !rules::version_exists(octets[4], octets[5]) {
-        return Frame::NoSuchVersion;
+        return Frame::Refused(Refusal::NoSuchVersion);
     }
     if !rules::flags_allowed(octets[5], octets[6]) {
-        return Frame::FlagsSet;
+        return Frame::Refused(Refusal::FlagsSet);
     }
     if !rules::type_exists(octets[5], octets[7]) {
-        return Frame::NoSuchType;
+        return Frame::Refused(Refusal::NoSuchType);
     }
     sized(octets)
 }
@@ -76,21 +119,21 @@ fn sized(octets: &[u8]) -> Frame
     let more = fields::more_flag(octets[6]);
     let kind = octets[7];
     let size = fields::word(octets, 8, order);
-    let body = octets.len() - 12;
+    let body = octets.len() - HEADER_SIZE;
     if body < size as usize {
-        return Frame::SizeAbove;
+        return Frame::Refused(Refusal::SizeAbove);
     }
     if (size as usize) < body {
-        return Frame::SizeBelow;
+        return Frame::Refused(Refusal::SizeBelow);
     }
     if !rules::size_allowed(minor, kind, size) {
-        return Frame::SizeOfType;
+        return Frame::Refused(Refusal::SizeOfType);
     }
     if !rules::fragment_allowed(minor, kind, more) {
-        return Frame::Fragmented;
+        return Frame::Refused(Refusal::Fragmented);
     }
     if !rules::eights_allowed(more, size) {
-        return Frame::NotInEights;
+        return Frame::Refused(Refusal::NotInEights);
     }
     let id = request_id(octets);
     Frame::Accepted(Header {
@@ -109,7 +152,7 @@ fn request_id(octets: &[u8]) -> RequestId
     ensures { λ r. ⌜ r ≡ idAt (now (octets .entry)) ⌝ }
 {
     if rules::has_request_id(octets[5], octets[7]) {
-        RequestId::Id(fields::word(octets, 12, fields::order_flag(octets[6])))
+        RequestId::Id(fields::word(octets, HEADER_SIZE, fields::order_flag(octets[6])))
     } else {
         RequestId::NoId
     }

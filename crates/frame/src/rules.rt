@@ -1,13 +1,17 @@
 // The rules of the versions and the table, as tests on numbers.
 ghost use mathlib.Core.Path.{_≡_};
-ghost use Rattle.frame.specs.Version.{versionExists, flagsAllowed, typeExists, bodyStartsWithId, isRequestOrReply, isBare, hasRequestId};
+ghost use Rattle.frame.specs.Messages.{versionExists, flagsAllowed, typeExists, bodyStartsWithId, isRequestOrReply, isBare, hasRequestId};
 ghost use Rattle.frame.specs.Frames.{sizeAllowed, fragmentAllowed, eightsAllowed};
+
+const CANCEL_REQUEST: u8 = 2;
+
+const FRAGMENT: u8 = 7;
 
 // Whether the version is one of GIOP's that are read here.
 pub(crate) fn version_exists(major: u8, minor: u8) -> bool
     ensures { λ r. ⌜ r ≡ versionExists major minor ⌝ }
 {
-    major == 1 && minor <= 2
+    version::major_exists(major) && version::minor_exists(minor)
 }
 
 // Whether the version allows these flags.
@@ -42,7 +46,8 @@ fn is_request_or_reply(kind: u8) -> bool
 pub(crate) fn has_request_id(minor: u8, kind: u8) -> bool
     ensures { λ r. ⌜ r ≡ hasRequestId minor kind ⌝ }
 {
-    kind == 2 || body_starts_with_id(minor) && (is_request_or_reply(kind) || kind == 7)
+    kind == CANCEL_REQUEST
+        || body_starts_with_id(minor) && (is_request_or_reply(kind) || kind == FRAGMENT)
 }
 
 // Whether a message of this type may have this size.
@@ -56,10 +61,10 @@ pub(crate) fn size_allowed(minor: u8, kind: u8, size: u32) -> bool
             1 <= size
         };
     }
-    if kind == 7 {
+    if kind == FRAGMENT {
         return 4 <= size;
     }
-    if kind == 2 {
+    if kind == CANCEL_REQUEST {
         return size == 4;
     }
     size == 0
@@ -77,10 +82,14 @@ pub(crate) fn fragment_allowed(minor: u8, kind: u8, more: bool) -> bool
     ensures { λ r. ⌜ r ≡ fragmentAllowed minor kind more ⌝ }
 {
     if minor == 1 {
-        return if kind == 7 { false } else { !more };
+        return if kind == FRAGMENT { false } else { !more };
     }
     if more {
-        return if kind == 2 { false } else { !is_bare(kind) };
+        return if kind == CANCEL_REQUEST {
+            false
+        } else {
+            !is_bare(kind)
+        };
     }
     true
 }

@@ -1,4 +1,4 @@
--- The answers of decoding and encoding, what an accepted line is, and that a line over the limit may be cut.
+-- The answers of decoding and encoding, what accepted digits and lines are, and that a line over the limit may be cut.
 use mathlib.Core.Path.{_≡_, refl, sym, ap, _∙_}
 use mathlib.Core.Bool.{Bool, true, false}
 use mathlib.Core.List.{List}
@@ -10,63 +10,75 @@ use lib.Seq.{take-all, length-take-le}
 use borrow.Author.Tests.{ltb-true, ltb-false, eqb-false, lt-ltb, le-ltb, eq-eqb, ne-eqb}
 use Rattle.hexline.specs.declared.Decoded.the-variants.{Octets, TooLong, NotDigits, NoRoom}
 use Rattle.hexline.specs.declared.Encoded.the-variants.{Digits, NoRoom as NoRoomForDigits}
-use Rattle.hexline.specs.Decoding.{lineLimit, allDigits, decodedOf, decodedInto}
+use Rattle.hexline.specs.Decoding.{lineLimit, allDigits, digitsDecoded, decodedOf, decodedInto}
 use Rattle.hexline.specs.Encoding.{encodedOf}
 use Rattle.hexline.proofs.Laws.{clash}
 
--- the answers of decoding, in the order of the tests
+-- the answers of decoding digits, in the order of the tests
+module _ (digits : List ℕ) (room : ℕ) where
+  pub odd-count : length digits % 2 ≡ 1 → digitsDecoded digits room ≡ NotDigits
+  unfolding digitsDecoded
+  odd-count o = simp (eq-eqb (length digits % 2) 1 o)
+
+  module _ (o : length digits % 2 ≡ 1 → ⊥) where
+    pub no-digit : allDigits digits ≡ false → digitsDecoded digits room ≡ NotDigits
+    unfolding digitsDecoded
+    no-digit a = simp (ne-eqb (length digits % 2) 1 o, a)
+
+    pub no-room : allDigits digits ≡ true → room < length digits / 2 → digitsDecoded digits room ≡ NoRoom
+    unfolding digitsDecoded
+    no-room a l = simp (ne-eqb (length digits % 2) 1 o, a, lt-ltb room (length digits / 2) l)
+
+    pub taken : allDigits digits ≡ true → length digits / 2 ≤ room → digitsDecoded digits room ≡ Octets (length digits / 2)
+    unfolding digitsDecoded
+    taken a l = simp (ne-eqb (length digits % 2) 1 o, a, le-ltb room (length digits / 2) l)
+
+-- the answers of decoding a line
 module _ (line : List ℕ) (room : ℕ) where
   pub too-long : lineLimit < length line → decodedOf line room ≡ TooLong
   unfolding decodedOf
   too-long h = simp (lt-ltb lineLimit (length line) h)
 
-  pub odd-count : length line ≤ lineLimit → length line % 2 ≡ 1 → decodedOf line room ≡ NotDigits
+  pub within-limit : length line ≤ lineLimit → decodedOf line room ≡ digitsDecoded line room
   unfolding decodedOf
-  odd-count h o = simp (le-ltb lineLimit (length line) h, eq-eqb (length line % 2) 1 o)
+  within-limit h = simp (le-ltb lineLimit (length line) h)
 
-  module _ (h : length line ≤ lineLimit) (o : length line % 2 ≡ 1 → ⊥) where
-    pub no-digit : allDigits line ≡ false → decodedOf line room ≡ NotDigits
-    unfolding decodedOf
-    no-digit a = simp (le-ltb lineLimit (length line) h, ne-eqb (length line % 2) 1 o, a)
-
-    pub no-room : allDigits line ≡ true → room < length line / 2 → decodedOf line room ≡ NoRoom
-    unfolding decodedOf
-    no-room a l = simp (le-ltb lineLimit (length line) h, ne-eqb (length line % 2) 1 o, a, lt-ltb room (length line / 2) l)
-
-    pub taken : allDigits line ≡ true → length line / 2 ≤ room → decodedOf line room ≡ Octets (length line / 2)
-    unfolding decodedOf
-    taken a l = simp (le-ltb lineLimit (length line) h, ne-eqb (length line % 2) 1 o, a, le-ltb room (length line / 2) l)
-
--- what an accepted line is
+-- what accepted digits are
 pub record Accepted (line : List ℕ) (room n : ℕ) : Type 0 where
-  pub short : length line ≤ lineLimit
   pub even : length line % 2 ≡ 0
   pub digits : allDigits line ≡ true
   pub count : n ≡ length line / 2
   pub fits : n ≤ room
 
 module _ (line : List ℕ) (room n : ℕ) where
-  accepted-by : (a b d f : Bool) → ltb lineLimit (length line) ≡ a → eqb (length line % 2) 1 ≡ b → allDigits line ≡ d
-      → ltb room (length line / 2) ≡ f → decodedOf line room ≡ Octets n → Accepted line room n
-  unfolding decodedOf
-  accepted-by true b d f p q r s e = let h = simp p at e in clash (cc)
-  accepted-by false true d f p q r s e = let h = simp (p, q) at e in clash (cc)
-  accepted-by false false false f p q r s e = let h = simp (p, q, r) at e in clash (cc)
-  accepted-by false false true true p q r s e = let h = simp (p, q, r, s) at e in clash (cc)
-  accepted-by false false true false p q r s e =
-      let h = simp (p, q, r, s) at e in
+  digits-accepted-by : (b d f : Bool) → eqb (length line % 2) 1 ≡ b → allDigits line ≡ d → ltb room (length line / 2) ≡ f
+      → digitsDecoded line room ≡ Octets n → Accepted line room n
+  unfolding digitsDecoded
+  digits-accepted-by true d f q r s e = let h = simp q at e in clash (cc)
+  digits-accepted-by false false f q r s e = let h = simp (q, r) at e in clash (cc)
+  digits-accepted-by false true true q r s e = let h = simp (q, r, s) at e in clash (cc)
+  digits-accepted-by false true false q r s e =
+      let h = simp (q, r, s) at e in
       let c : n ≡ length line / 2 = cc in
       let o = eqb-false (length line % 2) 1 q in
       record {
-        short = ltb-false lineLimit (length line) p;
         even = omega arith;
         digits = r;
         count = c;
         fits = omega (arith, ltb-false room (length line / 2) s);
       }
 
-  pub accepted : decodedOf line room ≡ Octets n → Accepted line room n
-  accepted e = accepted-by _ _ _ _ refl refl refl refl e
+  pub digits-accepted : digitsDecoded line room ≡ Octets n → Accepted line room n
+  digits-accepted e = digits-accepted-by _ _ _ refl refl refl e
+
+  accepted-by : (a : Bool) → ltb lineLimit (length line) ≡ a → decodedOf line room ≡ Octets n → (length line ≤ lineLimit) × Accepted line room n
+  unfolding decodedOf
+  accepted-by true p e = let h = simp p at e in clash (cc)
+  accepted-by false p e = (ltb-false lineLimit (length line) p, digits-accepted (simp p at e))
+
+  -- an accepted line is within the limit, and its digits are accepted
+  pub accepted : decodedOf line room ≡ Octets n → (length line ≤ lineLimit) × Accepted line room n
+  accepted e = accepted-by _ refl e
 
 -- the answers of encoding
 module _ (octets : List ℕ) (room : ℕ) where

@@ -1,5 +1,6 @@
--- What is shown of digits, of lines and their octets, of the answers, and of the loops.
+-- What is shown of digits, of lines and their octets, of the answers, and of the loops; and samples.
 pub mod Digit
 pub mod Laws
 pub mod Answers
 pub mod Steps
+pub mod Samples

@@ -1,25 +1,18 @@
 -- The turns of each loop: the next character judged, the next octet and the next two digits written.
-use mathlib.Core.Path.{_≡_, refl, sym, ap, _∙_}
+use mathlib.Core.Path.{_≡_, refl, sym, ap}
 use mathlib.Core.Bool.{Bool, true, false, _&&_}
-use mathlib.Core.List.{List, [], _∷_, _++_}
+use mathlib.Core.List.{List, [], _∷_}
 use Prim.Native.Nat.{ℕ, suc, _+_, _*_, _/_, _%_, _<_, _≤_}
-use native.Mathlib.Nat.{zero-add}
 use native.Mathlib.Numerals.{add-one}
 use native.Mathlib.Omega.{arith}
 use lib.Dec.{ltb}
 use lib.ListN.{length, getD, drop, set, length-drop, drop-of-length-le}
-use lib.Seq.{sets, sets-eq, drop-cons}
-use Rattle.hexline.specs.Digit.{isDigit, digitValue, upperDigit}
-use Rattle.hexline.specs.Output.{written}
+use lib.Seq.{sets, drop-cons}
+use Rattle.hexline.specs.Digit.{isDigit, digitValue, digitOrNone, upperDigit}
 use Rattle.hexline.specs.Decoding.{allDigits, octetOf, lineOctets}
 use Rattle.hexline.specs.Encoding.{octetDigits}
-use Rattle.hexline.proofs.Digit.{valueOr16, value-below, judged}
-use Rattle.hexline.proofs.Laws.{digit-at, octets-length, digits-length}
-
--- a run of stores from the start
-stored : (xs out : List ℕ) → length xs ≤ length out → sets out 0 xs ≡ written xs out
-unfolding written
-stored xs out h = sets-eq xs out 0 (omega arith) ∙ ap (λ (n : ℕ). xs ++ drop n out) (zero-add (length xs))
+use Rattle.hexline.proofs.Digit.{value-below, judged}
+use Rattle.hexline.proofs.Laws.{digit-at, octets-length}
 
 none : (xs : List ℕ) → length xs ≡ 0 → xs ≡ []
 none [] e = refl
@@ -30,7 +23,7 @@ module _ (line : List ℕ) where
   unfolding allDigits
   judge-next k h = rw (add-one, drop-cons line k 0)
 
-  pub judge-turn : (all : Bool) (k v : ℕ) → k < length line → v ≡ valueOr16 (getD line k 0)
+  pub judge-turn : (all : Bool) (k v : ℕ) → k < length line → v ≡ digitOrNone (getD line k 0)
       → (all && ltb v 16 && allDigits (drop (k + 1) line)) ≡ (all && allDigits (drop k line))
   judge-turn true k v h e = rw (e, judged) (sym (judge-next k h))
   judge-turn false k v h e = refl
@@ -41,7 +34,7 @@ module _ (line : List ℕ) where
   judge-done false k h = refl
 
   -- what `value` gives at a place of a line of digits
-  pub digit-value : allDigits line ≡ true → (k v : ℕ) → k < length line → v ≡ valueOr16 (getD line k 0)
+  pub digit-value : allDigits line ≡ true → (k v : ℕ) → k < length line → v ≡ digitOrNone (getD line k 0)
       → (v ≡ digitValue (getD line k 0)) × (v < 16)
   digit-value a k v h e =
       let d = digit-at line a k h in
@@ -68,11 +61,8 @@ module _ (line : List ℕ) where
   unfolding octetOf
   octet-turn out k v w h e f = rw (octets-next k h, e, f, add-one k)
 
-  pub octets-done : (out₀ out : List ℕ) (k : ℕ) → length line / 2 ≤ k → length line / 2 ≤ length out₀
-      → sets out k (lineOctets (drop (k * 2) line)) ≡ sets out₀ 0 (lineOctets line) → out ≡ written (lineOctets line) out₀
-  octets-done out₀ out k h l e =
-      let n = octets-length line in
-      sym (ap (sets out k) (octets-last k h)) ∙ e ∙ stored (lineOctets line) out₀ (omega arith)
+  pub octets-done : (out : List ℕ) (k : ℕ) → length line / 2 ≤ k → out ≡ sets out k (lineOctets (drop (k * 2) line))
+  octets-done out k h = sym (ap (sets out k) (octets-last k h))
 
 module _ (xs : List ℕ) where
   digits-next : (k : ℕ) → k < length xs
@@ -90,8 +80,5 @@ module _ (xs : List ℕ) where
       let n : (k + 1) * 2 ≡ suc (suc (k * 2)) = omega arith in
       rw (digits-next k h, p, q, n, add-one (k * 2))
 
-  pub digits-done : (out₀ out : List ℕ) (k : ℕ) → length xs ≤ k → length xs * 2 ≤ length out₀
-      → sets out (k * 2) (octetDigits (drop k xs)) ≡ sets out₀ 0 (octetDigits xs) → out ≡ written (octetDigits xs) out₀
-  digits-done out₀ out k h l e =
-      let n = digits-length xs in
-      sym (ap (sets out (k * 2)) (digits-last k h)) ∙ e ∙ stored (octetDigits xs) out₀ (omega arith)
+  pub digits-done : (out : List ℕ) (k : ℕ) → length xs ≤ k → out ≡ sets out (k * 2) (octetDigits (drop k xs))
+  digits-done out k h = sym (ap (sets out (k * 2)) (digits-last k h))

@@ -1,5 +1,4 @@
+-- Hexadecimal digits, what decoding them gives, and what encoding octets gives.
 pub mod Digit
-pub mod Output
 pub mod Decoding
 pub mod Encoding
-pub mod Samples

@@ -1,25 +1,41 @@
 // Lines of hexadecimal: digits of either case to octets, and octets to upper-case digits.
-ghost use mathlib.Core.Bool.{cond, true};
+ghost use mathlib.Core.Bool.{true};
 ghost use mathlib.Core.Path.{_≡_};
 ghost use Prim.Native.Nat.{_*_, _/_, _≤_, _<_};
 ghost use lib.ListN.{length};
-ghost use Rattle.hexline.specs.Digit.{isDigit, digitValue, upperDigit};
-ghost use Rattle.hexline.specs.Decoding.{allDigits, lineOctets, Decodes};
-ghost use Rattle.hexline.specs.Encoding.{octetDigits, Encodes};
-ghost use Rattle.hexline.specs.Output.{written};
+ghost use lib.Seq.{sets};
+ghost use Rattle.hexline.specs.Digit.{digitOrNone, upperDigit};
+ghost use Rattle.hexline.specs.Decoding.{allDigits, lineOctets, digitsDecoded, decodedOf, decodedNumber, Decodes};
+ghost use Rattle.hexline.specs.Encoding.{octetDigits, encodedNumber, Encodes};
 
 // The most characters of a line.
 const LINE_LIMIT: usize = 8192;
 
-// What `value` gives for a character that is no digit.
+// What `value` gives for a character that is no digit: 16 is no digit's value, so one number
+// carries both, and the loop that judges compares once.
 const NO_DIGIT: u8 = 16;
 
-// What decoding a line gives: the number of octets written, or why nothing was.
+// What decoding gives: the number of octets written, or why nothing was.
 pub enum Decoded {
     Octets(usize),
     TooLong,
     NotDigits,
     NoRoom,
+}
+
+impl Decoded {
+    // The paper's number of the answer, 0 where the octets are written.
+    // For no room our choice of number: 01's for an output that is too short.
+    pub fn number(self) -> u32
+        ensures { λ r. ⌜ r ≡ decodedNumber self ⌝ }
+    {
+        match self {
+            Decoded::Octets(_) => 0,
+            Decoded::TooLong => refusals::LINE_TOO_LONG,
+            Decoded::NotDigits => refusals::NOT_DIGITS,
+            Decoded::NoRoom => refusals::NO_ROOM,
+        }
+    }
 }
 
 // What encoding octets gives: the number of digits written, or that there was no room.
@@ -28,24 +44,43 @@ pub enum Encoded {
     NoRoom,
 }
 
+impl Encoded {
+    // 0 where the digits are written. For no room our choice of number: 01's for an output that is too short.
+    pub fn number(self) -> u32
+        ensures { λ r. ⌜ r ≡ encodedNumber self ⌝ }
+    {
+        match self {
+            Encoded::Digits(_) => 0,
+            Encoded::NoRoom => refusals::NO_ROOM,
+        }
+    }
+}
+
 // A line's octets, written from the start of `out`; nothing is written on a refusal.
 pub fn decode(line: &[u8], out: &mut [u8]) -> Decoded
-    ensures { λ r. ⌜ Decodes (now (line .entry)) (now (out .entry)) r (now (out .exit)) ⌝ }
+    ensures { λ r. ⌜ Decodes decodedOf (now (line .entry)) (now (out .entry)) r (now (out .exit)) ⌝ }
 {
     if LINE_LIMIT < line.len() {
         return Decoded::TooLong;
     }
-    if line.len() % 2 == 1 {
+    decode_digits(line, out)
+}
+
+// The octets of any number of digits, written from the start of `out`; nothing is written on a refusal.
+pub fn decode_digits(digits: &[u8], out: &mut [u8]) -> Decoded
+    ensures { λ r. ⌜ Decodes digitsDecoded (now (digits .entry)) (now (out .entry)) r (now (out .exit)) ⌝ }
+{
+    if digits.len() % 2 == 1 {
         return Decoded::NotDigits;
     }
-    if !all_digits(line) {
+    if !all_digits(digits) {
         return Decoded::NotDigits;
     }
-    let n = line.len() / 2;
+    let n = digits.len() / 2;
     if out.len() < n {
         return Decoded::NoRoom;
     }
-    write_octets(line, out);
+    write_octets(digits, out);
     Decoded::Octets(n)
 }
 
@@ -61,39 +96,39 @@ pub fn encode(octets: &[u8], out: &mut [u8]) -> Encoded
     Encoded::Digits(octets.len() * 2)
 }
 
-// Whether every character of a line is a digit. No early end, so that the loop has no branch on a character.
-fn all_digits(line: &[u8]) -> bool
-    ensures { λ r. ⌜ r ≡ allDigits (now (line .entry)) ⌝ }
+// Whether every character is a digit. No early end, which lets the loop run fast.
+fn all_digits(characters: &[u8]) -> bool
+    ensures { λ r. ⌜ r ≡ allDigits (now (characters .entry)) ⌝ }
 {
     let mut all = true;
     let mut i = 0;
-    while i < line.len() {
-        all = all & (value(line[i]) < NO_DIGIT);
+    while i < characters.len() {
+        all = all & (value(characters[i]) < NO_DIGIT);
         i += 1;
     }
     all
 }
 
-// The octets of a line of digits, from the start of `out`.
-fn write_octets(line: &[u8], out: &mut [u8])
-    requires { ⌜ (allDigits (now line) ≡ true) × (length (now line) / 2 ≤ length (now out)) ⌝ }
-    ensures { λ _. ⌜ now (out .exit) ≡ written (lineOctets (now (line .entry))) (now (out .entry)) ⌝ }
+// The octets of digits, stored from the start of `out`, the rest as it was.
+fn write_octets(digits: &[u8], out: &mut [u8])
+    requires { ⌜ (allDigits (now digits) ≡ true) × (length (now digits) / 2 ≤ length (now out)) ⌝ }
+    ensures { λ _. ⌜ now (out .exit) ≡ sets (now (out .entry)) 0 (lineOctets (now (digits .entry))) ⌝ }
 {
-    let n = line.len() / 2;
+    let n = digits.len() / 2;
     let mut k = 0;
     while k < n {
         let j = k * 2;
-        let high = value(line[j]);
-        let low = value(line[j + 1]);
+        let high = value(digits[j]);
+        let low = value(digits[j + 1]);
         out[k] = high * 16 + low;
         k += 1;
     }
 }
 
-// The digits of octets, from the start of `out`.
+// The digits of octets, stored from the start of `out`, the rest as it was.
 fn write_digits(octets: &[u8], out: &mut [u8])
     requires { ⌜ length (now octets) * 2 ≤ length (now out) ⌝ }
-    ensures { λ _. ⌜ now (out .exit) ≡ written (octetDigits (now (octets .entry))) (now (out .entry)) ⌝ }
+    ensures { λ _. ⌜ now (out .exit) ≡ sets (now (out .entry)) 0 (octetDigits (now (octets .entry))) ⌝ }
 {
     let mut k = 0;
     while k < octets.len() {
@@ -107,7 +142,7 @@ fn write_digits(octets: &[u8], out: &mut [u8])
 
 // The value of a digit of either case, or NO_DIGIT.
 fn value(c: u8) -> u8
-    ensures { λ r. ⌜ r ≡ cond (isDigit c) (digitValue c) 16 ⌝ }
+    ensures { λ r. ⌜ r ≡ digitOrNone c ⌝ }
 {
     if c <= b'9' {
         if b'0' <= c { c - b'0' } else { NO_DIGIT }

@@ -9,7 +9,8 @@ use lib.Dec.{eqb, ltb, leb·suc-suc}
 use lib.ListN.{length, take, drop, length-append, length-take, length-drop, drop-of-length-le}
 use lib.Seq.{sets, length-sets, sets-eq, drop-length, drop-drop, take-at, length-take-le, take-nil, take-all}
 use borrow.Author.Tests.{lt-ltb}
-use Rattle.lines.specs.Lines.{lf, choose, upToLF, hasLF, afterLF, lastLine, linesFrom, linesOf, takenOf, keptInto}
+use Rattle.cdr.specs.Branch.{choose}
+use Rattle.lines.specs.Lines.{lf, upToLF, hasLF, afterLF, lastLine, linesFrom, linesOf, takenOf, keptInto}
 
 -- by a test, with what it says
 pub by-test : {G : Type 0} (t : Bool) → (t ≡ true → G) → (t ≡ false → G) → G

@@ -7,8 +7,11 @@ use native.Mathlib.Numerals.{add-one}
 use native.Mathlib.Omega.{arith, min-cases}
 use lib.Dec.{ltb}
 use lib.ListN.{getD, length, take, drop, length-drop, drop-of-length-le}
-use lib.Seq.{sets, drop-cons, take-all, take-take}
+use lib.Seq.{sets, length-take-le, drop-cons, take-all, take-take}
 use borrow.Author.Tests.{eq-eqb, ne-eqb, lt-ltb, le-ltb, ltb-true, ltb-false}
+use Rattle.cdr.specs.declared.Written.{Written}
+use Rattle.cdr.specs.Write.{Stored}
+use Rattle.cdr.proofs.Stores.{stored-fits}
 use Rattle.lines.specs.Lines.{lf, upToLF, hasLF, takenOf, keptInto, LineTaken}
 use Rattle.lines.specs.declared.Taken.{Taken}
 use Rattle.lines.proofs.Laws.{by-test, up-lf, up-other, up-prefix, up-length, has-by-length, drop-within}
@@ -50,6 +53,20 @@ steps-kept kept n room = omega arith
 
 steps-full : (n kept room : ℕ) → room ≤ kept → min n (room - min kept room) ≡ 0
 steps-full n kept room h = omega arith
+
+-- what is kept fits the buffer, and stands in the block
+pub held-fits : (kept size held n count : ℕ) → held ≡ min kept size → count ≡ min n (size - held) → held + count ≤ size
+held-fits kept size held n count h c = omega arith
+
+pub count-fits : (start stop end room count : ℕ) → start ≤ stop → stop ≤ end → count ≡ min (stop - start) room → start + count ≤ end
+count-fits start stop end room count a b c = omega arith
+
+pub kept-as : (block line : List ℕ) (start held count : ℕ) (r : Written) (last : List ℕ) → held + count ≤ length line → start + count ≤ length block
+    → Stored line held (take (start + count - start) (drop start block)) r last → last ≡ sets line held (take count (drop start block))
+kept-as block line start held count r last a b s =
+    let e : start + count - start ≡ count = omega arith in
+    let l : length (take count (drop start block)) ≡ count = length-take-le count (drop start block) (simp length-drop (omega arith)) in
+    stored-fits line held (take count (drop start block)) r last (omega arith) (rw e at s)
 
 steps-ended : (start n end : ℕ) → start ≤ end → ltb (start + n) end ≡ ltb n (end - start)
 steps-ended start n end h =

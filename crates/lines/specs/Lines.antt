@@ -1,6 +1,5 @@
 -- The lines of a recording, and what one block of it adds to a line.
 --   lf         the character that ends a line
---   choose     one of two by a test
 --   upToLF     the characters before the first LF, or all
 --   hasLF      whether there is an LF
 --   afterLF    the characters after the first LF, or none
@@ -17,15 +16,11 @@ use Prim.Native.Nat.{ℕ, _+_, _-_, min}
 use lib.Dec.{eqb}
 use lib.ListN.{length, take, drop}
 use lib.Seq.{sets}
+use Rattle.cdr.specs.Branch.{choose}
 use Rattle.lines.specs.declared.Taken.{Taken}
 
 abbrev pub lf : ℕ
 lf = 10
-
--- the case that is not taken is not computed
-unfoldable pub choose : {A : Type 0} → Bool → (Unit {0} → A) → (Unit {0} → A) → A
-choose true f g = f tt
-choose false f g = g tt
 
 unfoldable pub upToLF : List ℕ → List ℕ
 upToLF [] = []

@@ -1,8 +1,7 @@
 // The lines of a recording that is read in blocks: a line of any length is taken in the memory of one lent buffer.
 ghost use mathlib.Core.Path.{_≡_};
 ghost use Prim.Native.Nat.{_+_, _≤_, min};
-ghost use lib.ListN.{length, take, drop};
-ghost use lib.Seq.{sets};
+ghost use lib.ListN.{length, drop};
 ghost use Rattle.lines.specs.Lines.{upToLF, LineTaken};
 
 const LF: u8 = 10;
@@ -28,7 +27,7 @@ pub fn take_line(block: &[u8], from: usize, line: &mut [u8], kept: usize) -> Tak
     let stop = find_lf(block, start);
     let next = least(stop + 1, end);
     let count = least(stop - start, size - held);
-    copy(block, start, line, held, count);
+    cdr::write_octets(line, held, &block[start..start + count]);
     Taken {
         next,
         kept: held + count,
@@ -49,20 +48,6 @@ fn find_lf(block: &[u8], from: usize) -> usize
         i += 1;
     }
     i
-}
-
-// Copies `count` characters of `block` from `from` on into `line` from `at` on.
-fn copy(block: &[u8], from: usize, line: &mut [u8], at: usize, count: usize)
-    requires { ⌜ (from + count ≤ length (now block)) × (at + count ≤ length (now line)) ⌝ }
-    ensures { λ _. ⌜ now (line .exit) ≡ sets (now (line .entry)) at (take count (drop from (now (block .entry)))) ⌝ }
-{
-    let mut k = 0;
-    while k < count {
-        let i = from + k;
-        let j = at + k;
-        line[j] = block[i];
-        k += 1;
-    }
 }
 
 // The lesser of two numbers.

@@ -1,96 +1,18 @@
--- Each test leads to its row.
+-- The limit of a line's message, then the message.
 use borrow.Author.Needs.{needs}
-use mathlib.Core.Path.{sym, _∙_, refl}
-use mathlib.Core.Bool.{true, false}
-use borrow.Author.Tests.{not-true, not-false}
+use mathlib.Core.Path.{sym, _∙_}
 use Rattle.frame.proofs.judge.Statement.{statement}
 use Rattle.frame.proofs.judge.Tie as tie
-use Rattle.frame.proofs.Rows.{frame-too-long, frame-short, frame-not-giop, frame-by}
+use Rattle.frame.proofs.Rows.{frame-too-long, frame-message}
 
 returns : tie.Need-returns
 returns c = sym (frame-too-long (c .before .before .args .octets .now) (c .if1 .taken))
 
+judge-message-requires : tie.Need-judge-message-requires
+judge-message-requires c κs = search needs
+
 returns-2 : tie.Need-returns-2
-returns-2 c = sym (frame-short (c .before .before .before .args .octets .now) (c .if2 .taken))
-
-word-requires : tie.Need-word-requires
-word-requires c κs = search needs
-
-returns-3 : tie.Need-returns-3
-returns-3 c = sym (frame-not-giop (c .before .before .before .before .before .args .octets .now) (c .before .before .before .if1 .left) (c .before .before .if2 .left) (λ e. c .if3 .taken (c .before .word .ensures ∙ e)))
-
-shared-slice-read-version-exists : tie.Need-shared-slice-read-version-exists
-shared-slice-read-version-exists c = search needs
-
-shared-slice-read-version-exists-2 : tie.Need-shared-slice-read-version-exists-2
-shared-slice-read-version-exists-2 c = search needs
-
-version-exists-requires : tie.Need-version-exists-requires
-version-exists-requires c κs = search needs
-
-returns-4 : tie.Need-returns-4
-returns-4 c =
-    sym (frame-by (c .before .before .before .before .before .before .before .before .before .args .octets .now) (c .before .before .before .before .before .before .before .if1 .left) (c .before .before .before .before .before .before .if2 .left) (sym (c .before .before .before .before .before .word .ensures) ∙ c .before .before .before .before .if3 .left) false _ _
-    (sym (c .before .version-exists .ensures) ∙ not-true _ (c .if4 .taken)) refl refl)
-
-shared-slice-read-flags-allowed : tie.Need-shared-slice-read-flags-allowed
-shared-slice-read-flags-allowed c = search needs
-
-shared-slice-read-flags-allowed-2 : tie.Need-shared-slice-read-flags-allowed-2
-shared-slice-read-flags-allowed-2 c = search needs
-
-flags-allowed-requires : tie.Need-flags-allowed-requires
-flags-allowed-requires c κs = search needs
-
-returns-5 : tie.Need-returns-5
-returns-5 c =
-    sym (frame-by (c .before .before .before .before .before .before .before .before .before .before .before .before .before .args .octets .now) (c .before .before .before .before .before .before .before .before .before .before .before .if1 .left) (c .before .before .before .before .before .before .before .before .before .before .if2 .left) (sym (c .before .before .before .before .before .before .before .before .before .word .ensures) ∙ c .before .before .before .before .before .before .before .before .if3 .left) true false _
-    (sym (c .before .before .before .before .before .version-exists .ensures) ∙ not-false _ (c .before .before .before .before .if4 .left)) (sym (c .before .flags-allowed .ensures) ∙ not-true _ (c .if5 .taken)) refl)
-
-shared-slice-read-type-exists : tie.Need-shared-slice-read-type-exists
-shared-slice-read-type-exists c = search needs
-
-shared-slice-read-type-exists-2 : tie.Need-shared-slice-read-type-exists-2
-shared-slice-read-type-exists-2 c = search needs
-
-type-exists-requires : tie.Need-type-exists-requires
-type-exists-requires c κs = search needs
-
-returns-6 : tie.Need-returns-6
-returns-6 c =
-    sym (frame-by (c .before .before .before .before .before .before .before .before .before .before .before .before .before .before .before .before .before .args .octets .now) (c .before .before .before .before .before .before .before .before .before .before .before .before .before .before .before .if1 .left) (c .before .before .before .before .before .before .before .before .before .before .before .before .before .before .if2 .left) (sym (c .before .before .before .before .before .before .before .before .before .before .before .before .before .word .ensures) ∙ c .before .before .before .before .before .before .before .before .before .before .before .before .if3 .left) true true false
-    (sym (c .before .before .before .before .before .before .before .before .before .version-exists .ensures) ∙ not-false _ (c .before .before .before .before .before .before .before .before .if4 .left)) (sym (c .before .before .before .before .before .flags-allowed .ensures) ∙ not-false _ (c .before .before .before .before .if5 .left))
-    (sym (c .before .type-exists .ensures) ∙ not-true _ (c .if6 .taken)))
-
-sized-requires : tie.Need-sized-requires
-sized-requires c κs = search needs
-
-returns-7 : tie.Need-returns-7
-returns-7 c =
-    c .sized .ensures
-    ∙ sym (frame-by (c .before .before .before .before .before .before .before .before .before .before .before .before .before .before .before .before .before .before .args .octets .now) (c .before .before .before .before .before .before .before .before .before .before .before .before .before .before .before .before .if1 .left) (c .before .before .before .before .before .before .before .before .before .before .before .before .before .before .before .if2 .left) (sym (c .before .before .before .before .before .before .before .before .before .before .before .before .before .before .word .ensures) ∙ c .before .before .before .before .before .before .before .before .before .before .before .before .before .if3 .left) true true true
-    (sym (c .before .before .before .before .before .before .before .before .before .before .version-exists .ensures) ∙ not-false _ (c .before .before .before .before .before .before .before .before .before .if4 .left)) (sym (c .before .before .before .before .before .before .flags-allowed .ensures) ∙ not-false _ (c .before .before .before .before .before .if5 .left))
-    (sym (c .before .before .type-exists .ensures) ∙ not-false _ (c .before .if6 .left)))
+returns-2 c = c .judge-message .ensures ∙ sym (frame-message (c .before .before .before .args .octets .now) (c .before .if1 .left))
 
 pub judge-spec : {M : Type 1} → statement M
-judge-spec =
-    tie.close
-    (tie.spec
-    returns
-    returns-2
-    word-requires
-    returns-3
-    shared-slice-read-version-exists
-    shared-slice-read-version-exists-2
-    version-exists-requires
-    returns-4
-    shared-slice-read-flags-allowed
-    shared-slice-read-flags-allowed-2
-    flags-allowed-requires
-    returns-5
-    shared-slice-read-type-exists
-    shared-slice-read-type-exists-2
-    type-exists-requires
-    returns-6
-    sized-requires
-    returns-7)
+judge-spec = tie.close (tie.spec returns judge-message-requires returns-2)

@@ -1,4 +1,4 @@
--- What `all_digits` has judged so far, with what is left of the line, gives the answer for the whole line.
+-- What `all_digits` has judged so far, with what is left of the characters, gives the answer for all of them.
 use mathlib.Core.Path.{_≡_, refl, _∙_}
 use mathlib.Core.Bool.{_&&_}
 use Prim.Native.Nat.{_≤_, _-_}
@@ -10,10 +10,10 @@ use Rattle.hexline.proofs.all_digits.Statement.{statement}
 use Rattle.hexline.proofs.all_digits.Tie as tie
 
 abbrev Inv-loop : tie.InvT-loop
-Inv-loop line all₀ i₀ all i = (i ≤ length line) × ((all && allDigits (drop i line)) ≡ allDigits line)
+Inv-loop characters all₀ i₀ all i = (i ≤ length characters) × ((all && allDigits (drop i characters)) ≡ allDigits characters)
 
 abbrev μ-loop : tie.MeasureT-loop
-μ-loop line all₀ i₀ all i = length line - i
+μ-loop characters all₀ i₀ all i = length characters - i
 
 loop-holds : tie.Need-loop-holds Inv-loop μ-loop
 loop-holds c = (omega arith, refl)

@@ -1,54 +1,24 @@
--- Each answer of `decode` is `decodedOf`'s, and the octets are written only where nothing is refused.
-use mathlib.Core.Path.{_≡_, refl, sym, _∙_}
-use mathlib.Core.Bool.{true}
+-- A line within the limit is decoded as its digits are.
+use mathlib.Core.Path.{refl, sym, _∙_}
 use borrow.Author.Needs.{needs}
-use borrow.Author.Tests.{not-true, not-false}
 use native.Mathlib.Omega.{arith}
-use Rattle.hexline.specs.Decoding.{allDigits}
-use Rattle.hexline.proofs.Answers.{too-long, odd-count, no-digit, no-room, taken}
+use Rattle.hexline.proofs.Answers.{too-long, within-limit}
 use Rattle.hexline.proofs.decode.Statement.{statement}
 use Rattle.hexline.proofs.decode.Tie as tie
 
 returns : tie.Need-returns
 returns c = record { answer = sym (too-long _ _ (omega arith)); output = refl }
 
-returns-2 : tie.Need-returns-2
-returns-2 c = record { answer = sym (odd-count _ _ (omega arith) (omega arith)); output = refl }
-
-all-digits-requires : tie.Need-all-digits-requires
-all-digits-requires c κs = tt
-
-returns-3 : tie.Need-returns-3
-returns-3 c =
-    let e = sym (c .before .all-digits .ensures) ∙ not-true _ (c .if3 .taken) in
-    record { answer = sym (no-digit _ _ (omega arith) (λ o. omega arith) e); output = refl }
-
--- past the third test every character is a digit
-digits : (c : tie.Else3) → allDigits (c .before .before .before .before .before .before .args .line .now) ≡ true
-digits c = sym (c .before .all-digits .ensures) ∙ not-false _ (c .if3 .left)
-
-returns-4 : tie.Need-returns-4
-returns-4 c =
-    record {
-      answer = sym (no-room _ _ (omega arith) (λ o. omega arith) (digits (c .before)) (omega arith));
-      output = refl;
-    }
-
-write-octets-requires : tie.Need-write-octets-requires
-write-octets-requires c κs = (digits (c .before .before), omega arith)
+decode-digits-requires : tie.Need-decode-digits-requires
+decode-digits-requires c κs = tt
 
 same-length : tie.Need-same-length
 same-length c = search needs
 
-returns-5 : tie.Need-returns-5
-returns-5 c =
-    let e = digits (c .before .before .before .before .before) in
-    record {
-      answer = sym (taken _ _ (omega arith) (λ o. omega arith) e (omega arith));
-      output = c .before .before .write-octets .ensures;
-    }
+returns-2 : tie.Need-returns-2
+returns-2 c =
+    let d = c .before .before .decode-digits .ensures in
+    record { answer = d .answer ∙ sym (within-limit _ _ (omega arith)); output = d .output }
 
 pub decode-spec : {M : Type 1} → statement M
-decode-spec =
-    tie.close
-    (tie.spec returns returns-2 all-digits-requires returns-3 returns-4 write-octets-requires same-length returns-5)
+decode-spec = tie.close (tie.spec returns decode-digits-requires same-length returns-2)

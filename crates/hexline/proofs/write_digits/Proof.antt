@@ -62,7 +62,7 @@ same-length c = c .before .loop .inv .1
 returns : tie.Need-returns Inv-loop μ-loop
 returns c =
     let l = c .before .loop in
-    digits-done _ _ (l .out) (l .k) (c .loop-test .left) (c .before .before .before .before .pre) (l .inv .2)
+    digits-done _ (l .out) (l .k) (c .loop-test .left) ∙ l .inv .2
 
 pub write-digits-spec : {M : Type 1} → statement M
 write-digits-spec =

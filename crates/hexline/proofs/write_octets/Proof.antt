@@ -1,4 +1,4 @@
--- What `write_octets` has written so far, with the octets of what is left of the line, is what it writes in all.
+-- What `write_octets` has written so far, with the octets of the digits that are left, is what it writes in all.
 use mathlib.Core.Path.{_≡_, refl, _∙_}
 use Prim.Native.Nat.{ℕ, _≤_, _<_, _+_, _*_, _-_}
 use native.Mathlib.Omega.{arith}
@@ -11,11 +11,11 @@ use Rattle.hexline.proofs.write_octets.Statement.{statement}
 use Rattle.hexline.proofs.write_octets.Tie as tie
 
 abbrev Inv-loop : tie.InvT-loop
-Inv-loop line out₀ n k₀ out k =
-    (k ≤ n) × (length out ≡ length out₀) × (sets out k (lineOctets (drop (k * 2) line)) ≡ sets out₀ 0 (lineOctets line))
+Inv-loop digits out₀ n k₀ out k =
+    (k ≤ n) × (length out ≡ length out₀) × (sets out k (lineOctets (drop (k * 2) digits)) ≡ sets out₀ 0 (lineOctets digits))
 
 abbrev μ-loop : tie.MeasureT-loop
-μ-loop line out₀ n k₀ out k = n - k
+μ-loop digits out₀ n k₀ out k = n - k
 
 loop-holds : tie.Need-loop-holds Inv-loop μ-loop
 loop-holds c = (omega arith, refl, refl)
@@ -46,7 +46,7 @@ module _ (c : tie.After-value2 Inv-loop μ-loop) where
   start = loop .before .before .before
 
   abbrev at : ℕ → ℕ
-  at k = getD (start .args .line .now) k 0
+  at k = getD (start .args .digits .now) k 0
 
   high-value : (c .before .before .value .result ≡ digitValue (at (loop .loop .k * 2))) × (c .before .before .value .result < 16)
   high-value = digit-value _ (start .pre .0) (loop .loop .k * 2) _ (omega arith) (c .before .before .value .ensures)
@@ -83,7 +83,7 @@ same-length c = c .before .loop .inv .1
 returns : tie.Need-returns Inv-loop μ-loop
 returns c =
     let l = c .before .loop in
-    octets-done _ _ (l .out) (l .k) (c .loop-test .left) (c .before .before .before .before .pre .1) (l .inv .2)
+    octets-done _ (l .out) (l .k) (c .loop-test .left) ∙ l .inv .2
 
 pub write-octets-spec : {M : Type 1} → statement M
 write-octets-spec =

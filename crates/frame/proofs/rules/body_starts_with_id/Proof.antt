@@ -2,7 +2,7 @@
 use mathlib.Core.Path.{refl}
 use Rattle.frame.proofs.rules.body_starts_with_id.Statement.{statement}
 use Rattle.frame.proofs.rules.body_starts_with_id.Tie as tie
-use Rattle.frame.specs.Version.{bodyStartsWithId}
+use Rattle.frame.specs.Messages.{bodyStartsWithId}
 
 returns : tie.Need-returns
 unfolding bodyStartsWithId

@@ -2,7 +2,7 @@
 use borrow.Author.Tests.{eq-eqb, ne-eqb}
 use Rattle.frame.proofs.rules.flags_allowed.Statement.{statement}
 use Rattle.frame.proofs.rules.flags_allowed.Tie as tie
-use Rattle.frame.specs.Version.{flagsAllowed}
+use Rattle.frame.specs.Messages.{flagsAllowed}
 
 returns : tie.Need-returns
 unfolding flagsAllowed

@@ -4,7 +4,7 @@ use mathlib.Core.Path.{sym, _∙_}
 use borrow.Author.Tests.{eq-eqb, ne-eqb}
 use Rattle.frame.proofs.rules.has_request_id.Statement.{statement}
 use Rattle.frame.proofs.rules.has_request_id.Tie as tie
-use Rattle.frame.specs.Version.{hasRequestId}
+use Rattle.frame.specs.Messages.{hasRequestId}
 
 body-starts-with-id-requires : tie.Need-body-starts-with-id-requires
 body-starts-with-id-requires c κs = search needs

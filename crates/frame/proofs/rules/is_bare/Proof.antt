@@ -2,7 +2,7 @@
 use borrow.Author.Tests.{le-leb, lt-leb}
 use Rattle.frame.proofs.rules.is_bare.Statement.{statement}
 use Rattle.frame.proofs.rules.is_bare.Tie as tie
-use Rattle.frame.specs.Version.{isBare}
+use Rattle.frame.specs.Messages.{isBare}
 
 returns : tie.Need-returns
 unfolding isBare

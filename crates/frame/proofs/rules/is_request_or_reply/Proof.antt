@@ -2,7 +2,7 @@
 use borrow.Author.Tests.{le-leb, lt-leb}
 use Rattle.frame.proofs.rules.is_request_or_reply.Statement.{statement}
 use Rattle.frame.proofs.rules.is_request_or_reply.Tie as tie
-use Rattle.frame.specs.Version.{isRequestOrReply}
+use Rattle.frame.specs.Messages.{isRequestOrReply}
 
 returns : tie.Need-returns
 unfolding isRequestOrReply

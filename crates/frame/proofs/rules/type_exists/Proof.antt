@@ -2,7 +2,7 @@
 use borrow.Author.Tests.{eq-eqb, ne-eqb}
 use Rattle.frame.proofs.rules.type_exists.Statement.{statement}
 use Rattle.frame.proofs.rules.type_exists.Tie as tie
-use Rattle.frame.specs.Version.{typeExists}
+use Rattle.frame.specs.Messages.{typeExists}
 
 returns : tie.Need-returns
 unfolding typeExists

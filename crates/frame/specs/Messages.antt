@@ -1,22 +1,20 @@
--- What a version of GIOP has. The major version is 1 in all of them.
---   minorExists            "1.0, 1.1 or 1.2"
---   versionExists          major and minor together
---   flagsAllowed           "1.0: flags octet above 1; later: any of the top six bits set" is refused
---   typeExists             "type above 6 (1.0) or above 7" is refused
---   bodyStartsWithId       "In 1.2 the first four body octets .. are the request id"
---   isRequestOrReply       "types 0, 1, 3, 4": Request, Reply, LocateRequest, LocateReply
---   isCancel, isFragment   types 2 and 7: CancelRequest, Fragment
---   isBare                 types 5 and 6, without a body: CloseConnection, MessageError
---   hasRequestId           where a message has its request id: "a CancelRequest's body is its id in all versions"
+-- What the versions of GIOP say of messages, and the message types. The major version is 1 in all of them.
+--   versionExists       14: "not 1.0, 1.1 or 1.2" is refused
+--   flagsAllowed        15: "1.0: flags octet above 1; later: any of the top six bits set" is refused
+--   typeExists          16: "type above 6 (1.0) or above 7" is refused
+--   bodyStartsWithId    "In 1.2 the first four body octets of types 0, 1, 3, 4 and 7 are the request id"
+--   isRequestOrReply    types 0, 1, 3, 4: Request, Reply, LocateRequest, LocateReply
+--   isCancel            type 2: CancelRequest
+--   isFragment          type 7: Fragment
+--   isBare              types 5 and 6, which have no body: CloseConnection, MessageError
+--   hasRequestId        whether a message has a request id: "a CancelRequest's body is its id in all versions"
 use Prim.Native.Nat.{ℕ}
 use mathlib.Core.Bool.{Bool, cond, _&&_, _||_}
 use lib.Dec.{leb, eqb}
-
-unfoldable pub minorExists : ℕ → Bool
-minorExists minor = leb minor 2
+use Rattle.version.specs.Versions.{majorExists, minorExists}
 
 unfoldable pub versionExists : ℕ → ℕ → Bool
-versionExists major minor = eqb major 1 && minorExists minor
+versionExists major minor = majorExists major && minorExists minor
 
 unfoldable pub flagsAllowed : ℕ → ℕ → Bool
 flagsAllowed minor flags = cond (eqb minor 0) (leb flags 1) (leb flags 3)

@@ -1,0 +1,2 @@
+-- What the calls of the libraries say, as the C interface says it.
+pub mod Calls

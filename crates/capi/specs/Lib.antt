@@ -1,0 +1,2 @@
+-- What the C interface leaves in the numbers that it is lent.
+pub mod Answers

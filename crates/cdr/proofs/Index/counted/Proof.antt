@@ -1,0 +1,51 @@
+-- The count, then its octets.
+use borrow.Author.Needs.{needs}
+use mathlib.Core.Path.{sym, _∙_}
+use Rattle.cdr.proofs.Index.counted.Statement.{statement}
+use Rattle.cdr.proofs.Index.counted.Tie as tie
+use Rattle.cdr.specs.Encapsulation.{countedOf}
+use Rattle.cdr.proofs.Fields.{counted-none, counted-is}
+
+number-requires : tie.Need-number-requires
+number-requires c κs = search needs
+
+enum-known-value : tie.Need-enum-known-value
+enum-known-value c = search needs
+
+enum-told : tie.Need-enum-told
+enum-told c = search needs
+
+returns : tie.Need-returns
+unfolding countedOf
+returns c = let o = c .before .before .before .before .args in sym (counted-none (o .s .now) (o .self) (o .order) (sym (c .before .before .number .ensures) ∙ c .enum-told .given .1))
+
+read-run-requires : tie.Need-read-run-requires
+read-run-requires c κs = search needs
+
+enum-told-2 : tie.Need-enum-told-2
+enum-told-2 c = search needs
+
+enum-told-3 : tie.Need-enum-told-3
+enum-told-3 c = search needs
+
+returns-2 : tie.Need-returns-2
+unfolding countedOf
+returns-2 c = let o = c .before .before .before .before .before .before .before .before .args in sym (counted-is (o .s .now) (o .self) (o .order) _ _ (sym (c .before .before .before .before .before .before .number .ensures) ∙ c .before .before .before .before .value .given .1) _ (sym (c .before .before .read-run .ensures) ∙ c .enum-told2 .given .1))
+
+returns-3 : tie.Need-returns-3
+unfolding countedOf
+returns-3 c = let o = c .before .before .before .before .before .before .before .before .args in sym (counted-is (o .s .now) (o .self) (o .order) _ _ (sym (c .before .before .before .before .before .before .number .ensures) ∙ c .before .before .before .before .value .given .1) _ (sym (c .before .before .read-run .ensures) ∙ c .enum-told3 .given .1))
+
+pub counted-spec : {M : Type 1} → statement M
+counted-spec =
+    tie.close
+    (tie.spec
+    number-requires
+    enum-known-value
+    enum-told
+    returns
+    read-run-requires
+    enum-told-2
+    enum-told-3
+    returns-2
+    returns-3)

@@ -1,0 +1,71 @@
+-- The length, then its text: each answer of the text rule is the string's.
+use borrow.Author.Needs.{needs}
+use mathlib.Core.Path.{sym, _∙_}
+use Rattle.cdr.proofs.Index.string.Statement.{statement}
+use Rattle.cdr.proofs.Index.string.Tie as tie
+use Rattle.cdr.proofs.Fields.{string-none, string-is}
+
+number-requires : tie.Need-number-requires
+number-requires c κs = search needs
+
+enum-known-value : tie.Need-enum-known-value
+enum-known-value c = search needs
+
+enum-told : tie.Need-enum-told
+enum-told c = search needs
+
+returns : tie.Need-returns
+returns c = let o = c .before .before .before .before .args in sym (string-none (o .s .now) (o .self) (o .order) (sym (c .before .before .number .ensures) ∙ c .enum-told .given .1))
+
+read-text-requires : tie.Need-read-text-requires
+read-text-requires c κs = search needs
+
+enum-known-length : tie.Need-enum-known-length
+enum-known-length c = search needs
+
+enum-told-2 : tie.Need-enum-told-2
+enum-told-2 c = search needs
+
+enum-told-3 : tie.Need-enum-told-3
+enum-told-3 c = search needs
+
+enum-told-4 : tie.Need-enum-told-4
+enum-told-4 c = search needs
+
+enum-told-5 : tie.Need-enum-told-5
+enum-told-5 c = search needs
+
+returns-2 : tie.Need-returns-2
+returns-2 c = let o = c .before .before .before .before .before .before .before .before .before .args in sym (string-is (o .s .now) (o .self) (o .order) _ _ (sym (c .before .before .before .before .before .before .before .number .ensures) ∙ c .before .before .before .before .before .value .given .1) _ (sym (c .before .before .before .read-text .ensures) ∙ c .before .length .given .1))
+
+returns-3 : tie.Need-returns-3
+returns-3 c = let o = c .before .before .before .before .before .before .before .before .args in sym (string-is (o .s .now) (o .self) (o .order) _ _ (sym (c .before .before .before .before .before .before .number .ensures) ∙ c .before .before .before .before .value .given .1) _ (sym (c .before .before .read-text .ensures) ∙ c .enum-told2 .given .1))
+
+returns-4 : tie.Need-returns-4
+returns-4 c = let o = c .before .before .before .before .before .before .before .before .args in sym (string-is (o .s .now) (o .self) (o .order) _ _ (sym (c .before .before .before .before .before .before .number .ensures) ∙ c .before .before .before .before .value .given .1) _ (sym (c .before .before .read-text .ensures) ∙ c .enum-told3 .given .1))
+
+returns-5 : tie.Need-returns-5
+returns-5 c = let o = c .before .before .before .before .before .before .before .before .args in sym (string-is (o .s .now) (o .self) (o .order) _ _ (sym (c .before .before .before .before .before .before .number .ensures) ∙ c .before .before .before .before .value .given .1) _ (sym (c .before .before .read-text .ensures) ∙ c .enum-told4 .given .1))
+
+returns-6 : tie.Need-returns-6
+returns-6 c = let o = c .before .before .before .before .before .before .before .before .args in sym (string-is (o .s .now) (o .self) (o .order) _ _ (sym (c .before .before .before .before .before .before .number .ensures) ∙ c .before .before .before .before .value .given .1) _ (sym (c .before .before .read-text .ensures) ∙ c .enum-told5 .given .1))
+
+pub string-spec : {M : Type 1} → statement M
+string-spec =
+    tie.close
+    (tie.spec
+    number-requires
+    enum-known-value
+    enum-told
+    returns
+    read-text-requires
+    enum-known-length
+    enum-told-2
+    enum-told-3
+    enum-told-4
+    enum-told-5
+    returns-2
+    returns-3
+    returns-4
+    returns-5
+    returns-6)

@@ -1,0 +1,61 @@
+-- The fields of an encapsulation, one after the other: v are its octets alone, its own index 0 first.
+--   start        the index of an encapsulation's first octet
+--   fieldOf      a number at its aligned index, and the index after it
+--   stringOf     a length and a text without a bound; `from` and `length` tell its characters without the final zero
+--   countedOf    a count and so many octets; `from` and `count` tell them
+use Prim.Native.Nat.{ℕ, _+_}
+use mathlib.Core.List.{List}
+use Rattle.cdr.specs.declared.Index.{Index}
+use Rattle.cdr.specs.declared.Order.{Order}
+use Rattle.cdr.specs.declared.Size.{Size}
+use Rattle.cdr.specs.declared.Size.the-variants.{Four}
+use Rattle.cdr.specs.declared.Read.{Read}
+use Rattle.cdr.specs.declared.Read.the-variants.{Number, Ends}
+use Rattle.cdr.specs.declared.Text.{Text}
+use Rattle.cdr.specs.declared.Text.the-variants.{Chars, Empty, Over, Short, Zeros}
+use Rattle.cdr.specs.declared.Run.{Run}
+use Rattle.cdr.specs.declared.Run.the-variants.{To, Past}
+use Rattle.cdr.specs.declared.Field.{Field}
+use Rattle.cdr.specs.declared.Field.the-variants.{Value, NoField}
+use Rattle.cdr.specs.declared.Str.{Str}
+use Rattle.cdr.specs.declared.Str.the-variants.{Text as Characters, BadText, NoText}
+use Rattle.cdr.specs.declared.Counted.{Counted}
+use Rattle.cdr.specs.declared.Counted.the-variants.{Octets, NoOctets}
+use Rattle.cdr.specs.Align.{octets, indexOf}
+use Rattle.cdr.specs.Number.{readOf}
+use Rattle.cdr.specs.Text.{textOf, runOf}
+
+abbrev pub start : Index
+start = indexOf 0
+
+abbrev pub fieldFrom : Read → ℕ → Field
+fieldFrom (Number at x) n = Value x (indexOf (at + n))
+fieldFrom Ends n = NoField
+
+unfoldable pub fieldOf : List ℕ → Index → Size → Order → Field
+fieldOf v i size order = fieldFrom (readOf v start (i .0) size order) (octets size)
+
+abbrev pub stringFrom : Text → Index → Str
+stringFrom (Chars length) from = Characters from length
+stringFrom Empty from = BadText
+stringFrom Over from = BadText
+stringFrom Short from = NoText
+stringFrom Zeros from = BadText
+
+abbrev pub stringAfter : List ℕ → Field → Str
+stringAfter v (Value n next) = stringFrom (textOf v (next .0) n 0) next
+stringAfter v NoField = NoText
+
+unfoldable pub stringOf : List ℕ → Index → Order → Str
+stringOf v i order = stringAfter v (fieldOf v i Four order)
+
+abbrev pub countedFrom : Run → Index → ℕ → Counted
+countedFrom (To e) from n = Octets from n
+countedFrom Past from n = NoOctets
+
+abbrev pub countedAfter : List ℕ → Field → Counted
+countedAfter v (Value n next) = countedFrom (runOf v (next .0) n) next n
+countedAfter v NoField = NoOctets
+
+unfoldable pub countedOf : List ℕ → Index → Order → Counted
+countedOf v i order = countedAfter v (fieldOf v i Four order)

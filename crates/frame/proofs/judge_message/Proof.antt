@@ -1,0 +1,92 @@
+-- Each test leads to its row.
+use borrow.Author.Needs.{needs}
+use mathlib.Core.Path.{refl, sym, _∙_}
+use mathlib.Core.Bool.{true, false}
+use borrow.Author.Tests.{not-true, not-false}
+use Rattle.frame.proofs.judge_message.Statement.{statement}
+use Rattle.frame.proofs.judge_message.Tie as tie
+use Rattle.frame.proofs.Rows.{message-short, message-not-giop, message-by}
+
+returns : tie.Need-returns
+returns c = sym (message-short (c .before .before .args .octets .now) (c .if1 .taken))
+
+word-requires : tie.Need-word-requires
+word-requires c κs = search needs
+
+returns-2 : tie.Need-returns-2
+returns-2 c = sym (message-not-giop (c .before .before .before .before .args .octets .now) (c .before .before .if1 .left) (λ e. c .if2 .taken (c .before .word .ensures ∙ e)))
+
+shared-slice-read-version-exists : tie.Need-shared-slice-read-version-exists
+shared-slice-read-version-exists c = search needs
+
+shared-slice-read-version-exists-2 : tie.Need-shared-slice-read-version-exists-2
+shared-slice-read-version-exists-2 c = search needs
+
+version-exists-requires : tie.Need-version-exists-requires
+version-exists-requires c κs = search needs
+
+returns-3 : tie.Need-returns-3
+returns-3 c =
+    sym (message-by (c .before .before .before .before .before .before .before .before .args .octets .now) (c .before .before .before .before .before .before .if1 .left) (sym (c .before .before .before .before .before .word .ensures) ∙ c .before .before .before .before .if2 .left) false _ _
+    (sym (c .before .version-exists .ensures) ∙ not-true _ (c .if3 .taken)) refl refl)
+
+shared-slice-read-flags-allowed : tie.Need-shared-slice-read-flags-allowed
+shared-slice-read-flags-allowed c = search needs
+
+shared-slice-read-flags-allowed-2 : tie.Need-shared-slice-read-flags-allowed-2
+shared-slice-read-flags-allowed-2 c = search needs
+
+flags-allowed-requires : tie.Need-flags-allowed-requires
+flags-allowed-requires c κs = search needs
+
+returns-4 : tie.Need-returns-4
+returns-4 c =
+    sym (message-by (c .before .before .before .before .before .before .before .before .before .before .before .before .args .octets .now) (c .before .before .before .before .before .before .before .before .before .before .if1 .left) (sym (c .before .before .before .before .before .before .before .before .before .word .ensures) ∙ c .before .before .before .before .before .before .before .before .if2 .left) true false _
+    (sym (c .before .before .before .before .before .version-exists .ensures) ∙ not-false _ (c .before .before .before .before .if3 .left)) (sym (c .before .flags-allowed .ensures) ∙ not-true _ (c .if4 .taken)) refl)
+
+shared-slice-read-type-exists : tie.Need-shared-slice-read-type-exists
+shared-slice-read-type-exists c = search needs
+
+shared-slice-read-type-exists-2 : tie.Need-shared-slice-read-type-exists-2
+shared-slice-read-type-exists-2 c = search needs
+
+type-exists-requires : tie.Need-type-exists-requires
+type-exists-requires c κs = search needs
+
+returns-5 : tie.Need-returns-5
+returns-5 c =
+    sym (message-by (c .before .before .before .before .before .before .before .before .before .before .before .before .before .before .before .before .args .octets .now) (c .before .before .before .before .before .before .before .before .before .before .before .before .before .before .if1 .left) (sym (c .before .before .before .before .before .before .before .before .before .before .before .before .before .word .ensures) ∙ c .before .before .before .before .before .before .before .before .before .before .before .before .if2 .left) true true false
+    (sym (c .before .before .before .before .before .before .before .before .before .version-exists .ensures) ∙ not-false _ (c .before .before .before .before .before .before .before .before .if3 .left)) (sym (c .before .before .before .before .before .flags-allowed .ensures) ∙ not-false _ (c .before .before .before .before .if4 .left))
+    (sym (c .before .type-exists .ensures) ∙ not-true _ (c .if5 .taken)))
+
+sized-requires : tie.Need-sized-requires
+sized-requires c κs = search needs
+
+returns-6 : tie.Need-returns-6
+returns-6 c =
+    c .sized .ensures
+    ∙ sym (message-by (c .before .before .before .before .before .before .before .before .before .before .before .before .before .before .before .before .before .args .octets .now) (c .before .before .before .before .before .before .before .before .before .before .before .before .before .before .before .if1 .left) (sym (c .before .before .before .before .before .before .before .before .before .before .before .before .before .before .word .ensures) ∙ c .before .before .before .before .before .before .before .before .before .before .before .before .before .if2 .left) true true true
+    (sym (c .before .before .before .before .before .before .before .before .before .before .version-exists .ensures) ∙ not-false _ (c .before .before .before .before .before .before .before .before .before .if3 .left)) (sym (c .before .before .before .before .before .before .flags-allowed .ensures) ∙ not-false _ (c .before .before .before .before .before .if4 .left))
+    (sym (c .before .before .type-exists .ensures) ∙ not-false _ (c .before .if5 .left)))
+
+pub judge-message-spec : {M : Type 1} → statement M
+judge-message-spec =
+    tie.close
+    (tie.spec
+    returns
+    word-requires
+    returns-2
+    shared-slice-read-version-exists
+    shared-slice-read-version-exists-2
+    version-exists-requires
+    returns-3
+    shared-slice-read-flags-allowed
+    shared-slice-read-flags-allowed-2
+    flags-allowed-requires
+    returns-4
+    shared-slice-read-type-exists
+    shared-slice-read-type-exists-2
+    type-exists-requires
+    returns-5
+    sized-requires
+    returns-6)

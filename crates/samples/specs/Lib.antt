@@ -1,0 +1,2 @@
+-- The samples of paper 01 that are to be proved.
+pub mod Samples

@@ -1,0 +1,2 @@
+-- The versions of GIOP and IIOP that are read.
+pub mod Versions
