@@ -19,9 +19,6 @@ fn main() -> ExitCode {
             println!("cargo:rerun-if-changed={}", folder.join(ARCHIVE).display());
             println!("cargo:rustc-link-search=native={}", folder.display());
             println!("cargo:rustc-link-lib=static=capi");
-            // The archive may hold its own copy of the language's runtime, with
-            // a few names that are in this program's too. They do the same.
-            println!("cargo:rustc-link-arg=-Wl,--allow-multiple-definition");
             ExitCode::SUCCESS
         }
         Err(reason) => {

@@ -1,5 +1,6 @@
 //! Holds the proved library's answers and lent memory to the second program's,
-//! over inputs that are the same at every run.
+//! over inputs that are the same at every run. With the proved program's path as
+//! an argument, holds that program's output too.
 
 mod archive;
 mod chance;
@@ -8,25 +9,37 @@ mod frames;
 mod judge;
 mod lent;
 mod lines;
+mod recordings;
 mod tally;
 
+use std::env;
 use std::io::{self, Write};
+use std::path::Path;
 use std::process::ExitCode;
 
 use crate::judge::Judge;
 
 /// Judges all inputs and writes the tally; succeeds if nothing is wrong.
 fn main() -> ExitCode {
-    let mut judge = Judge::new();
-    lines::judge(&mut judge);
-    frames::judge(&mut judge);
-    let tally = judge.tally;
-    match io::stdout().write_all(tally.to_string().as_bytes()) {
-        Ok(()) if tally.failed() == 0 => ExitCode::SUCCESS,
-        Ok(()) => ExitCode::FAILURE,
+    match run() {
+        Ok(0) => ExitCode::SUCCESS,
+        Ok(_) => ExitCode::FAILURE,
         Err(error) => {
-            let _ = writeln!(io::stderr(), "compare: writing failed: {error}");
+            let _ = writeln!(io::stderr(), "compare: {error}");
             ExitCode::FAILURE
         }
     }
+}
+
+/// Judges all inputs and writes the tally; says how many things are wrong.
+fn run() -> io::Result<u64> {
+    let mut judge = Judge::new();
+    lines::judge(&mut judge);
+    frames::judge(&mut judge);
+    if let Some(program) = env::args_os().nth(1) {
+        recordings::judge(&mut judge, Path::new(&program))?;
+    }
+    let tally = judge.tally;
+    io::stdout().write_all(tally.to_string().as_bytes())?;
+    Ok(tally.failed())
 }
