@@ -7,14 +7,16 @@ use native.Mathlib.Numerals.{add-one}
 use native.Mathlib.Omega.{arith}
 use lib.ListN.{getD, length, drop, set, replicate, length-replicate, getD-replicate, drop-of-length-le}
 use lib.Seq.{sets, drop-cons}
-use borrow.Author.Tests.{lt-ltb, le-ltb}
 use Rattle.cdr.specs.declared.Order.{Order}
 use Rattle.cdr.specs.declared.Order.the-variants.{Big, Little}
+use Rattle.cdr.specs.declared.Run.the-variants.{To, Past}
 use Rattle.cdr.specs.declared.Written.{Written}
 use Rattle.cdr.specs.declared.Written.the-variants.{Upto, NoRoom}
 use Rattle.cdr.specs.Number.{octetsOf, littleOctets}
 use Rattle.cdr.specs.Inner.{firstHalf, secondHalf}
 use Rattle.cdr.specs.Write.{Stored, holding}
+use Rattle.cdr.specs.Text.{runOf}
+use Rattle.cdr.proofs.Texts.{run-to}
 use Rattle.cdr.proofs.Numbers.{octets-halves, octets-length}
 
 pub sets-append : (l : List ℕ) (i : ℕ) (xs ys : List ℕ) → sets l i (xs ++ ys) ≡ sets (sets l i xs) (i + length xs) ys
@@ -64,15 +66,15 @@ stored-halves order n at x p q out l m e f g h =
 
 -- the two answers of a writer
 module _ (out : List ℕ) (at n : ℕ) (xs : List ℕ) (e : length xs ≡ n) where
-  pub no-room : length out < at + n → Stored out at xs NoRoom out
-  no-room h = record { answer = rw (e, lt-ltb (length out) (at + n) h); contents = refl }
+  pub no-room : runOf out at n ≡ Past → Stored out at xs NoRoom out
+  no-room h = record { answer = rw (e, h); contents = refl }
 
-  pub written : at + n ≤ length out → (last : List ℕ) → last ≡ sets out at xs → Stored out at xs (Upto (at + n)) last
-  written h last f = record { answer = rw (e, le-ltb (length out) (at + n) h); contents = f }
+  pub written : (end : ℕ) → runOf out at n ≡ To end → (last : List ℕ) → last ≡ sets out at xs → Stored out at xs (Upto end) last
+  written end h last f = record { answer = rw (e, h); contents = f }
 
 -- where the octets fit, the buffer holds them
 pub stored-fits : (out : List ℕ) (at : ℕ) (xs : List ℕ) (r : Written) (last : List ℕ) → at + length xs ≤ length out
     → Stored out at xs r last → last ≡ sets out at xs
 stored-fits out at xs r last h s =
-    let e : r ≡ Upto (at + length xs) = s .answer ∙ rw (le-ltb (length out) (at + length xs) h) in
+    let e : r ≡ Upto (at + length xs) = s .answer ∙ rw (run-to out at (length xs) h) in
     s .contents ∙ ap (λ (w : Written). holding w out at xs) e

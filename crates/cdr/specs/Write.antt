@@ -1,19 +1,24 @@
 -- Octets stored in a lent buffer, where they fit.
---   writtenOf    whether n octets fit from `at` on, and where they end
+--   writtenOf    whether n octets fit from `at` on, by the rule of counted octets, and where they end
 --   holding      what the buffer then holds: the octets stored from `at` on, one after the other, and the rest as it was
 --   Stored       both, as the contract of a writer that was lent `out` says them
-use Prim.Native.Nat.{ℕ, _+_}
+use Prim.Native.Nat.{ℕ}
 use mathlib.Core.List.{List}
-use mathlib.Core.Bool.{cond}
-use lib.Dec.{ltb}
 use lib.ListN.{length}
 use lib.Seq.{sets}
 use mathlib.Core.Path.{_≡_}
+use Rattle.cdr.specs.declared.Run.{Run}
+use Rattle.cdr.specs.declared.Run.the-variants.{To, Past}
 use Rattle.cdr.specs.declared.Written.{Written}
 use Rattle.cdr.specs.declared.Written.the-variants.{Upto, NoRoom}
+use Rattle.cdr.specs.Text.{runOf}
+
+abbrev pub writtenFrom : Run → Written
+writtenFrom (To end) = Upto end
+writtenFrom Past = NoRoom
 
 abbrev pub writtenOf : List ℕ → ℕ → ℕ → Written
-writtenOf out at n = cond (ltb (length out) (at + n)) NoRoom (Upto (at + n))
+writtenOf out at n = writtenFrom (runOf out at n)
 
 abbrev pub holding : Written → List ℕ → ℕ → List ℕ → List ℕ
 holding NoRoom out at xs = out

@@ -281,42 +281,31 @@ pub enum Written {
 pub fn write_number(out: &mut [u8], at: usize, size: Size, order: Order, x: u64) -> Written
     ensures { λ r. ⌜ Stored (now (out .entry)) at (octetsOf order (octets size) x) r (now (out .exit)) ⌝ }
 {
-    let n = size.octets();
-    if out.len() < at {
+    let Run::To(end) = read_run(out, at, size.octets()) else {
         return Written::NoRoom;
-    }
-    if out.len() - at < n {
-        return Written::NoRoom;
-    }
+    };
     store::number(out, at, size, order, x);
-    Written::Upto(at + n)
+    Written::Upto(end)
 }
 
 // Writes zeros from `at` on, as a gap holds them.
 pub fn write_zeros(out: &mut [u8], at: usize, count: usize) -> Written
     ensures { λ r. ⌜ Stored (now (out .entry)) at (replicate count 0) r (now (out .exit)) ⌝ }
 {
-    if out.len() < at {
+    let Run::To(end) = read_run(out, at, count) else {
         return Written::NoRoom;
-    }
-    if out.len() - at < count {
-        return Written::NoRoom;
-    }
+    };
     store::zeros(out, at, count);
-    Written::Upto(at + count)
+    Written::Upto(end)
 }
 
 // Writes octets from `at` on, as they are.
 pub fn write_octets(out: &mut [u8], at: usize, octets: &[u8]) -> Written
     ensures { λ r. ⌜ Stored (now (out .entry)) at (now («octets» .entry)) r (now (out .exit)) ⌝ }
 {
-    let n = octets.len();
-    if out.len() < at {
+    let Run::To(end) = read_run(out, at, octets.len()) else {
         return Written::NoRoom;
-    }
-    if out.len() - at < n {
-        return Written::NoRoom;
-    }
+    };
     store::copy(out, at, octets);
-    Written::Upto(at + n)
+    Written::Upto(end)
 }

@@ -1,47 +1,62 @@
--- The two tests, and then the store.
+-- The octets fit where a run of so many does; then they are stored.
 use borrow.Author.Needs.{needs}
+use mathlib.Core.Path.{_≡_, sym, _∙_}
 use native.Mathlib.Omega.{arith}
+use lib.ListN.{length}
 use Rattle.cdr.proofs.write_number.Statement.{statement}
 use Rattle.cdr.proofs.write_number.Tie as tie
 use Rattle.cdr.specs.Align.{octets}
+use Rattle.cdr.specs.Number.{octetsOf}
 use Rattle.cdr.proofs.Numbers.{octets-length}
+use Rattle.cdr.proofs.Texts.{run-facts}
 use Rattle.cdr.proofs.Stores.{no-room, written}
+
+-- the number of octets that are written
+count-is : (c : tie.After-octets) → length (octetsOf (c .before .before .before .args .order) (octets (c .before .before .before .args .size)) (c .before .before .before .args .x)) ≡ c .octets .result
+count-is c = octets-length (c .before .before .before .args .order) (octets (c .before .before .before .args .size)) (c .before .before .before .args .x) ∙ sym (c .octets .ensures)
 
 octets-requires : tie.Need-octets-requires
 octets-requires c κs = search needs
 
-returns : tie.Need-returns
-returns c = let o = c .before .before .before .args in no-room (o .out .now) (o .at) (octets (o .size)) _ (octets-length (o .order) (octets (o .size)) (o .x)) (omega arith)
+read-run-requires : tie.Need-read-run-requires
+read-run-requires c κs = search needs
 
-sub-if2 : tie.Need-sub-if2
-sub-if2 c = search needs
+enum-known-end : tie.Need-enum-known-end
+enum-known-end c = search needs
 
-returns-2 : tie.Need-returns-2
-returns-2 c = let o = c .before .before .before .before .args in no-room (o .out .now) (o .at) (octets (o .size)) _ (octets-length (o .order) (octets (o .size)) (o .x)) (omega arith)
-
-number-requires : tie.Need-number-requires
-number-requires c κs = search needs
-
-add-t7 : tie.Need-add-t7
-add-t7 c = search needs
+enum-told : tie.Need-enum-told
+enum-told c = search needs
 
 same-length : tie.Need-same-length
 same-length c = search needs
 
-returns-3 : tie.Need-returns-3
-returns-3 c =
+returns : tie.Need-returns
+returns c = let o = c .before .before .before .before .before .before .args in no-room (o .out .now) (o .at) _ _ (count-is (c .before .before .before)) (sym (c .before .before .read-run .ensures) ∙ c .enum-told .given .1)
+
+number-requires : tie.Need-number-requires
+number-requires c κs =
     let o = c .before .before .before .before .before .before .before .before .args in
-    rw (c .before .before .before .before .before .before .octets .ensures) (written (o .out .now) (o .at) (octets (o .size)) _ (octets-length (o .order) (octets (o .size)) (o .x)) (omega arith) _ (c .before .before .number .ensures))
+    let f = run-facts (o .out .now) (o .at) _ _ (sym (c .before .before .before .before .read-run .ensures) ∙ c .before .before .end .given .1) .1 in
+    omega (arith, f, c .before .before .before .before .before .octets .ensures)
+
+same-length-2 : tie.Need-same-length-2
+same-length-2 c = search needs
+
+returns-2 : tie.Need-returns-2
+returns-2 c =
+    let o = c .before .before .before .before .before .before .before .before .before .before .before .args in
+    written (o .out .now) (o .at) _ _ (count-is (c .before .before .before .before .before .before .before .before)) _ (sym (c .before .before .before .before .before .before .before .read-run .ensures) ∙ c .before .before .before .before .before .end .given .1) _ (c .before .before .number .ensures)
 
 pub write-number-spec : {M : Type 1} → statement M
 write-number-spec =
     tie.close
     (tie.spec
     octets-requires
-    returns
-    sub-if2
-    returns-2
-    number-requires
-    add-t7
+    read-run-requires
+    enum-known-end
+    enum-told
     same-length
-    returns-3)
+    returns
+    number-requires
+    same-length-2
+    returns-2)

@@ -1,32 +1,47 @@
--- The two tests, and then the store.
+-- The octets fit where a run of so many does; then they are stored.
 use borrow.Author.Needs.{needs}
-use mathlib.Core.Path.{refl}
+use mathlib.Core.Path.{refl, sym, _∙_}
 use native.Mathlib.Omega.{arith}
 use Rattle.cdr.proofs.write_octets.Statement.{statement}
 use Rattle.cdr.proofs.write_octets.Tie as tie
+use Rattle.cdr.proofs.Texts.{run-facts}
 use Rattle.cdr.proofs.Stores.{no-room, written}
 
-returns : tie.Need-returns
-returns c = let o = c .before .before .before .args in no-room (o .out .now) (o .at) _ (o .octets .now) refl (omega arith)
+read-run-requires : tie.Need-read-run-requires
+read-run-requires c κs = search needs
 
-sub-if2 : tie.Need-sub-if2
-sub-if2 c = search needs
+enum-known-end : tie.Need-enum-known-end
+enum-known-end c = search needs
 
-returns-2 : tie.Need-returns-2
-returns-2 c = let o = c .before .before .before .before .args in no-room (o .out .now) (o .at) _ (o .octets .now) refl (omega arith)
-
-copy-requires : tie.Need-copy-requires
-copy-requires c κs = search needs
-
-add-t5 : tie.Need-add-t5
-add-t5 c = search needs
+enum-told : tie.Need-enum-told
+enum-told c = search needs
 
 same-length : tie.Need-same-length
 same-length c = search needs
 
-returns-3 : tie.Need-returns-3
-returns-3 c = let o = c .before .before .before .before .before .before .before .before .args in written (o .out .now) (o .at) _ (o .octets .now) refl (omega arith) _ (c .before .before .copy .ensures)
+returns : tie.Need-returns
+returns c = let o = c .before .before .before .before .before .before .args in no-room (o .out .now) (o .at) _ (o .octets .now) refl (sym (c .before .before .read-run .ensures) ∙ c .enum-told .given .1)
+
+copy-requires : tie.Need-copy-requires
+copy-requires c κs = let o = c .before .before .before .before .before .before .before .before .args in omega (arith, run-facts (o .out .now) (o .at) _ _ (sym (c .before .before .before .before .read-run .ensures) ∙ c .before .before .end .given .1) .1)
+
+same-length-2 : tie.Need-same-length-2
+same-length-2 c = search needs
+
+returns-2 : tie.Need-returns-2
+returns-2 c =
+    let o = c .before .before .before .before .before .before .before .before .before .before .before .args in
+    written (o .out .now) (o .at) _ (o .octets .now) refl _ (sym (c .before .before .before .before .before .before .before .read-run .ensures) ∙ c .before .before .before .before .before .end .given .1) _ (c .before .before .copy .ensures)
 
 pub write-octets-spec : {M : Type 1} → statement M
 write-octets-spec =
-    tie.close (tie.spec returns sub-if2 returns-2 copy-requires add-t5 same-length returns-3)
+    tie.close
+    (tie.spec
+    read-run-requires
+    enum-known-end
+    enum-told
+    same-length
+    returns
+    copy-requires
+    same-length-2
+    returns-2)

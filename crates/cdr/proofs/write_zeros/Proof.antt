@@ -1,33 +1,49 @@
--- The two tests, and then the store.
+-- The zeros fit where a run of so many does; then they are stored.
 use borrow.Author.Needs.{needs}
+use mathlib.Core.Path.{sym, _∙_}
 use Prim.Native.Nat.{ℕ}
-use native.Mathlib.Omega.{arith}
 use lib.ListN.{length-replicate}
+use native.Mathlib.Omega.{arith}
 use Rattle.cdr.proofs.write_zeros.Statement.{statement}
 use Rattle.cdr.proofs.write_zeros.Tie as tie
+use Rattle.cdr.proofs.Texts.{run-facts}
 use Rattle.cdr.proofs.Stores.{no-room, written}
 
-returns : tie.Need-returns
-returns c = let o = c .before .before .args in no-room (o .out .now) (o .at) (o .count) _ (length-replicate {A = ℕ} (o .count) 0) (omega arith)
+read-run-requires : tie.Need-read-run-requires
+read-run-requires c κs = search needs
 
-sub-if2 : tie.Need-sub-if2
-sub-if2 c = search needs
+enum-known-end : tie.Need-enum-known-end
+enum-known-end c = search needs
 
-returns-2 : tie.Need-returns-2
-returns-2 c = let o = c .before .before .before .args in no-room (o .out .now) (o .at) (o .count) _ (length-replicate {A = ℕ} (o .count) 0) (omega arith)
-
-zeros-requires : tie.Need-zeros-requires
-zeros-requires c κs = search needs
-
-add-t4 : tie.Need-add-t4
-add-t4 c = search needs
+enum-told : tie.Need-enum-told
+enum-told c = search needs
 
 same-length : tie.Need-same-length
 same-length c = search needs
 
-returns-3 : tie.Need-returns-3
-returns-3 c = let o = c .before .before .before .before .before .before .before .args in written (o .out .now) (o .at) (o .count) _ (length-replicate {A = ℕ} (o .count) 0) (omega arith) _ (c .before .before .zeros .ensures)
+returns : tie.Need-returns
+returns c = let o = c .before .before .before .before .before .args in no-room (o .out .now) (o .at) _ _ (length-replicate {A = ℕ} (o .count) 0) (sym (c .before .before .read-run .ensures) ∙ c .enum-told .given .1)
+
+zeros-requires : tie.Need-zeros-requires
+zeros-requires c κs = let o = c .before .before .before .before .before .before .before .args in omega (arith, run-facts (o .out .now) (o .at) _ _ (sym (c .before .before .before .before .read-run .ensures) ∙ c .before .before .end .given .1) .1)
+
+same-length-2 : tie.Need-same-length-2
+same-length-2 c = search needs
+
+returns-2 : tie.Need-returns-2
+returns-2 c =
+    let o = c .before .before .before .before .before .before .before .before .before .before .args in
+    written (o .out .now) (o .at) _ _ (length-replicate {A = ℕ} (o .count) 0) _ (sym (c .before .before .before .before .before .before .before .read-run .ensures) ∙ c .before .before .before .before .before .end .given .1) _ (c .before .before .zeros .ensures)
 
 pub write-zeros-spec : {M : Type 1} → statement M
 write-zeros-spec =
-    tie.close (tie.spec returns sub-if2 returns-2 zeros-requires add-t4 same-length returns-3)
+    tie.close
+    (tie.spec
+    read-run-requires
+    enum-known-end
+    enum-told
+    same-length
+    returns
+    zeros-requires
+    same-length-2
+    returns-2)
