@@ -1,3 +1,4 @@
--- Laws of the table that several proofs cite.
-pub mod Word
+-- Laws of the table that several proofs and later crates cite.
+pub mod Accepts
 pub mod Rows
+pub mod Word
