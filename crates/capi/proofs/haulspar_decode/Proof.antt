@@ -32,25 +32,33 @@ same-length : tie.Need-same-length
 same-length c = search needs
 
 returns : tie.Need-returns
-returns c = decodes-c _ _ _ _ _ _ _ (c .before .before .before .before .before .decode .ensures) (rw (c .before .answer .given .1)) (rw (c .before .answer .given .1))
+returns c =
+    let at-decode = c .before .before .before .before .before in
+    decodes-c _ _ _ _ _ _ _ (at-decode .decode .ensures) (rw (c .before .answer .given .1)) (rw (c .before .answer .given .1))
 
 same-length-2 : tie.Need-same-length-2
 same-length-2 c = search needs
 
 returns-2 : tie.Need-returns-2
-returns-2 c = decodes-c _ _ _ _ _ _ _ (c .before .before .before .before .before .decode .ensures) (c .number .ensures) (rw (c .before .enum-told .given .1))
+returns-2 c =
+    let at-decode = c .before .before .before .before .before in
+    decodes-c _ _ _ _ _ _ _ (at-decode .decode .ensures) (c .number .ensures) (rw (c .before .enum-told .given .1))
 
 same-length-3 : tie.Need-same-length-3
 same-length-3 c = search needs
 
 returns-3 : tie.Need-returns-3
-returns-3 c = decodes-c _ _ _ _ _ _ _ (c .before .before .before .before .before .decode .ensures) (c .number2 .ensures) (rw (c .before .enum-told2 .given .1))
+returns-3 c =
+    let at-decode = c .before .before .before .before .before in
+    decodes-c _ _ _ _ _ _ _ (at-decode .decode .ensures) (c .number2 .ensures) (rw (c .before .enum-told2 .given .1))
 
 same-length-4 : tie.Need-same-length-4
 same-length-4 c = search needs
 
 returns-4 : tie.Need-returns-4
-returns-4 c = decodes-c _ _ _ _ _ _ _ (c .before .before .before .before .before .decode .ensures) (c .number3 .ensures) (rw (c .before .enum-told3 .given .1))
+returns-4 c =
+    let at-decode = c .before .before .before .before .before in
+    decodes-c _ _ _ _ _ _ _ (at-decode .decode .ensures) (c .number3 .ensures) (rw (c .before .enum-told3 .given .1))
 
 pub haulspar-decode-spec : {M : Type 1} → statement M
 haulspar-decode-spec =

@@ -20,13 +20,17 @@ same-length : tie.Need-same-length
 same-length c = search needs
 
 returns : tie.Need-returns
-returns c = encodes-c _ _ _ _ _ _ _ (c .before .before .before .before .before .encode .ensures) (rw (c .before .answer .given .1)) (rw (c .before .answer .given .1))
+returns c =
+    let at-encode = c .before .before .before .before .before in
+    encodes-c _ _ _ _ _ _ _ (at-encode .encode .ensures) (rw (c .before .answer .given .1)) (rw (c .before .answer .given .1))
 
 same-length-2 : tie.Need-same-length-2
 same-length-2 c = search needs
 
 returns-2 : tie.Need-returns-2
-returns-2 c = encodes-c _ _ _ _ _ _ _ (c .before .before .before .before .before .encode .ensures) (c .number .ensures) (rw (c .before .enum-told .given .1))
+returns-2 c =
+    let at-encode = c .before .before .before .before .before in
+    encodes-c _ _ _ _ _ _ _ (at-encode .encode .ensures) (c .number .ensures) (rw (c .before .enum-told .given .1))
 
 pub haulspar-encode-spec : {M : Type 1} → statement M
 haulspar-encode-spec =

@@ -20,10 +20,14 @@ number-requires : tie.Need-number-requires
 number-requires c κs = search needs
 
 returns : tie.Need-returns
-returns c = judges-c _ _ _ _ _ (c .before .before .before .before .judge .ensures) (rw (c .before .before .h .given .1)) (rw (c .before .before .h .given .1) (c .numbers .ensures))
+returns c =
+    let at-judge = c .before .before .before .before in
+    judges-c _ _ _ _ _ (at-judge .judge .ensures) (rw (c .before .before .h .given .1)) (rw (c .before .before .h .given .1) (c .numbers .ensures))
 
 returns-2 : tie.Need-returns-2
-returns-2 c = judges-c _ _ _ _ _ (c .before .before .before .before .judge .ensures) (rw (c .before .before .row .given .1) (c .number .ensures)) (rw (c .before .before .row .given .1))
+returns-2 c =
+    let at-judge = c .before .before .before .before in
+    judges-c _ _ _ _ _ (at-judge .judge .ensures) (rw (c .before .before .row .given .1) (c .number .ensures)) (rw (c .before .before .row .given .1))
 
 pub haulspar-frame-spec : {M : Type 1} → statement M
 haulspar-frame-spec =

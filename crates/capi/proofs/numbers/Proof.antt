@@ -40,10 +40,18 @@ cast-t15 : tie.Need-cast-t15
 cast-t15 c = search needs
 
 returns : tie.Need-returns
-returns c = rw (c .before .before .before .before .before .before .before .octet .ensures, c .before .before .before .before .before .before .flag-number .ensures, c .before .before .before .before .id .given .1)
+returns c =
+    let at-id = c .before .before .before .before in
+    let at-flag-number = at-id .before .before in
+    let at-octet = at-flag-number .before in
+    rw (at-octet .octet .ensures, at-flag-number .flag-number .ensures, at-id .id .given .1)
 
 returns-2 : tie.Need-returns-2
-returns-2 c = rw (c .before .before .before .before .before .before .octet .ensures, c .before .before .before .before .before .flag-number .ensures, c .before .before .before .enum-told .given .1)
+returns-2 c =
+    let at-enum-told = c .before .before .before in
+    let at-flag-number = at-enum-told .before .before in
+    let at-octet = at-flag-number .before in
+    rw (at-octet .octet .ensures, at-flag-number .flag-number .ensures, at-enum-told .enum-told .given .1)
 
 pub numbers-spec : {M : Type 1} → statement M
 numbers-spec =

@@ -9,12 +9,21 @@ use Rattle.cdr.specs.Align.{octets, behindGap, indexOf, aligned}
 use Rattle.cdr.proofs.Alignment.{octets-small, gap-small, behind-gap, aligned-at, aligned-beyond, read-ends, read-number}
 
 -- the index is the aligned one
-index-is : (c : tie.After-known-told) → c .before .index .given .0 .0 .0 ≡ aligned (c .before .before .before .before .before .before .before .args .start .0 % 8 + c .before .before .before .before .before .before .before .args .at) (octets (c .before .before .before .before .before .before .before .args .size))
-index-is c = let o = c .before .before .before .before .before .before .before .args in aligned-at (indexOf (o .start .0 % 8 + o .at)) (o .size) (c .before .index .given .0 .0) (sym (c .before .before .before .aligned .ensures) ∙ c .before .index .given .1)
+index-is : (c : tie.After-known-told) →
+    let at-start = c .before .before .before .before .before .before .before in
+    c .before .index .given .0 .0 .0 ≡ aligned (at-start .args .start .0 % 8 + at-start .args .at) (octets (at-start .args .size))
+index-is c =
+    let at-aligned = c .before .before .before in
+    let at-start = at-aligned .before .before .before .before in
+    let o = at-start .args in aligned-at (indexOf (o .start .0 % 8 + o .at)) (o .size) (c .before .index .given .0 .0) (sym (at-aligned .aligned .ensures) ∙ c .before .index .given .1)
 
 -- where the number starts
-place-is : (c : tie.After-known-told) → c .before .index .given .0 .0 .0 - c .before .before .before .before .before .before .before .args .start .0 % 8 ≡ behindGap (c .before .before .before .before .before .before .before .args .start) (c .before .before .before .before .before .before .before .args .at) (octets (c .before .before .before .before .before .before .before .args .size))
-place-is c = let o = c .before .before .before .before .before .before .before .args in ap (λ (k : ℕ). k - o .start .0 % 8) (index-is c) ∙ behind-gap (o .size) (o .start) (o .at)
+place-is : (c : tie.After-known-told) →
+    let at-start = c .before .before .before .before .before .before .before in
+    c .before .index .given .0 .0 .0 - at-start .args .start .0 % 8 ≡ behindGap (at-start .args .start) (at-start .args .at) (octets (at-start .args .size))
+place-is c =
+    let at-start = c .before .before .before .before .before .before .before in
+    let o = at-start .args in ap (λ (k : ℕ). k - o .start .0 % 8) (index-is c) ∙ behind-gap (o .size) (o .start) (o .at)
 
 returns : tie.Need-returns
 returns c =
@@ -35,7 +44,8 @@ enum-told c = search needs
 
 returns-2 : tie.Need-returns-2
 returns-2 c =
-    let o = c .before .before .before .before .before .before .args in
+    let at-start = c .before .before .before .before .before .before in
+    let o = at-start .args in
     let h = aligned-beyond (indexOf (o .start .0 % 8 + o .at)) (o .size) (sym (c .before .before .aligned .ensures) ∙ c .enum-told .given .1) in
     absurd (omega (arith, gap-small (o .size) (o .start .0 % 8 + o .at), octets-small (o .size)))
 

@@ -11,11 +11,18 @@ use Rattle.cdr.specs.Text.{endsText}
 use Rattle.cdr.proofs.Texts.{text-empty, text-over, text-short, text-zeros, run-facts, run-short}
 
 -- where the text ends, and that it does so inside
-end-is : (c : tie.After-known-told) → (c .before .end .given .0 .0 ≡ c .before .before .before .before .before .before .before .before .args .at + c .before .before .before .before .before .before .before .before .args .length) × (c .before .before .before .before .before .before .before .before .args .at + c .before .before .before .before .before .before .before .before .args .length ≤ length (c .before .before .before .before .before .before .before .before .args .s .now))
-end-is c = let o = c .before .before .before .before .before .before .before .before .args in run-facts (o .s .now) (o .at) (o .length) _ (sym (c .before .before .before .read-run .ensures) ∙ c .before .end .given .1)
+end-is : (c : tie.After-known-told) →
+    let at-start = c .before .before .before .before .before .before .before .before in
+    (c .before .end .given .0 .0 ≡ at-start .args .at + at-start .args .length) × (at-start .args .at + at-start .args .length ≤ length (at-start .args .s .now))
+end-is c =
+    let at-read-run = c .before .before .before in
+    let at-start = at-read-run .before .before .before .before .before in
+    let o = at-start .args in run-facts (o .s .now) (o .at) (o .length) _ (sym (at-read-run .read-run .ensures) ∙ c .before .end .given .1)
 
 -- the part is the text's octets
-zeros-is : (c : tie.After-ends-text) → c .ends-text .result ≡ endsText (take (c .before .before .before .before .before .before .before .before .before .before .args .length) (drop (c .before .before .before .before .before .before .before .before .before .before .args .at) (c .before .before .before .before .before .before .before .before .before .before .args .s .now)))
+zeros-is : (c : tie.After-ends-text) →
+    let at-start = c .before .before .before .before .before .before .before .before .before .before in
+    c .ends-text .result ≡ endsText (take (at-start .args .length) (drop (at-start .args .at) (at-start .args .s .now)))
 zeros-is c =
     let o = c .before .before .before .before .before .before .before .before .before .before .args in
     let h = end-is (c .before .before) .0 in
@@ -32,7 +39,9 @@ over-bound-requires : tie.Need-over-bound-requires
 over-bound-requires c κs = search needs
 
 returns-2 : tie.Need-returns-2
-returns-2 c = let o = c .before .before .before .before .args in sym (text-over (o .s .now) (o .at) (o .length) (o .bound) (c .before .before .if1 .left) (sym (c .before .over-bound .ensures) ∙ c .if2 .taken))
+returns-2 c =
+    let at-start = c .before .before .before .before in
+    let o = at-start .args in sym (text-over (o .s .now) (o .at) (o .length) (o .bound) (c .before .before .if1 .left) (sym (c .before .over-bound .ensures) ∙ c .if2 .taken))
 
 read-run-requires : tie.Need-read-run-requires
 read-run-requires c κs = search needs
@@ -45,8 +54,12 @@ enum-told c = search needs
 
 returns-3 : tie.Need-returns-3
 returns-3 c =
-    let o = c .before .before .before .before .before .before .before .args in
-    sym (text-short (o .s .now) (o .at) (o .length) (o .bound) (c .before .before .before .before .before .if1 .left) (sym (c .before .before .before .before .over-bound .ensures) ∙ c .before .before .before .if2 .left)
+    let at-if2 = c .before .before .before in
+    let at-over-bound = at-if2 .before in
+    let at-if1 = at-over-bound .before in
+    let at-start = at-if1 .before .before in
+    let o = at-start .args in
+    sym (text-short (o .s .now) (o .at) (o .length) (o .bound) (at-if1 .if1 .left) (sym (at-over-bound .over-bound .ensures) ∙ at-if2 .if2 .left)
     (run-short (o .s .now) (o .at) (o .length) (sym (c .before .before .read-run .ensures) ∙ c .enum-told .given .1)))
 
 sub-ends-text : tie.Need-sub-ends-text
@@ -66,15 +79,25 @@ sub-t15 c = search needs
 
 returns-4 : tie.Need-returns-4
 returns-4 c =
-    let o = c .before .before .before .before .before .before .before .before .before .before .before .args in
-    sym (text-zeros (o .s .now) (o .at) (o .length) (o .bound) (c .before .before .before .before .before .before .before .before .before .if1 .left) (sym (c .before .before .before .before .before .before .before .before .over-bound .ensures) ∙ c .before .before .before .before .before .before .before .if2 .left)
-    (end-is (c .before .before .before) .1) true (sym (c .if3 .taken) ∙ zeros-is (c .before)))
+    let at-there = c .before .before .before in
+    let at-if2 = at-there .before .before .before .before in
+    let at-over-bound = at-if2 .before in
+    let at-if1 = at-over-bound .before in
+    let at-start = at-if1 .before .before in
+    let o = at-start .args in
+    sym (text-zeros (o .s .now) (o .at) (o .length) (o .bound) (at-if1 .if1 .left) (sym (at-over-bound .over-bound .ensures) ∙ at-if2 .if2 .left)
+    (end-is (at-there) .1) true (sym (c .if3 .taken) ∙ zeros-is (c .before)))
 
 returns-5 : tie.Need-returns-5
 returns-5 c =
-    let o = c .before .before .before .before .before .before .before .before .before .before .before .args in
-    sym (text-zeros (o .s .now) (o .at) (o .length) (o .bound) (c .before .before .before .before .before .before .before .before .before .if1 .left) (sym (c .before .before .before .before .before .before .before .before .over-bound .ensures) ∙ c .before .before .before .before .before .before .before .if2 .left)
-    (end-is (c .before .before .before) .1) false (sym (c .if3 .left) ∙ zeros-is (c .before)))
+    let at-there = c .before .before .before in
+    let at-if2 = at-there .before .before .before .before in
+    let at-over-bound = at-if2 .before in
+    let at-if1 = at-over-bound .before in
+    let at-start = at-if1 .before .before in
+    let o = at-start .args in
+    sym (text-zeros (o .s .now) (o .at) (o .length) (o .bound) (at-if1 .if1 .left) (sym (at-over-bound .over-bound .ensures) ∙ at-if2 .if2 .left)
+    (end-is (at-there) .1) false (sym (c .if3 .left) ∙ zeros-is (c .before)))
 
 pub read-text-spec : {M : Type 1} → statement M
 read-text-spec =

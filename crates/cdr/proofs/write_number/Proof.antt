@@ -12,8 +12,12 @@ use Rattle.cdr.proofs.Texts.{run-facts}
 use Rattle.cdr.proofs.Stores.{no-room, written}
 
 -- the number of octets that are written
-count-is : (c : tie.After-octets) → length (octetsOf (c .before .before .before .args .order) (octets (c .before .before .before .args .size)) (c .before .before .before .args .x)) ≡ c .octets .result
-count-is c = octets-length (c .before .before .before .args .order) (octets (c .before .before .before .args .size)) (c .before .before .before .args .x) ∙ sym (c .octets .ensures)
+count-is : (c : tie.After-octets) →
+    let at-start = c .before .before .before in
+    length (octetsOf (at-start .args .order) (octets (at-start .args .size)) (at-start .args .x)) ≡ c .octets .result
+count-is c =
+    let at-start = c .before .before .before in
+    octets-length (at-start .args .order) (octets (at-start .args .size)) (at-start .args .x) ∙ sym (c .octets .ensures)
 
 octets-requires : tie.Need-octets-requires
 octets-requires c κs = search needs
@@ -31,21 +35,31 @@ same-length : tie.Need-same-length
 same-length c = search needs
 
 returns : tie.Need-returns
-returns c = let o = c .before .before .before .before .before .before .args in no-room (o .out .now) (o .at) _ _ (count-is (c .before .before .before)) (sym (c .before .before .read-run .ensures) ∙ c .enum-told .given .1)
+returns c =
+    let at-there = c .before .before .before in
+    let at-start = at-there .before .before .before in
+    let o = at-start .args in no-room (o .out .now) (o .at) _ _ (count-is (at-there)) (sym (c .before .before .read-run .ensures) ∙ c .enum-told .given .1)
 
 number-requires : tie.Need-number-requires
 number-requires c κs =
-    let o = c .before .before .before .before .before .before .before .before .args in
-    let f = run-facts (o .out .now) (o .at) _ _ (sym (c .before .before .before .before .read-run .ensures) ∙ c .before .before .end .given .1) .1 in
-    omega (arith, f, c .before .before .before .before .before .octets .ensures)
+    let at-read-run = c .before .before .before .before in
+    let at-octets = at-read-run .before in
+    let at-start = at-octets .before .before .before in
+    let o = at-start .args in
+    let f = run-facts (o .out .now) (o .at) _ _ (sym (at-read-run .read-run .ensures) ∙ c .before .before .end .given .1) .1 in
+    omega (arith, f, at-octets .octets .ensures)
 
 same-length-2 : tie.Need-same-length-2
 same-length-2 c = search needs
 
 returns-2 : tie.Need-returns-2
 returns-2 c =
-    let o = c .before .before .before .before .before .before .before .before .before .before .before .args in
-    written (o .out .now) (o .at) _ _ (count-is (c .before .before .before .before .before .before .before .before)) _ (sym (c .before .before .before .before .before .before .before .read-run .ensures) ∙ c .before .before .before .before .before .end .given .1) _ (c .before .before .number .ensures)
+    let at-end = c .before .before .before .before .before in
+    let at-read-run = at-end .before .before in
+    let at-there = at-read-run .before in
+    let at-start = at-there .before .before .before in
+    let o = at-start .args in
+    written (o .out .now) (o .at) _ _ (count-is (at-there)) _ (sym (at-read-run .read-run .ensures) ∙ at-end .end .given .1) _ (c .before .before .number .ensures)
 
 pub write-number-spec : {M : Type 1} → statement M
 write-number-spec =

@@ -20,18 +20,26 @@ same-length : tie.Need-same-length
 same-length c = search needs
 
 returns : tie.Need-returns
-returns c = let o = c .before .before .before .before .before .before .args in no-room (o .out .now) (o .at) _ (o .octets .now) refl (sym (c .before .before .read-run .ensures) ∙ c .enum-told .given .1)
+returns c =
+    let at-start = c .before .before .before .before .before .before in
+    let o = at-start .args in no-room (o .out .now) (o .at) _ (o .octets .now) refl (sym (c .before .before .read-run .ensures) ∙ c .enum-told .given .1)
 
 copy-requires : tie.Need-copy-requires
-copy-requires c κs = let o = c .before .before .before .before .before .before .before .before .args in omega (arith, run-facts (o .out .now) (o .at) _ _ (sym (c .before .before .before .before .read-run .ensures) ∙ c .before .before .end .given .1) .1)
+copy-requires c κs =
+    let at-read-run = c .before .before .before .before in
+    let at-start = at-read-run .before .before .before .before in
+    let o = at-start .args in omega (arith, run-facts (o .out .now) (o .at) _ _ (sym (at-read-run .read-run .ensures) ∙ c .before .before .end .given .1) .1)
 
 same-length-2 : tie.Need-same-length-2
 same-length-2 c = search needs
 
 returns-2 : tie.Need-returns-2
 returns-2 c =
-    let o = c .before .before .before .before .before .before .before .before .before .before .before .args in
-    written (o .out .now) (o .at) _ (o .octets .now) refl _ (sym (c .before .before .before .before .before .before .before .read-run .ensures) ∙ c .before .before .before .before .before .end .given .1) _ (c .before .before .copy .ensures)
+    let at-end = c .before .before .before .before .before in
+    let at-read-run = at-end .before .before in
+    let at-start = at-read-run .before .before .before .before in
+    let o = at-start .args in
+    written (o .out .now) (o .at) _ (o .octets .now) refl _ (sym (at-read-run .read-run .ensures) ∙ at-end .end .given .1) _ (c .before .before .copy .ensures)
 
 pub write-octets-spec : {M : Type 1} → statement M
 write-octets-spec =

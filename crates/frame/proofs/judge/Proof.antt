@@ -12,7 +12,9 @@ judge-message-requires : tie.Need-judge-message-requires
 judge-message-requires c κs = search needs
 
 returns-2 : tie.Need-returns-2
-returns-2 c = c .judge-message .ensures ∙ sym (frame-message (c .before .before .before .args .octets .now) (c .before .if1 .left))
+returns-2 c =
+    let at-start = c .before .before .before in
+    c .judge-message .ensures ∙ sym (frame-message (at-start .args .octets .now) (c .before .if1 .left))
 
 pub judge-spec : {M : Type 1} → statement M
 judge-spec = tie.close (tie.spec returns judge-message-requires returns-2)

@@ -14,7 +14,9 @@ word-requires : tie.Need-word-requires
 word-requires c κs = search needs
 
 returns-2 : tie.Need-returns-2
-returns-2 c = sym (message-not-giop (c .before .before .before .before .args .octets .now) (c .before .before .if1 .left) (λ e. c .if2 .taken (c .before .word .ensures ∙ e)))
+returns-2 c =
+    let at-start = c .before .before .before .before in
+    sym (message-not-giop (at-start .args .octets .now) (c .before .before .if1 .left) (λ e. c .if2 .taken (c .before .word .ensures ∙ e)))
 
 shared-slice-read-version-exists : tie.Need-shared-slice-read-version-exists
 shared-slice-read-version-exists c = search needs
@@ -27,7 +29,11 @@ version-exists-requires c κs = search needs
 
 returns-3 : tie.Need-returns-3
 returns-3 c =
-    sym (message-by (c .before .before .before .before .before .before .before .before .args .octets .now) (c .before .before .before .before .before .before .if1 .left) (sym (c .before .before .before .before .before .word .ensures) ∙ c .before .before .before .before .if2 .left) false _ _
+    let at-if2 = c .before .before .before .before in
+    let at-word = at-if2 .before in
+    let at-if1 = at-word .before in
+    let at-start = at-if1 .before .before in
+    sym (message-by (at-start .args .octets .now) (at-if1 .if1 .left) (sym (at-word .word .ensures) ∙ at-if2 .if2 .left) false _ _
     (sym (c .before .version-exists .ensures) ∙ not-true _ (c .if3 .taken)) refl refl)
 
 shared-slice-read-flags-allowed : tie.Need-shared-slice-read-flags-allowed
@@ -41,8 +47,14 @@ flags-allowed-requires c κs = search needs
 
 returns-4 : tie.Need-returns-4
 returns-4 c =
-    sym (message-by (c .before .before .before .before .before .before .before .before .before .before .before .before .args .octets .now) (c .before .before .before .before .before .before .before .before .before .before .if1 .left) (sym (c .before .before .before .before .before .before .before .before .before .word .ensures) ∙ c .before .before .before .before .before .before .before .before .if2 .left) true false _
-    (sym (c .before .before .before .before .before .version-exists .ensures) ∙ not-false _ (c .before .before .before .before .if3 .left)) (sym (c .before .flags-allowed .ensures) ∙ not-true _ (c .if4 .taken)) refl)
+    let at-if3 = c .before .before .before .before in
+    let at-version-exists = at-if3 .before in
+    let at-if2 = at-version-exists .before .before .before in
+    let at-word = at-if2 .before in
+    let at-if1 = at-word .before in
+    let at-start = at-if1 .before .before in
+    sym (message-by (at-start .args .octets .now) (at-if1 .if1 .left) (sym (at-word .word .ensures) ∙ at-if2 .if2 .left) true false _
+    (sym (at-version-exists .version-exists .ensures) ∙ not-false _ (at-if3 .if3 .left)) (sym (c .before .flags-allowed .ensures) ∙ not-true _ (c .if4 .taken)) refl)
 
 shared-slice-read-type-exists : tie.Need-shared-slice-read-type-exists
 shared-slice-read-type-exists c = search needs
@@ -55,8 +67,16 @@ type-exists-requires c κs = search needs
 
 returns-5 : tie.Need-returns-5
 returns-5 c =
-    sym (message-by (c .before .before .before .before .before .before .before .before .before .before .before .before .before .before .before .before .args .octets .now) (c .before .before .before .before .before .before .before .before .before .before .before .before .before .before .if1 .left) (sym (c .before .before .before .before .before .before .before .before .before .before .before .before .before .word .ensures) ∙ c .before .before .before .before .before .before .before .before .before .before .before .before .if2 .left) true true false
-    (sym (c .before .before .before .before .before .before .before .before .before .version-exists .ensures) ∙ not-false _ (c .before .before .before .before .before .before .before .before .if3 .left)) (sym (c .before .before .before .before .before .flags-allowed .ensures) ∙ not-false _ (c .before .before .before .before .if4 .left))
+    let at-if4 = c .before .before .before .before in
+    let at-flags-allowed = at-if4 .before in
+    let at-if3 = at-flags-allowed .before .before .before in
+    let at-version-exists = at-if3 .before in
+    let at-if2 = at-version-exists .before .before .before in
+    let at-word = at-if2 .before in
+    let at-if1 = at-word .before in
+    let at-start = at-if1 .before .before in
+    sym (message-by (at-start .args .octets .now) (at-if1 .if1 .left) (sym (at-word .word .ensures) ∙ at-if2 .if2 .left) true true false
+    (sym (at-version-exists .version-exists .ensures) ∙ not-false _ (at-if3 .if3 .left)) (sym (at-flags-allowed .flags-allowed .ensures) ∙ not-false _ (at-if4 .if4 .left))
     (sym (c .before .type-exists .ensures) ∙ not-true _ (c .if5 .taken)))
 
 sized-requires : tie.Need-sized-requires
@@ -64,9 +84,17 @@ sized-requires c κs = search needs
 
 returns-6 : tie.Need-returns-6
 returns-6 c =
+    let at-if4 = c .before .before .before .before .before in
+    let at-flags-allowed = at-if4 .before in
+    let at-if3 = at-flags-allowed .before .before .before in
+    let at-version-exists = at-if3 .before in
+    let at-if2 = at-version-exists .before .before .before in
+    let at-word = at-if2 .before in
+    let at-if1 = at-word .before in
+    let at-start = at-if1 .before .before in
     c .sized .ensures
-    ∙ sym (message-by (c .before .before .before .before .before .before .before .before .before .before .before .before .before .before .before .before .before .args .octets .now) (c .before .before .before .before .before .before .before .before .before .before .before .before .before .before .before .if1 .left) (sym (c .before .before .before .before .before .before .before .before .before .before .before .before .before .before .word .ensures) ∙ c .before .before .before .before .before .before .before .before .before .before .before .before .before .if2 .left) true true true
-    (sym (c .before .before .before .before .before .before .before .before .before .before .version-exists .ensures) ∙ not-false _ (c .before .before .before .before .before .before .before .before .before .if3 .left)) (sym (c .before .before .before .before .before .before .flags-allowed .ensures) ∙ not-false _ (c .before .before .before .before .before .if4 .left))
+    ∙ sym (message-by (at-start .args .octets .now) (at-if1 .if1 .left) (sym (at-word .word .ensures) ∙ at-if2 .if2 .left) true true true
+    (sym (at-version-exists .version-exists .ensures) ∙ not-false _ (at-if3 .if3 .left)) (sym (at-flags-allowed .flags-allowed .ensures) ∙ not-false _ (at-if4 .if4 .left))
     (sym (c .before .before .type-exists .ensures) ∙ not-false _ (c .before .if5 .left)))
 
 pub judge-message-spec : {M : Type 1} → statement M

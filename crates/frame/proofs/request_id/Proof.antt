@@ -20,10 +20,16 @@ order-flag-requires : tie.Need-order-flag-requires
 order-flag-requires c κs = search needs
 
 word-requires : tie.Need-word-requires
-word-requires c κs = (refl, c .before .before .before .before .before .before .before .pre .id (sym (c .before .before .before .has-request-id .ensures) ∙ c .before .before .if1 .taken))
+word-requires c κs =
+    let at-has-request-id = c .before .before .before in
+    let at-start = at-has-request-id .before .before .before .before in
+    (refl, at-start .pre .id (sym (at-has-request-id .has-request-id .ensures) ∙ c .before .before .if1 .taken))
 
 returns : tie.Need-returns
-returns c = rw (sym (c .before .before .before .before .has-request-id .ensures) ∙ c .before .before .before .if1 .taken, c .word .ensures, c .before .order-flag .ensures)
+returns c =
+    let at-if1 = c .before .before .before in
+    let at-has-request-id = at-if1 .before in
+    rw (sym (at-has-request-id .has-request-id .ensures) ∙ at-if1 .if1 .taken, c .word .ensures, c .before .order-flag .ensures)
 
 returns-2 : tie.Need-returns-2
 returns-2 c = rw (sym (c .before .has-request-id .ensures) ∙ c .if1 .left)

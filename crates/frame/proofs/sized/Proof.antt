@@ -14,20 +14,42 @@ use Rattle.frame.specs.Frames.{sizeAllowed, fragmentAllowed, eightsAllow
 use Rattle.frame.proofs.Rows.{sized-above, sized-below, sized-of-type, sized-fragmented, sized-last, id-there}
 
 -- the size that was read is the header's
-size-is : (c : tie.After-word) → c .word .result ≡ sizeAt (c .before .before .before .before .before .before .before .before .args .octets .now)
-size-is c = c .word .ensures ∙ ap (numberAt (c .before .before .before .before .before .before .before .before .args .octets .now) 8 4) (c .before .before .before .before .order-flag .ensures)
+size-is : (c : tie.After-word) →
+    let at-start = c .before .before .before .before .before .before .before .before in
+    c .word .result ≡ sizeAt (at-start .args .octets .now)
+size-is c =
+    let at-order-flag = c .before .before .before .before in
+    let at-start = at-order-flag .before .before .before .before in
+    c .word .ensures ∙ ap (numberAt (at-start .args .octets .now) 8 4) (at-order-flag .order-flag .ensures)
 
-equal : (c : tie.Else2) → sizeAt (c .before .before .before .before .before .before .before .before .before .before .args .octets .now) ≡ length (c .before .before .before .before .before .before .before .before .before .before .args .octets .now) - headerSize
+equal : (c : tie.Else2) →
+    let at-start = c .before .before .before .before .before .before .before .before .before .before in
+    sizeAt (at-start .args .octets .now) ≡ length (at-start .args .octets .now) - headerSize
 equal c = let e = size-is (c .before .before) in omega arith
 
-size-allowed-is : (c : tie.After-size-allowed) → c .size-allowed .result ≡ sizeAllowed (minorAt (c .before .before .before .before .before .before .before .before .before .before .before .args .octets .now)) (kindAt (c .before .before .before .before .before .before .before .before .before .before .before .args .octets .now)) (sizeAt (c .before .before .before .before .before .before .before .before .before .before .before .args .octets .now))
-size-allowed-is c = c .size-allowed .ensures ∙ ap (sizeAllowed (minorAt (c .before .before .before .before .before .before .before .before .before .before .before .args .octets .now)) (kindAt (c .before .before .before .before .before .before .before .before .before .before .before .args .octets .now))) (size-is (c .before .before .before))
+size-allowed-is : (c : tie.After-size-allowed) →
+    let at-start = c .before .before .before .before .before .before .before .before .before .before .before in
+    c .size-allowed .result ≡ sizeAllowed (minorAt (at-start .args .octets .now)) (kindAt (at-start .args .octets .now)) (sizeAt (at-start .args .octets .now))
+size-allowed-is c =
+    let at-there = c .before .before .before in
+    let at-start = at-there .before .before .before .before .before .before .before .before in
+    c .size-allowed .ensures ∙ ap (sizeAllowed (minorAt (at-start .args .octets .now)) (kindAt (at-start .args .octets .now))) (size-is (at-there))
 
-fragment-allowed-is : (c : tie.After-fragment-allowed) → c .fragment-allowed .result ≡ fragmentAllowed (minorAt (c .before .before .before .before .before .before .before .before .before .before .before .before .before .args .octets .now)) (kindAt (c .before .before .before .before .before .before .before .before .before .before .before .before .before .args .octets .now)) (moreAt (c .before .before .before .before .before .before .before .before .before .before .before .before .before .args .octets .now))
-fragment-allowed-is c = c .fragment-allowed .ensures ∙ ap (fragmentAllowed (minorAt (c .before .before .before .before .before .before .before .before .before .before .before .before .before .args .octets .now)) (kindAt (c .before .before .before .before .before .before .before .before .before .before .before .before .before .args .octets .now))) (c .before .before .before .before .before .before .before .more-flag .ensures)
+fragment-allowed-is : (c : tie.After-fragment-allowed) →
+    let at-start = c .before .before .before .before .before .before .before .before .before .before .before .before .before in
+    c .fragment-allowed .result ≡ fragmentAllowed (minorAt (at-start .args .octets .now)) (kindAt (at-start .args .octets .now)) (moreAt (at-start .args .octets .now))
+fragment-allowed-is c =
+    let at-more-flag = c .before .before .before .before .before .before .before in
+    let at-start = at-more-flag .before .before .before .before .before .before in
+    c .fragment-allowed .ensures ∙ ap (fragmentAllowed (minorAt (at-start .args .octets .now)) (kindAt (at-start .args .octets .now))) (at-more-flag .more-flag .ensures)
 
-eights-allowed-is : (c : tie.After-eights-allowed) → c .eights-allowed .result ≡ eightsAllowed (moreAt (c .before .before .before .before .before .before .before .before .before .before .before .before .before .before .before .args .octets .now)) (sizeAt (c .before .before .before .before .before .before .before .before .before .before .before .before .before .before .before .args .octets .now))
-eights-allowed-is c = c .eights-allowed .ensures ∙ rw (c .before .before .before .before .before .before .before .before .before .more-flag .ensures, size-is (c .before .before .before .before .before .before .before))
+eights-allowed-is : (c : tie.After-eights-allowed) →
+    let at-start = c .before .before .before .before .before .before .before .before .before .before .before .before .before .before .before in
+    c .eights-allowed .result ≡ eightsAllowed (moreAt (at-start .args .octets .now)) (sizeAt (at-start .args .octets .now))
+eights-allowed-is c =
+    let at-there = c .before .before .before .before .before .before .before in
+    let at-more-flag = at-there .before .before in
+    c .eights-allowed .ensures ∙ rw (at-more-flag .more-flag .ensures, size-is (at-there))
 
 shared-slice-read-minor : tie.Need-shared-slice-read-minor
 shared-slice-read-minor c = search needs
@@ -57,26 +79,35 @@ cast-if1 : tie.Need-cast-if1
 cast-if1 c = search needs
 
 returns : tie.Need-returns
-returns c = let e = size-is (c .before) in sym (sized-above (c .before .before .before .before .before .before .before .before .before .args .octets .now) (omega arith))
+returns c =
+    let at-start = c .before .before .before .before .before .before .before .before .before in
+    let e = size-is (c .before) in sym (sized-above (at-start .args .octets .now) (omega arith))
 
 cast-if2 : tie.Need-cast-if2
 cast-if2 c = search needs
 
 returns-2 : tie.Need-returns-2
-returns-2 c = let e = size-is (c .before .before) in sym (sized-below (c .before .before .before .before .before .before .before .before .before .before .args .octets .now) (omega arith))
+returns-2 c =
+    let at-start = c .before .before .before .before .before .before .before .before .before .before in
+    let e = size-is (c .before .before) in sym (sized-below (at-start .args .octets .now) (omega arith))
 
 size-allowed-requires : tie.Need-size-allowed-requires
 size-allowed-requires c κs = search needs
 
 returns-3 : tie.Need-returns-3
-returns-3 c = sym (sized-of-type (c .before .before .before .before .before .before .before .before .before .before .before .before .args .octets .now) (equal (c .before .before)) (sym (size-allowed-is (c .before)) ∙ not-true _ (c .if3 .taken)))
+returns-3 c =
+    let at-start = c .before .before .before .before .before .before .before .before .before .before .before .before in
+    sym (sized-of-type (at-start .args .octets .now) (equal (c .before .before)) (sym (size-allowed-is (c .before)) ∙ not-true _ (c .if3 .taken)))
 
 fragment-allowed-requires : tie.Need-fragment-allowed-requires
 fragment-allowed-requires c κs = search needs
 
 returns-4 : tie.Need-returns-4
 returns-4 c =
-    sym (sized-fragmented (c .before .before .before .before .before .before .before .before .before .before .before .before .before .before .args .octets .now) (equal (c .before .before .before .before)) (sym (size-allowed-is (c .before .before .before)) ∙ not-false _ (c .before .before .if3 .left))
+    let at-there = c .before .before .before in
+    let at-there′ = at-there .before in
+    let at-start = at-there′ .before .before .before .before .before .before .before .before .before .before in
+    sym (sized-fragmented (at-start .args .octets .now) (equal (at-there′)) (sym (size-allowed-is (at-there)) ∙ not-false _ (c .before .before .if3 .left))
     (sym (fragment-allowed-is (c .before)) ∙ not-true _ (c .if4 .taken)))
 
 eights-allowed-requires : tie.Need-eights-allowed-requires
@@ -84,17 +115,36 @@ eights-allowed-requires c κs = search needs
 
 returns-5 : tie.Need-returns-5
 returns-5 c =
-    sym (sized-last (c .before .before .before .before .before .before .before .before .before .before .before .before .before .before .before .before .args .octets .now) (equal (c .before .before .before .before .before .before)) (sym (size-allowed-is (c .before .before .before .before .before)) ∙ not-false _ (c .before .before .before .before .if3 .left))
-    (sym (fragment-allowed-is (c .before .before .before)) ∙ not-false _ (c .before .before .if4 .left)) false (sym (eights-allowed-is (c .before)) ∙ not-true _ (c .if5 .taken)))
+    let at-there = c .before .before .before in
+    let at-if3 = at-there .before in
+    let at-there′ = at-if3 .before in
+    let at-there′′ = at-there′ .before in
+    let at-start = at-there′′ .before .before .before .before .before .before .before .before .before .before in
+    sym (sized-last (at-start .args .octets .now) (equal (at-there′′)) (sym (size-allowed-is (at-there′)) ∙ not-false _ (at-if3 .if3 .left))
+    (sym (fragment-allowed-is (at-there)) ∙ not-false _ (c .before .before .if4 .left)) false (sym (eights-allowed-is (c .before)) ∙ not-true _ (c .if5 .taken)))
 
 request-id-requires : tie.Need-request-id-requires
-request-id-requires c κs = id-there (c .before .before .before .before .before .before .before .before .before .before .before .before .before .before .before .before .args .octets .now) (equal (c .before .before .before .before .before .before)) (sym (size-allowed-is (c .before .before .before .before .before)) ∙ not-false _ (c .before .before .before .before .if3 .left)) (c .before .before .before .before .before .before .before .before .before .before .before .before .before .before .before .before .pre)
+request-id-requires c κs =
+    let at-if3 = c .before .before .before .before in
+    let at-there = at-if3 .before in
+    let at-there′ = at-there .before in
+    let at-start = at-there′ .before .before .before .before .before .before .before .before .before .before in
+    id-there (at-start .args .octets .now) (equal (at-there′)) (sym (size-allowed-is (at-there)) ∙ not-false _ (at-if3 .if3 .left)) (at-start .pre)
 
 returns-6 : tie.Need-returns-6
 returns-6 c =
-    rw (c .before .before .before .before .before .before .before .before .before .before .before .before .before .order-flag .ensures, c .before .before .before .before .before .before .before .before .before .before .before .more-flag .ensures, size-is (c .before .before .before .before .before .before .before .before .before), c .request-id .ensures)
-    (sym (sized-last (c .before .before .before .before .before .before .before .before .before .before .before .before .before .before .before .before .before .args .octets .now) (equal (c .before .before .before .before .before .before .before)) (sym (size-allowed-is (c .before .before .before .before .before .before)) ∙ not-false _ (c .before .before .before .before .before .if3 .left))
-    (sym (fragment-allowed-is (c .before .before .before .before)) ∙ not-false _ (c .before .before .before .if4 .left)) true (sym (eights-allowed-is (c .before .before)) ∙ not-false _ (c .before .if5 .left))))
+    let at-if4 = c .before .before .before in
+    let at-there = at-if4 .before in
+    let at-if3 = at-there .before in
+    let at-there′ = at-if3 .before in
+    let at-there′′ = at-there′ .before in
+    let at-there′′′ = at-there′′ .before .before in
+    let at-more-flag = at-there′′′ .before .before in
+    let at-order-flag = at-more-flag .before .before in
+    let at-start = at-order-flag .before .before .before .before in
+    rw (at-order-flag .order-flag .ensures, at-more-flag .more-flag .ensures, size-is (at-there′′′), c .request-id .ensures)
+    (sym (sized-last (at-start .args .octets .now) (equal (at-there′′)) (sym (size-allowed-is (at-there′)) ∙ not-false _ (at-if3 .if3 .left))
+    (sym (fragment-allowed-is (at-there)) ∙ not-false _ (at-if4 .if4 .left)) true (sym (eights-allowed-is (c .before .before)) ∙ not-false _ (c .before .if5 .left))))
 
 pub sized-spec : {M : Type 1} → statement M
 sized-spec =

@@ -49,10 +49,12 @@ loop-less c = omega arith
 
 loop-again : tie.Need-loop-again Inv-loop μ-loop
 loop-again c =
-    let l = c .before .before .before .before .loop in (
+    let at-loop-test = c .before .before .before in
+    let at-loop = at-loop-test .before in
+    let l = at-loop .loop in (
       omega arith,
       simp length-set (l .inv .1),
-      digits-turn _ (l .out) (l .k) _ _ (c .before .before .before .loop-test .taken) (c .before .upper-digit .ensures) (c .upper-digit2 .ensures)
+      digits-turn _ (l .out) (l .k) _ _ (at-loop-test .loop-test .taken) (c .before .upper-digit .ensures) (c .upper-digit2 .ensures)
           ∙ l .inv .2,
     )
 

@@ -71,10 +71,12 @@ loop-less c = omega arith
 
 loop-again : tie.Need-loop-again Inv-loop μ-loop
 loop-again c =
-    let l = c .before .before .before .before .before .loop in (
+    let at-loop-test = c .before .before .before .before in
+    let at-loop = at-loop-test .before in
+    let l = at-loop .loop in (
       omega arith,
       simp length-set (l .inv .1),
-      octet-turn _ (l .out) (l .k) _ _ (c .before .before .before .before .loop-test .taken) (high-value c .0) (low-value c .0) ∙ l .inv .2,
+      octet-turn _ (l .out) (l .k) _ _ (at-loop-test .loop-test .taken) (high-value c .0) (low-value c .0) ∙ l .inv .2,
     )
 
 same-length : tie.Need-same-length Inv-loop μ-loop

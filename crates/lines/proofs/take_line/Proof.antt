@@ -11,27 +11,47 @@ use Rattle.lines.proofs.take_line.Tie as tie
 use Rattle.lines.proofs.Steps.{up-within, held-fits, count-fits, kept-as, steps-taken}
 
 -- the search ends inside the block, not before its start
-stops : (c : tie.After-find-lf) → (c .before .before .least .result ≤ c .find-lf .result) × (c .find-lf .result ≤ length (c .before .before .before .before .before .args .block .now))
+stops : (c : tie.After-find-lf) →
+    let at-least = c .before .before in
+    let at-start = at-least .before .before .before in
+    (at-least .least .result ≤ c .find-lf .result) × (c .find-lf .result ≤ length (at-start .args .block .now))
 stops c =
+    let at-start = c .before .before .before .before .before in
     let s = c .before .before .least .ensures in
-    let w = up-within (c .before .before .least .result) (c .before .before .before .before .before .args .block .now) (omega arith) in
+    let w = up-within (c .before .before .least .result) (at-start .args .block .now) (omega arith) in
     let e = c .find-lf .ensures in
     (omega (arith, e), omega (arith, e, w))
 
 -- what is kept fits the buffer, and stands in the block
-fits : (c : tie.After-least4) → (c .before .before .before .least2 .result + c .least4 .result ≤ length (c .before .before .before .before .before .before .before .args .line .now)) × (c .before .before .before .before .least .result + c .least4 .result ≤ length (c .before .before .before .before .before .before .before .args .block .now))
+fits : (c : tie.After-least4) →
+    let at-least2 = c .before .before .before in
+    let at-before = at-least2 .before in
+    let at-start = at-before .before .before .before in
+    (at-least2 .least2 .result + c .least4 .result ≤ length (at-start .args .line .now)) × (at-before .least .result + c .least4 .result ≤ length (at-start .args .block .now))
 fits c =
-    let o = c .before .before .before .before .before .before .before .args in
+    let at-least2 = c .before .before .before in
+    let at-least = at-least2 .before in
+    let at-start = at-least .before .before .before in
+    let o = at-start .args in
     let s = stops (c .before .before) in (
-      held-fits (o .kept) (length (o .line .now)) _ _ _ (c .before .before .before .least2 .ensures) (c .least4 .ensures),
-      count-fits (c .before .before .before .before .least .result) (c .before .before .find-lf .result) (length (o .block .now)) _ _ (s .0) (s .1) (c .least4 .ensures),
+      held-fits (o .kept) (length (o .line .now)) _ _ _ (at-least2 .least2 .ensures) (c .least4 .ensures),
+      count-fits (at-least .least .result) (c .before .before .find-lf .result) (length (o .block .now)) _ _ (s .0) (s .1) (c .least4 .ensures),
     )
 
 -- so the buffer holds it
-kept-is : (c : tie.After-write-octets) → c .write-octets .last .0 ≡ sets (c .before .before .before .before .before .before .before .before .before .before .args .line .now) (c .before .before .before .before .before .before .least2 .result) (take (c .before .before .before .least4 .result) (drop (c .before .before .before .before .before .before .before .least .result) (c .before .before .before .before .before .before .before .before .before .before .args .block .now)))
+kept-is : (c : tie.After-write-octets) →
+    let at-before = c .before .before .before in
+    let at-before′ = at-before .before .before .before in
+    let at-before′′ = at-before′ .before in
+    let at-start = at-before′′ .before .before .before in
+    c .write-octets .last .0 ≡ sets (at-start .args .line .now) (at-before′ .least2 .result) (take (at-before .least4 .result) (drop (at-before′′ .least .result) (at-start .args .block .now)))
 kept-is c =
-    let o = c .before .before .before .before .before .before .before .before .before .before .args in
-    kept-as (o .block .now) (o .line .now) (c .before .before .before .before .before .before .before .least .result) (c .before .before .before .before .before .before .least2 .result) (c .before .before .before .least4 .result) _ _ (fits (c .before .before .before) .0) (fits (c .before .before .before) .1) (c .write-octets .ensures)
+    let at-least4 = c .before .before .before in
+    let at-least2 = at-least4 .before .before .before in
+    let at-least = at-least2 .before in
+    let at-start = at-least .before .before .before in
+    let o = at-start .args in
+    kept-as (o .block .now) (o .line .now) (at-least .least .result) (at-least2 .least2 .result) (at-least4 .least4 .result) _ _ (fits (at-least4) .0) (fits (at-least4) .1) (c .write-octets .ensures)
 
 least-requires : tie.Need-least-requires
 least-requires c κs = search needs
@@ -43,7 +63,9 @@ find-lf-requires : tie.Need-find-lf-requires
 find-lf-requires c κs = search needs
 
 add-least : tie.Need-add-least
-add-least c = let o = c .before .before .before .before .before .args in omega (arith, up-within (c .before .before .least .result) (o .block .now) (omega arith))
+add-least c =
+    let at-start = c .before .before .before .before .before in
+    let o = at-start .args in omega (arith, up-within (c .before .before .least .result) (o .block .now) (omega arith))
 
 least-requires-3 : tie.Need-least-requires-3
 least-requires-3 c κs = search needs
@@ -67,22 +89,34 @@ part-write-octets-start : tie.Need-part-write-octets-start
 part-write-octets-start c = search needs
 
 part-write-octets-end : tie.Need-part-write-octets-end
-part-write-octets-end c = let o = c .before .before .before .before .before .before .before .before .args in omega (arith, up-within (c .before .before .before .before .before .least .result) (o .block .now) (omega arith))
+part-write-octets-end c =
+    let at-least = c .before .before .before .before .before in
+    let at-start = at-least .before .before .before in
+    let o = at-start .args in omega (arith, up-within (at-least .least .result) (o .block .now) (omega arith))
 
 write-octets-requires : tie.Need-write-octets-requires
 write-octets-requires c κs = search needs
 
 add-t12 : tie.Need-add-t12
-add-t12 c = record { fits = lt-of-le-of-lt (fits (c .before .before .before .before .before) .0) (c .before .before .before .before .before .before .before .before .before .before .before .before .good .1 .1 .0 .0) }
+add-t12 c =
+    let at-there = c .before .before .before .before .before in
+    let at-start = at-there .before .before .before .before .before .before .before in
+    record { fits = lt-of-le-of-lt (fits (at-there) .0) (at-start .good .1 .1 .0 .0) }
 
 same-length : tie.Need-same-length
 same-length c = search needs
 
 returns : tie.Need-returns
 returns c =
-    let o = c .before .before .before .before .before .before .before .before .before .before .before .before .args in
+    let at-least4 = c .before .before .before .before .before in
+    let at-least3 = at-least4 .before in
+    let at-find-lf = at-least3 .before in
+    let at-least2 = at-find-lf .before in
+    let at-least = at-least2 .before in
+    let at-start = at-least .before .before .before in
+    let o = at-start .args in
     rw (kept-is (c .before .before))
-    (steps-taken (o .block .now) (o .line .now) (o .from) (o .kept) _ _ _ _ _ (c .before .before .before .before .before .before .before .before .before .least .ensures) (c .before .before .before .before .before .before .before .before .least2 .ensures) (c .before .before .before .before .before .before .before .find-lf .ensures) (c .before .before .before .before .before .before .least3 .ensures) (c .before .before .before .before .before .least4 .ensures))
+    (steps-taken (o .block .now) (o .line .now) (o .from) (o .kept) _ _ _ _ _ (at-least .least .ensures) (at-least2 .least2 .ensures) (at-find-lf .find-lf .ensures) (at-least3 .least3 .ensures) (at-least4 .least4 .ensures))
 
 pub take-line-spec : {M : Type 1} → statement M
 take-line-spec =

@@ -16,7 +16,9 @@ abbrev μ-loop : tie.MeasureT-loop
 μ-loop block line₀ octets₀ out₀ state₀ from₀ line octets out state from = length block - from
 
 -- what a piece keeps fits, and it moves on
-taken-fits : (c : tie.After-take-line Inv-loop μ-loop) → c .take-line .result .kept ≤ length (c .before .before .before .loop .line)
+taken-fits : (c : tie.After-take-line Inv-loop μ-loop) →
+    let at-loop = c .before .before .before in
+    c .take-line .result .kept ≤ length (at-loop .loop .line)
 taken-fits c =
     let i = c .before .before .before .loop in
     let b = c .before .before .before .before .before .before .before .before .args .block .now in
@@ -37,7 +39,9 @@ take-line-requires : tie.Need-take-line-requires Inv-loop μ-loop
 take-line-requires c κs = search needs
 
 after-piece-requires : tie.Need-after-piece-requires Inv-loop μ-loop
-after-piece-requires c κs = omega (arith, taken-fits (c .before .before .before .before .before), c .before .before .before .before .before .take-line .kept .1 .1 .0)
+after-piece-requires c κs =
+    let at-take-line = c .before .before .before .before .before in
+    omega (arith, taken-fits (at-take-line), at-take-line .take-line .kept .1 .1 .0)
 
 same-length : tie.Need-same-length Inv-loop μ-loop
 same-length c = search needs
@@ -52,7 +56,10 @@ returns : tie.Need-returns Inv-loop μ-loop
 returns c = search needs
 
 loop-less : tie.Need-loop-less Inv-loop μ-loop
-loop-less c = omega (arith, taken-moves (c .before .before .before .before .before .before .before .before .before .before .before .before), c .before .before .before .before .before .before .before .before .before .before .before .before .before .before .loop-test .taken)
+loop-less c =
+    let at-there = c .before .before .before .before .before .before .before .before .before .before .before .before in
+    let at-loop-test = at-there .before .before in
+    omega (arith, taken-moves (at-there), at-loop-test .loop-test .taken)
 
 loop-again : tie.Need-loop-again Inv-loop μ-loop
 loop-again c = search needs

@@ -17,7 +17,9 @@ enum-told c = search needs
 
 returns : tie.Need-returns
 unfolding countedOf
-returns c = let o = c .before .before .before .before .args in sym (counted-none (o .s .now) (o .self) (o .order) (sym (c .before .before .number .ensures) ∙ c .enum-told .given .1))
+returns c =
+    let at-start = c .before .before .before .before in
+    let o = at-start .args in sym (counted-none (o .s .now) (o .self) (o .order) (sym (c .before .before .number .ensures) ∙ c .enum-told .given .1))
 
 read-run-requires : tie.Need-read-run-requires
 read-run-requires c κs = search needs
@@ -30,11 +32,19 @@ enum-told-3 c = search needs
 
 returns-2 : tie.Need-returns-2
 unfolding countedOf
-returns-2 c = let o = c .before .before .before .before .before .before .before .before .args in sym (counted-is (o .s .now) (o .self) (o .order) _ _ (sym (c .before .before .before .before .before .before .number .ensures) ∙ c .before .before .before .before .value .given .1) _ (sym (c .before .before .read-run .ensures) ∙ c .enum-told2 .given .1))
+returns-2 c =
+    let at-value = c .before .before .before .before in
+    let at-number = at-value .before .before in
+    let at-start = at-number .before .before in
+    let o = at-start .args in sym (counted-is (o .s .now) (o .self) (o .order) _ _ (sym (at-number .number .ensures) ∙ at-value .value .given .1) _ (sym (c .before .before .read-run .ensures) ∙ c .enum-told2 .given .1))
 
 returns-3 : tie.Need-returns-3
 unfolding countedOf
-returns-3 c = let o = c .before .before .before .before .before .before .before .before .args in sym (counted-is (o .s .now) (o .self) (o .order) _ _ (sym (c .before .before .before .before .before .before .number .ensures) ∙ c .before .before .before .before .value .given .1) _ (sym (c .before .before .read-run .ensures) ∙ c .enum-told3 .given .1))
+returns-3 c =
+    let at-value = c .before .before .before .before in
+    let at-number = at-value .before .before in
+    let at-start = at-number .before .before in
+    let o = at-start .args in sym (counted-is (o .s .now) (o .self) (o .order) _ _ (sym (at-number .number .ensures) ∙ at-value .value .given .1) _ (sym (c .before .before .read-run .ensures) ∙ c .enum-told3 .given .1))
 
 pub counted-spec : {M : Type 1} → statement M
 counted-spec =

@@ -19,8 +19,10 @@ octets-requires c κs = search needs
 
 add-t11 : tie.Need-add-t11
 add-t11 c =
-    let o = c .before .before .before .before .before .before .args in
-    let f = read-facts (o .s .now) start (o .self .0) (o .size) (o .order) _ _ (sym (c .before .before .before .before .read-number .ensures) ∙ c .before .before .at .given .1) in
+    let at-read-number = c .before .before .before .before in
+    let at-start = at-read-number .before .before in
+    let o = at-start .args in
+    let f = read-facts (o .s .now) start (o .self .0) (o .size) (o .order) _ _ (sym (at-read-number .read-number .ensures) ∙ c .before .before .at .given .1) in
     omega (arith, octets-small (o .size), f .fits)
 
 enum-told : tie.Need-enum-told
@@ -28,12 +30,15 @@ enum-told c = search needs
 
 returns : tie.Need-returns
 returns c =
-    let o = c .before .before .before .before .before .before .args in
-    rw (c .octets .ensures) (sym (field-is (o .s .now) (o .self) (o .size) (o .order) _ _ (sym (c .before .before .before .before .read-number .ensures) ∙ c .before .before .at .given .1)))
+    let at-read-number = c .before .before .before .before in
+    let at-start = at-read-number .before .before in
+    let o = at-start .args in
+    rw (c .octets .ensures) (sym (field-is (o .s .now) (o .self) (o .size) (o .order) _ _ (sym (at-read-number .read-number .ensures) ∙ c .before .before .at .given .1)))
 
 returns-2 : tie.Need-returns-2
 returns-2 c =
-    let o = c .before .before .before .before .args in
+    let at-start = c .before .before .before .before in
+    let o = at-start .args in
     sym (field-none (o .s .now) (o .self) (o .size) (o .order) (sym (c .before .before .read-number .ensures) ∙ c .enum-told .given .1))
 
 pub number-spec : {M : Type 1} → statement M

@@ -15,7 +15,9 @@ enum-told : tie.Need-enum-told
 enum-told c = search needs
 
 returns : tie.Need-returns
-returns c = let o = c .before .before .before .before .args in sym (string-none (o .s .now) (o .self) (o .order) (sym (c .before .before .number .ensures) ∙ c .enum-told .given .1))
+returns c =
+    let at-start = c .before .before .before .before in
+    let o = at-start .args in sym (string-none (o .s .now) (o .self) (o .order) (sym (c .before .before .number .ensures) ∙ c .enum-told .given .1))
 
 read-text-requires : tie.Need-read-text-requires
 read-text-requires c κs = search needs
@@ -36,19 +38,40 @@ enum-told-5 : tie.Need-enum-told-5
 enum-told-5 c = search needs
 
 returns-2 : tie.Need-returns-2
-returns-2 c = let o = c .before .before .before .before .before .before .before .before .before .args in sym (string-is (o .s .now) (o .self) (o .order) _ _ (sym (c .before .before .before .before .before .before .before .number .ensures) ∙ c .before .before .before .before .before .value .given .1) _ (sym (c .before .before .before .read-text .ensures) ∙ c .before .length .given .1))
+returns-2 c =
+    let at-read-text = c .before .before .before in
+    let at-value = at-read-text .before .before in
+    let at-number = at-value .before .before in
+    let at-start = at-number .before .before in
+    let o = at-start .args in sym (string-is (o .s .now) (o .self) (o .order) _ _ (sym (at-number .number .ensures) ∙ at-value .value .given .1) _ (sym (at-read-text .read-text .ensures) ∙ c .before .length .given .1))
 
 returns-3 : tie.Need-returns-3
-returns-3 c = let o = c .before .before .before .before .before .before .before .before .args in sym (string-is (o .s .now) (o .self) (o .order) _ _ (sym (c .before .before .before .before .before .before .number .ensures) ∙ c .before .before .before .before .value .given .1) _ (sym (c .before .before .read-text .ensures) ∙ c .enum-told2 .given .1))
+returns-3 c =
+    let at-value = c .before .before .before .before in
+    let at-number = at-value .before .before in
+    let at-start = at-number .before .before in
+    let o = at-start .args in sym (string-is (o .s .now) (o .self) (o .order) _ _ (sym (at-number .number .ensures) ∙ at-value .value .given .1) _ (sym (c .before .before .read-text .ensures) ∙ c .enum-told2 .given .1))
 
 returns-4 : tie.Need-returns-4
-returns-4 c = let o = c .before .before .before .before .before .before .before .before .args in sym (string-is (o .s .now) (o .self) (o .order) _ _ (sym (c .before .before .before .before .before .before .number .ensures) ∙ c .before .before .before .before .value .given .1) _ (sym (c .before .before .read-text .ensures) ∙ c .enum-told3 .given .1))
+returns-4 c =
+    let at-value = c .before .before .before .before in
+    let at-number = at-value .before .before in
+    let at-start = at-number .before .before in
+    let o = at-start .args in sym (string-is (o .s .now) (o .self) (o .order) _ _ (sym (at-number .number .ensures) ∙ at-value .value .given .1) _ (sym (c .before .before .read-text .ensures) ∙ c .enum-told3 .given .1))
 
 returns-5 : tie.Need-returns-5
-returns-5 c = let o = c .before .before .before .before .before .before .before .before .args in sym (string-is (o .s .now) (o .self) (o .order) _ _ (sym (c .before .before .before .before .before .before .number .ensures) ∙ c .before .before .before .before .value .given .1) _ (sym (c .before .before .read-text .ensures) ∙ c .enum-told4 .given .1))
+returns-5 c =
+    let at-value = c .before .before .before .before in
+    let at-number = at-value .before .before in
+    let at-start = at-number .before .before in
+    let o = at-start .args in sym (string-is (o .s .now) (o .self) (o .order) _ _ (sym (at-number .number .ensures) ∙ at-value .value .given .1) _ (sym (c .before .before .read-text .ensures) ∙ c .enum-told4 .given .1))
 
 returns-6 : tie.Need-returns-6
-returns-6 c = let o = c .before .before .before .before .before .before .before .before .args in sym (string-is (o .s .now) (o .self) (o .order) _ _ (sym (c .before .before .before .before .before .before .number .ensures) ∙ c .before .before .before .before .value .given .1) _ (sym (c .before .before .read-text .ensures) ∙ c .enum-told5 .given .1))
+returns-6 c =
+    let at-value = c .before .before .before .before in
+    let at-number = at-value .before .before in
+    let at-start = at-number .before .before in
+    let o = at-start .args in sym (string-is (o .s .now) (o .self) (o .order) _ _ (sym (at-number .number .ensures) ∙ at-value .value .given .1) _ (sym (c .before .before .read-text .ensures) ∙ c .enum-told5 .given .1))
 
 pub string-spec : {M : Type 1} → statement M
 string-spec =

@@ -35,10 +35,16 @@ wider-requires-2 : tie.Need-wider-requires-2
 wider-requires-2 c κs = search needs
 
 returns : tie.Need-returns
-returns c = loaded-big _ _ 1 _ (c .before .before .before .enum-told .given .1) (c .before .before .before .before .before .before .pre) _ _ _ (c .before .before .number1 .ensures) (c .before .number12 .ensures) (c .wider .ensures)
+returns c =
+    let at-enum-told = c .before .before .before in
+    let at-start = at-enum-told .before .before .before in
+    loaded-big _ _ 1 _ (at-enum-told .enum-told .given .1) (at-start .pre) _ _ _ (c .before .before .number1 .ensures) (c .before .number12 .ensures) (c .wider .ensures)
 
 returns-2 : tie.Need-returns-2
-returns-2 c = loaded-little _ _ 1 _ (c .before .before .before .enum-told2 .given .1) (c .before .before .before .before .before .before .pre) _ _ _ (c .before .number14 .ensures) (c .before .before .number13 .ensures) (c .wider2 .ensures)
+returns-2 c =
+    let at-enum-told2 = c .before .before .before in
+    let at-start = at-enum-told2 .before .before .before in
+    loaded-little _ _ 1 _ (at-enum-told2 .enum-told2 .given .1) (at-start .pre) _ _ _ (c .before .number14 .ensures) (c .before .before .number13 .ensures) (c .wider2 .ensures)
 
 pub number2-spec : {M : Type 1} → statement M
 number2-spec =

@@ -35,7 +35,8 @@ loop-less c = search needs
 
 loop-again : tie.Need-loop-again Inv-loop μ-loop
 loop-again c =
-    let o = c .before .before .before .args in
+    let at-start = c .before .before .before in
+    let o = at-start .args in
     let i = c .before .before .loop in
     (omega arith, simp length-set (i .inv .1), sym (stored (o .octets .now) (i .out) (o .at) (i .k) (c .before .loop-test .taken)) ∙ i .inv .2)
 

@@ -23,7 +23,12 @@ same-length : tie.Need-same-length
 same-length c = search needs
 
 returns : tie.Need-returns
-returns c = let o = c .before .before .before .before .before .before .before .before .before .before .before .args in stored-halves (o .order) 4 (o .at) (o .x) _ _ (o .out .now) _ _ (c .before .before .before .before .before .before .before .before .first-half .ensures) (c .before .before .before .second-half .ensures) (c .before .before .before .before .before .before .before .number4 .ensures) (c .before .before .number42 .ensures)
+returns c =
+    let at-second-half = c .before .before .before in
+    let at-number4 = at-second-half .before .before .before .before in
+    let at-first-half = at-number4 .before in
+    let at-start = at-first-half .before .before .before in
+    let o = at-start .args in stored-halves (o .order) 4 (o .at) (o .x) _ _ (o .out .now) _ _ (at-first-half .first-half .ensures) (at-second-half .second-half .ensures) (at-number4 .number4 .ensures) (c .before .before .number42 .ensures)
 
 pub number8-spec : {M : Type 1} → statement M
 number8-spec =

@@ -9,8 +9,13 @@ use Rattle.cdr.proofs.Numbers.{number-small}
 use Rattle.frame.proofs.Word.{word-value, word-there}
 
 -- the number that was read is the word
-value-is : (c : tie.After-known-told) → c .before .value .given .0 .0 ≡ numberAt (c .before .before .before .before .before .args .octets .now) (c .before .before .before .before .before .args .at) 4 (c .before .before .before .before .before .args .order)
-value-is c = let o = c .before .before .before .before .before .args in word-value (o .octets .now) (o .at) (o .order) (c .before .before .before .before .before .pre .0) _ _ (sym (c .before .before .before .number .ensures) ∙ c .before .value .given .1)
+value-is : (c : tie.After-known-told) →
+    let at-start = c .before .before .before .before .before in
+    c .before .value .given .0 .0 ≡ numberAt (at-start .args .octets .now) (at-start .args .at) 4 (at-start .args .order)
+value-is c =
+    let at-number = c .before .before .before in
+    let at-start = at-number .before .before in
+    let o = at-start .args in word-value (o .octets .now) (o .at) (o .order) (at-start .pre .0) _ _ (sym (at-number .number .ensures) ∙ c .before .value .given .1)
 
 number-requires : tie.Need-number-requires
 number-requires c κs = search needs
@@ -20,9 +25,11 @@ enum-known-value c = search needs
 
 cast-result : tie.Need-cast-result
 cast-result c =
-    let o = c .before .before .before .before .before .args in
+    let at-shared-slice-known = c .before .before .before .before in
+    let at-start = at-shared-slice-known .before in
+    let o = at-start .args in
     let e = value-is (c) in
-    let b = number-small (o .octets .now) (o .at) 4 (o .order) (λ k. omega (arith, c .before .before .before .before .shared-slice-known .given k)) (c .before .before .before .before .before .pre .1) in
+    let b = number-small (o .octets .now) (o .at) 4 (o .order) (λ k. omega (arith, at-shared-slice-known .shared-slice-known .given k)) (at-start .pre .1) in
     omega arith
 
 enum-told : tie.Need-enum-told
@@ -33,8 +40,9 @@ returns c = value-is (c)
 
 returns-2 : tie.Need-returns-2
 returns-2 c =
-    let o = c .before .before .before .before .args in
-    absurd (word-there (o .octets .now) (o .at) (o .order) (c .before .before .before .before .pre .0) (c .before .before .before .before .pre .1) (sym (c .before .before .number .ensures) ∙ c .enum-told .given .1))
+    let at-start = c .before .before .before .before in
+    let o = at-start .args in
+    absurd (word-there (o .octets .now) (o .at) (o .order) (at-start .pre .0) (at-start .pre .1) (sym (c .before .before .number .ensures) ∙ c .enum-told .given .1))
 
 pub word-spec : {M : Type 1} → statement M
 word-spec =

@@ -22,7 +22,9 @@ returns-3 c = rw (ne-eqb _ _ (c .before .before .if1 .left), c .before .if3 .tak
 
 returns-4 : tie.Need-returns-4
 unfolding fragmentAllowed
-returns-4 c = rw (ne-eqb _ _ (c .before .before .before .if1 .left), c .before .before .if3 .taken, ne-eqb _ _ (c .before .if4 .left), c .is-bare .ensures)
+returns-4 c =
+    let at-if1 = c .before .before .before in
+    rw (ne-eqb _ _ (at-if1 .if1 .left), c .before .before .if3 .taken, ne-eqb _ _ (c .before .if4 .left), c .is-bare .ensures)
 
 returns-5 : tie.Need-returns-5
 unfolding fragmentAllowed

@@ -24,13 +24,18 @@ enum-known-decoded c = search needs
 
 slice-reshare-prefix-judged : tie.Need-slice-reshare-prefix-judged
 slice-reshare-prefix-judged c =
-    let f = accepted (c .before .before .before .before .before .before .before .before .before .before .before .before .before .before .before .before .before .before .before .before .args .line .now) _ _ (sym (c .before .before .before .before .before .before .decode .ensures .answer) ∙ c .before .before .decoded .given .1) .1 .fits in
-    omega (arith, f, c .before .before .before .before .before .before .decode .kept .1 .0)
+    let at-decode = c .before .before .before .before .before .before in
+    let at-start = at-decode .before .before .before .before .before .before .before .before .before .before .before .before .before .before in
+    let f = accepted (at-start .args .line .now) _ _ (sym (at-decode .decode .ensures .answer) ∙ c .before .before .decoded .given .1) .1 .fits in
+    omega (arith, f, at-decode .decode .kept .1 .0)
 
 slice-aggregate-judged : tie.Need-slice-aggregate-judged
 slice-aggregate-judged c =
-    let f = accepted (c .before .before .before .before .before .before .before .before .before .before .before .before .before .before .before .before .before .before .before .before .before .args .line .now) _ _ (sym (c .before .before .before .before .before .before .before .decode .ensures .answer) ∙ c .before .before .before .decoded .given .1) .1 .fits in
-    sym (length-take-le _ _ (omega (arith, f, c .before .before .before .before .before .before .before .decode .kept .1 .0)))
+    let at-decoded = c .before .before .before in
+    let at-decode = at-decoded .before .before .before .before in
+    let at-start = at-decode .before .before .before .before .before .before .before .before .before .before .before .before .before .before in
+    let f = accepted (at-start .args .line .now) _ _ (sym (at-decode .decode .ensures .answer) ∙ at-decoded .decoded .given .1) .1 .fits in
+    sym (length-take-le _ _ (omega (arith, f, at-decode .decode .kept .1 .0)))
 
 judged-requires : tie.Need-judged-requires
 judged-requires c κs = search needs
