@@ -1,8 +1,13 @@
 -- The fields of an encapsulation, one after the other: v are its octets alone, its own index 0 first.
---   start        the index of an encapsulation's first octet
---   fieldOf      a number at its aligned index, and the index after it
---   stringOf     a length and a text without a bound; `from` and `length` tell its characters without the final zero
---   countedOf    a count and so many octets; `from` and `count` tell them
+--   start           the index of an encapsulation's first octet
+--   fieldFrom       what reading a number of n octets gives as a field
+--   fieldOf         a number at its aligned index, and the index after it
+--   stringFrom      what the text rule gives as a string: octets missing, or a text that breaks the rule
+--   stringAfter     the text behind its length
+--   stringOf        a length and a text without a bound; `from` and `length` tell its characters without the final zero
+--   countedFrom     what a run of octets gives as counted octets
+--   countedAfter    the octets behind their count
+--   countedOf       a count and so many octets; `from` and `count` tell them
 use Prim.Native.Nat.{ℕ, _+_}
 use mathlib.Core.List.{List}
 use Rattle.cdr.specs.declared.Index.{Index}
@@ -18,7 +23,7 @@ use Rattle.cdr.specs.declared.Run.the-variants.{To, Past}
 use Rattle.cdr.specs.declared.Field.{Field}
 use Rattle.cdr.specs.declared.Field.the-variants.{Value, NoField}
 use Rattle.cdr.specs.declared.Str.{Str}
-use Rattle.cdr.specs.declared.Str.the-variants.{Text as Characters, BadText, NoText}
+use Rattle.cdr.specs.declared.Str.the-variants.{Characters, BadText, NoText}
 use Rattle.cdr.specs.declared.Counted.{Counted}
 use Rattle.cdr.specs.declared.Counted.the-variants.{Octets, NoOctets}
 use Rattle.cdr.specs.Align.{octets, indexOf}

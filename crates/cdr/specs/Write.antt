@@ -1,4 +1,5 @@
 -- Octets stored in a lent buffer, where they fit.
+--   writtenFrom  what a run of octets in the buffer gives as an answer
 --   writtenOf    whether n octets fit from `at` on, by the rule of counted octets, and where they end
 --   holding      what the buffer then holds: the octets stored from `at` on, one after the other, and the rest as it was
 --   Stored       both, as the contract of a writer that was lent `out` says them

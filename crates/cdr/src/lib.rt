@@ -134,7 +134,7 @@ impl Index {
             return Str::NoText;
         };
         match read_text(s, next.0, value as usize, 0) {
-            Text::Chars(length) => Str::Text { from: next, length },
+            Text::Chars(length) => Str::Characters { from: next, length },
             Text::Empty => Str::BadText,
             Text::Over => Str::BadText,
             Text::Short => Str::NoText,
@@ -260,7 +260,7 @@ pub enum Field {
 
 // A text of an encapsulation: its first character's index, and its length without the final zero.
 pub enum Str {
-    Text { from: Index, length: usize },
+    Characters { from: Index, length: usize },
     BadText,
     NoText,
 }

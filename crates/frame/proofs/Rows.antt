@@ -8,7 +8,7 @@ use lib.Dec.{leb, eqb}
 use lib.ListN.{length}
 use borrow.Author.Tests.{lt-ltb, le-ltb, eq-eqb, ne-eqb, leb-true, eqb-true}
 use Rattle.frame.specs.declared.Frame.the-variants.{Accepted, Refused}
-use Rattle.frame.specs.declared.Refusal.the-variants.{TooLong, Short, NotGiop, NoSuchVersion, FlagsSet, NoSuchType, SizeAbove, SizeBelow, SizeOfType, Fragmented, NotInEights}
+use Rattle.frame.specs.declared.Refusal.the-variants.{TooLong, Short, NotGiop, NoSuchVersion, NoSuchFlags, NoSuchType, SizeAbove, SizeBelow, SizeOfType, NoFragments, NotInEights}
 use Rattle.frame.specs.Messages.{versionExists, flagsAllowed, typeExists, isRequestOrReply, bodyStartsWithId, hasRequestId}
 use Rattle.frame.specs.Header.{headerSize, giop, magicAt, majorAt, flagsAt, minorAt, kindAt, moreAt, sizeAt, headerOf}
 use Rattle.frame.specs.Inner.{IdThere}
@@ -58,7 +58,7 @@ module _ (v : List ℕ) where
       id-there h =
           record { header = h; id = λ k. let f = id-fits (minorAt v) (kindAt v) (sizeAt v) a k in omega arith }
 
-      pub sized-fragmented : fragmentAllowed (minorAt v) (kindAt v) (moreAt v) ≡ false → sizedOf v ≡ Refused Fragmented
+      pub sized-fragmented : fragmentAllowed (minorAt v) (kindAt v) (moreAt v) ≡ false → sizedOf v ≡ Refused NoFragments
       unfolding sizedOf
       sized-fragmented f =
           rw (le-ltb (length v - headerSize) (sizeAt v) (omega arith), le-ltb (sizeAt v) (length v - headerSize) (omega arith), a, f)
@@ -91,10 +91,10 @@ module _ (v : List ℕ) where
     message-not-giop h = rw (le-ltb (length v) headerSize s, ne-eqb (magicAt v) giop h)
 
     module _ (m : magicAt v ≡ giop) where
-      -- the four rows that are left, by their tests
+      -- the three rows that are left before the size, by their tests
       pub message-by : (a b c : Bool) → versionExists (majorAt v) (minorAt v) ≡ a → flagsAllowed (minorAt v) (flagsAt v) ≡ b
           → typeExists (minorAt v) (kindAt v) ≡ c
-          → messageOf v ≡ cond a (cond b (cond c (sizedOf v) (Refused NoSuchType)) (Refused FlagsSet)) (Refused NoSuchVersion)
+          → messageOf v ≡ cond a (cond b (cond c (sizedOf v) (Refused NoSuchType)) (Refused NoSuchFlags)) (Refused NoSuchVersion)
       unfolding messageOf
       message-by false b c e f g = rw (le-ltb (length v) headerSize s, eq-eqb (magicAt v) giop m, e)
       message-by true false c e f g = rw (le-ltb (length v) headerSize s, eq-eqb (magicAt v) giop m, e, f)

@@ -14,7 +14,7 @@
 --   frameNumbers       the number and the values of each answer; "a refusal's other numbers are 0"
 use Prim.Native.Nat.{ℕ, _+_, _-_, _%_}
 use mathlib.Core.List.{List, [], _∷_}
-use mathlib.Core.Bool.{Bool, true, cond, not, _||_}
+use mathlib.Core.Bool.{Bool, true, cond, not, _&&_, _||_}
 use lib.Dec.{ltb, leb, eqb}
 use lib.ListN.{length, replicate}
 use Rattle.cdr.specs.Orders.{orderOctet}
@@ -24,8 +24,8 @@ use Rattle.frame.specs.declared.Header.{Header}
 use Rattle.frame.specs.declared.Frame.{Frame}
 use Rattle.frame.specs.declared.Frame.the-variants.{Accepted, Refused}
 use Rattle.frame.specs.declared.Refusal.{Refusal}
-use Rattle.frame.specs.declared.Refusal.the-variants.{TooLong, Short, NotGiop, NoSuchVersion, FlagsSet, NoSuchType, SizeAbove, SizeBelow, SizeOfType, Fragmented, NotInEights}
-use Rattle.frame.specs.Messages.{versionExists, flagsAllowed, typeExists, bodyStartsWithId, isRequestOrReply, isCancel, isFragment, isBare}
+use Rattle.frame.specs.declared.Refusal.the-variants.{TooLong, Short, NotGiop, NoSuchVersion, NoSuchFlags, NoSuchType, SizeAbove, SizeBelow, SizeOfType, NoFragments, NotInEights}
+use Rattle.frame.specs.Messages.{versionExists, flagsAllowed, typeExists, bodyStartsWithId, readsFragments, isRequestOrReply, isCancel, isFragment, isBare}
 use Rattle.frame.specs.Header.{headerSize, giop, magicAt, majorAt, minorAt, flagsAt, kindAt, moreAt, sizeAt, headerOf}
 
 abbrev pub messageLimit : ℕ
@@ -40,9 +40,8 @@ sizeAllowed minor kind size =
 
 unfoldable pub fragmentAllowed : ℕ → ℕ → Bool → Bool
 fragmentAllowed minor kind more =
-    cond (eqb minor 1) (not (isFragment kind || more))
-    (cond more (not (isCancel kind || isBare kind))
-    true)
+    cond (readsFragments minor) (not (more && (isCancel kind || isBare kind)))
+    (not (isFragment kind || more))
 
 unfoldable pub eightsAllowed : Bool → ℕ → Bool
 eightsAllowed more size = cond more (eqb ((size + headerSize) % 8) 0) true
@@ -52,7 +51,7 @@ sizedOf v =
     cond (ltb (length v - headerSize) (sizeAt v)) (Refused SizeAbove)
     (cond (ltb (sizeAt v) (length v - headerSize)) (Refused SizeBelow)
     (cond (not (sizeAllowed (minorAt v) (kindAt v) (sizeAt v))) (Refused SizeOfType)
-    (cond (not (fragmentAllowed (minorAt v) (kindAt v) (moreAt v))) (Refused Fragmented)
+    (cond (not (fragmentAllowed (minorAt v) (kindAt v) (moreAt v))) (Refused NoFragments)
     (cond (not (eightsAllowed (moreAt v) (sizeAt v))) (Refused NotInEights)
     (Accepted (headerOf v))))))
 
@@ -61,7 +60,7 @@ messageOf v =
     cond (ltb (length v) headerSize) (Refused Short)
     (cond (not (eqb (magicAt v) giop)) (Refused NotGiop)
     (cond (not (versionExists (majorAt v) (minorAt v))) (Refused NoSuchVersion)
-    (cond (not (flagsAllowed (minorAt v) (flagsAt v))) (Refused FlagsSet)
+    (cond (not (flagsAllowed (minorAt v) (flagsAt v))) (Refused NoSuchFlags)
     (cond (not (typeExists (minorAt v) (kindAt v))) (Refused NoSuchType)
     (sizedOf v)))))
 
@@ -73,12 +72,12 @@ refusalNumber TooLong = 10
 refusalNumber Short = 12
 refusalNumber NotGiop = 13
 refusalNumber NoSuchVersion = 14
-refusalNumber FlagsSet = 15
+refusalNumber NoSuchFlags = 15
 refusalNumber NoSuchType = 16
 refusalNumber SizeAbove = 17
 refusalNumber SizeBelow = 18
 refusalNumber SizeOfType = 19
-refusalNumber Fragmented = 20
+refusalNumber NoFragments = 20
 refusalNumber NotInEights = 21
 
 abbrev pub frameNumber : Frame → ℕ

@@ -32,12 +32,12 @@ pub enum Refusal {
     Short,
     NotGiop,
     NoSuchVersion,
-    FlagsSet,
+    NoSuchFlags,
     NoSuchType,
     SizeAbove,
     SizeBelow,
     SizeOfType,
-    Fragmented,
+    NoFragments,
     NotInEights,
 }
 
@@ -51,12 +51,12 @@ impl Refusal {
             Refusal::Short => refusals::FRAME_SHORT,
             Refusal::NotGiop => refusals::NOT_GIOP,
             Refusal::NoSuchVersion => refusals::NO_SUCH_VERSION,
-            Refusal::FlagsSet => refusals::FLAGS_SET,
+            Refusal::NoSuchFlags => refusals::NO_SUCH_FLAGS,
             Refusal::NoSuchType => refusals::NO_SUCH_TYPE,
             Refusal::SizeAbove => refusals::SIZE_ABOVE,
             Refusal::SizeBelow => refusals::SIZE_BELOW,
             Refusal::SizeOfType => refusals::SIZE_OF_TYPE,
-            Refusal::Fragmented => refusals::FRAGMENTED,
+            Refusal::NoFragments => refusals::NO_FRAGMENTS,
             Refusal::NotInEights => refusals::NOT_IN_EIGHTS,
         }
     }
@@ -101,7 +101,7 @@ pub fn judge_message(octets: &[u8]) -> Frame
         return Frame::Refused(Refusal::NoSuchVersion);
     }
     if !rules::flags_allowed(octets[5], octets[6]) {
-        return Frame::Refused(Refusal::FlagsSet);
+        return Frame::Refused(Refusal::NoSuchFlags);
     }
     if !rules::type_exists(octets[5], octets[7]) {
         return Frame::Refused(Refusal::NoSuchType);
@@ -126,13 +126,16 @@ fn sized(octets: &[u8]) -> Frame
     if (size as usize) < body {
         return Frame::Refused(Refusal::SizeBelow);
     }
-    if !rules::size_allowed(minor, kind, size) {
+    let size_fits = rules::size_allowed(minor, kind, size);
+    let fragment_fits = rules::fragment_allowed(minor, kind, more);
+    let eights_fit = rules::eights_allowed(more, size);
+    if !size_fits {
         return Frame::Refused(Refusal::SizeOfType);
     }
-    if !rules::fragment_allowed(minor, kind, more) {
-        return Frame::Refused(Refusal::Fragmented);
+    if !fragment_fits {
+        return Frame::Refused(Refusal::NoFragments);
     }
-    if !rules::eights_allowed(more, size) {
+    if !eights_fit {
         return Frame::Refused(Refusal::NotInEights);
     }
     let id = request_id(octets);

@@ -1,6 +1,6 @@
 // The rules of the versions and the table, as tests on numbers.
 ghost use mathlib.Core.Path.{_≡_};
-ghost use Rattle.frame.specs.Messages.{versionExists, flagsAllowed, typeExists, bodyStartsWithId, isRequestOrReply, isBare, hasRequestId};
+ghost use Rattle.frame.specs.Messages.{versionExists, flagsAllowed, typeExists, bodyStartsWithId, readsFragments, isRequestOrReply, isBare, hasRequestId};
 ghost use Rattle.frame.specs.Frames.{sizeAllowed, fragmentAllowed, eightsAllowed};
 
 const CANCEL_REQUEST: u8 = 2;
@@ -77,11 +77,18 @@ fn is_bare(kind: u8) -> bool
     5 <= kind && kind <= 6
 }
 
+// Whether the version's fragments are read.
+fn reads_fragments(minor: u8) -> bool
+    ensures { λ r. ⌜ r ≡ readsFragments minor ⌝ }
+{
+    minor != 1
+}
+
 // Whether a message of this type may be a fragment, or have fragments after it.
 pub(crate) fn fragment_allowed(minor: u8, kind: u8, more: bool) -> bool
     ensures { λ r. ⌜ r ≡ fragmentAllowed minor kind more ⌝ }
 {
-    if minor == 1 {
+    if !reads_fragments(minor) {
         return if kind == FRAGMENT { false } else { !more };
     }
     if more {

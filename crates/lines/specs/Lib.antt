@@ -1,1 +1,2 @@
+-- The lines of a recording that is read in blocks.
 pub mod Lines

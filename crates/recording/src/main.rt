@@ -61,7 +61,7 @@ fn read_all(
             return state;
         }
         if block.len() < n {
-            return failed(state);
+            return stopped(out, state);
         }
         state = take_block(&block[..n], line, octets, out, state);
         if !state.ok {
@@ -69,7 +69,7 @@ fn read_all(
         }
         turns -= 1;
     }
-    failed(state)
+    endless(out, state)
 }
 
 // Reads once: the characters read, 0 at the end of the input, and more than the block has where the read fails.
@@ -152,12 +152,16 @@ fn last_line(line: &[u8], octets: &mut [u8], out: &mut [u8], state: State) -> St
     answer(&line[..kept], octets, out, state)
 }
 
-// Closes the answers.
+// Writes the answers that wait, and then the closing line by itself: it is begun only where all before it was written.
 fn close(out: &mut [u8], state: State) {
-    let filled = text::end(out, state.filled, state.lines);
+    let answered = written_out(out, state);
+    if !answered.ok {
+        return;
+    }
+    let filled = text::end(out, 0, answered.lines);
     let last = State {
         kept: 0,
-        lines: state.lines,
+        lines: answered.lines,
         filled,
         ok: true,
     };
@@ -183,6 +187,21 @@ fn written_out(out: &[u8], state: State) -> State
     }
     os::fail(b"write");
     failed(state)
+}
+
+// The state after an input that outlasts the turns.
+fn endless(out: &[u8], state: State) -> State
+    ensures { λ r. ⌜ r .kept ≡ state .kept ⌝ }
+{
+    io::write_all(libc::STDERR_FILENO, b"read: the input does not end\n");
+    stopped(out, state)
+}
+
+// Writes the answers that wait where the input cannot be read to its end.
+fn stopped(out: &[u8], state: State) -> State
+    ensures { λ r. ⌜ r .kept ≡ state .kept ⌝ }
+{
+    failed(written_out(out, state))
 }
 
 // The state after a read or a write that failed.

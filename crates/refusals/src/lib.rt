@@ -1,27 +1,40 @@
 // The numbers that paper 01 gives to refusals, by name.
 
+// A line is over 8,192 characters, or a line's message over 4,096 octets.
 pub const LINE_TOO_LONG: u32 = 10;
 
+// A line has an odd count of characters, or one that is no digit.
 pub const NOT_DIGITS: u32 = 11;
 
+// A message has fewer octets than a header.
 pub const FRAME_SHORT: u32 = 12;
 
+// A message does not begin with `GIOP`.
 pub const NOT_GIOP: u32 = 13;
 
+// A message has a version that is not read.
 pub const NO_SUCH_VERSION: u32 = 14;
 
-pub const FLAGS_SET: u32 = 15;
+// A message has flags set that its version lacks.
+pub const NO_SUCH_FLAGS: u32 = 15;
 
+// A message has a type that its version lacks.
 pub const NO_SUCH_TYPE: u32 = 16;
 
+// A message says a size above its octets.
 pub const SIZE_ABOVE: u32 = 17;
 
+// A message says a size below its octets.
 pub const SIZE_BELOW: u32 = 18;
 
+// A message has a size that its type cannot have.
 pub const SIZE_OF_TYPE: u32 = 19;
 
-pub const FRAGMENTED: u32 = 20;
+// A message is a fragment, or says that one follows, where there are none.
+pub const NO_FRAGMENTS: u32 = 20;
 
+// A message says that a fragment follows, and does not end at a multiple of 8.
 pub const NOT_IN_EIGHTS: u32 = 21;
 
+// An output is shorter than what is to be written.
 pub const NO_ROOM: u32 = 27;

@@ -2,7 +2,7 @@
 --   paper           octets as the paper prints them: so many, and their digits as one number
 --   Question        what a sample asks
 --   answer          what the definitions answer, as numbers
---   Sample          a question, and the numbers that the paper gives
+--   Sample          a question, and the numbers that answer it: what the paper gives, and what follows from it
 --   same            whether two lists of numbers are equal
 --   holds           whether each sample of a table has the paper's answer
 --   samples         the table
@@ -14,7 +14,7 @@ use lib.Dec.{T, eqb}
 use Rattle.cdr.specs.declared.Order.the-variants.{Big}
 use Rattle.cdr.specs.Number.{littleNumber, littleOctets, numberOf, octetsOf, numberAt}
 use Rattle.version.specs.Versions.{majorExists, minorExists}
-use Rattle.frame.specs.Messages.{versionExists, flagsAllowed, typeExists, bodyStartsWithId, isRequestOrReply, isBare, hasRequestId}
+use Rattle.frame.specs.Messages.{versionExists, flagsAllowed, typeExists, bodyStartsWithId, readsFragments, isRequestOrReply, isBare, hasRequestId}
 use Rattle.frame.specs.Frames.{sizeAllowed, fragmentAllowed, eightsAllowed, sizedOf, messageOf, frameOf, frameNumbers}
 
 abbrev paper : ℕ → ℕ → List ℕ
@@ -43,10 +43,10 @@ holds (s ∷ rest) = same (answer (s .asked)) (s .given) && holds rest
 
 unfoldable pub samples : List Sample
 samples =
-    -- type 5, size 0
+    -- "type 5, size 0"; minor 0, big-endian, no more flag and no request id are as the octets say
     record { asked = frame (paper 12 0x47494F500100000500000000); given = 0 ∷ 0 ∷ 0 ∷ 0 ∷ 5 ∷ 0 ∷ 0 ∷ 0 ∷ [] }
     ∷ []
 
 pub samples-hold : T (holds samples)
-unfolding littleNumber littleOctets numberOf octetsOf numberAt majorExists minorExists versionExists flagsAllowed typeExists bodyStartsWithId isRequestOrReply isBare hasRequestId sizeAllowed fragmentAllowed eightsAllowed sizedOf messageOf frameOf samples
+unfolding littleNumber littleOctets numberOf octetsOf numberAt majorExists minorExists versionExists flagsAllowed typeExists bodyStartsWithId readsFragments isRequestOrReply isBare hasRequestId sizeAllowed fragmentAllowed eightsAllowed sizedOf messageOf frameOf samples
 samples-hold = tt

@@ -57,7 +57,7 @@ fn types(judge: &mut Judge, chance: &mut Chance) {
     }
 }
 
-/// Every two faults, in every version, type and order; each goes as a line too.
+/// Every two faults, in every version, type and order; one in four goes as a line too.
 fn fault_pairs(judge: &mut Judge, chance: &mut Chance) {
     for minor in 0..=2 {
         for kind in 0..=7 {

@@ -11,7 +11,6 @@ use second::recording::answer_lines;
 use crate::chance::Chance;
 use crate::draft::{Draft, FAULTS};
 use crate::judge::Judge;
-use crate::tally::Held;
 
 /// The characters that the proved program reads at once.
 const BLOCK: usize = 1 << 16;
@@ -100,11 +99,8 @@ fn hold(judge: &mut Judge, program: &Path, recording: &[u8]) -> io::Result<()> {
     answer_lines(recording, &mut expected)
         .map_err(|failure| io::Error::other(failure.to_string()))?;
     let found = run(program, recording)?;
-    let held = Held {
-        number: 0,
-        memory: difference(&found, &expected),
-    };
-    judge.tally.enter("program", recording, 0, held);
+    let difference = difference(&found, &expected);
+    judge.tally.hold("program", recording, difference);
     Ok(())
 }
 

@@ -11,8 +11,11 @@ const SHOWN: usize = 20;
 /// How many digits of an input are shown.
 const SHOWN_DIGITS: usize = 200;
 
-/// How often each of the numbers 10 to 21 must be given.
+/// How often each of the numbers must be given.
 const OFTEN: u64 = 100;
+
+/// How many inputs there must be.
+const ENOUGH: u64 = 200_000;
 
 /// What an answer of the archive was held to.
 pub struct Held {
@@ -44,6 +47,11 @@ impl Tally {
             *self.given.entry(number).or_default() += 1;
             held.memory.map(|found| format!("number {number}, {found}"))
         };
+        self.hold(function, input, difference);
+    }
+
+    /// Enters one input, and in what its outcome differs, if in anything.
+    pub fn hold(&mut self, function: &str, input: &[u8], difference: Option<String>) {
         match difference {
             None => self.passed += 1,
             Some(difference) => {
@@ -64,28 +72,37 @@ impl Tally {
 
     /// The numbers that were given too seldom.
     fn seldom(&self) -> Vec<u32> {
-        (LINE_TOO_LONG..=FRAGMENT_UNALIGNED)
+        numbers()
             .filter(|&number| self.given(number) < OFTEN)
             .collect()
     }
 
+    /// How many inputs there were.
+    fn total(&self) -> u64 {
+        self.passed + self.different
+    }
+
     /// How many things are wrong.
     pub fn failed(&self) -> u64 {
-        self.different + self.seldom().len() as u64
+        let few = u64::from(self.total() < ENOUGH);
+        self.different + self.seldom().len() as u64 + few
     }
+}
+
+/// The numbers that both programs can give: acceptance and the refusals.
+fn numbers() -> impl Iterator<Item = u32> {
+    [0].into_iter()
+        .chain(LINE_TOO_LONG..=FRAGMENT_UNALIGNED)
+        .chain([OUTPUT_TOO_SHORT])
 }
 
 impl fmt::Display for Tally {
     fn fmt(&self, formatter: &mut fmt::Formatter<'_>) -> fmt::Result {
         writeln!(formatter, "number count")?;
-        for number in [0]
-            .into_iter()
-            .chain(LINE_TOO_LONG..=FRAGMENT_UNALIGNED)
-            .chain([OUTPUT_TOO_SHORT])
-        {
+        for number in numbers() {
             writeln!(formatter, "{number} {}", self.given(number))?;
         }
-        writeln!(formatter, "total {}", self.passed + self.different)?;
+        writeln!(formatter, "total {}, at least {ENOUGH}", self.total())?;
         for difference in &self.shown {
             writeln!(formatter, "{difference}")?;
         }

@@ -15,7 +15,8 @@ word-requires c κs = search needs
 
 returns-2 : tie.Need-returns-2
 returns-2 c =
-    let at-start = c .before .before .before .before in
+    let at-there = c .before .before .before .before in
+    let at-start = at-there in
     sym (message-not-giop (at-start .args .octets .now) (c .before .before .if1 .left) (λ e. c .if2 .taken (c .before .word .ensures ∙ e)))
 
 shared-slice-read-version-exists : tie.Need-shared-slice-read-version-exists
@@ -29,7 +30,8 @@ version-exists-requires c κs = search needs
 
 returns-3 : tie.Need-returns-3
 returns-3 c =
-    let at-if2 = c .before .before .before .before in
+    let at-there = c .before .before .before .before in
+    let at-if2 = at-there in
     let at-word = at-if2 .before in
     let at-if1 = at-word .before in
     let at-start = at-if1 .before .before in
@@ -47,7 +49,8 @@ flags-allowed-requires c κs = search needs
 
 returns-4 : tie.Need-returns-4
 returns-4 c =
-    let at-if3 = c .before .before .before .before in
+    let at-there = c .before .before .before .before in
+    let at-if3 = at-there in
     let at-version-exists = at-if3 .before in
     let at-if2 = at-version-exists .before .before .before in
     let at-word = at-if2 .before in
@@ -67,7 +70,8 @@ type-exists-requires c κs = search needs
 
 returns-5 : tie.Need-returns-5
 returns-5 c =
-    let at-if4 = c .before .before .before .before in
+    let at-there = c .before .before .before .before in
+    let at-if4 = at-there in
     let at-flags-allowed = at-if4 .before in
     let at-if3 = at-flags-allowed .before .before .before in
     let at-version-exists = at-if3 .before in
@@ -84,7 +88,8 @@ sized-requires c κs = search needs
 
 returns-6 : tie.Need-returns-6
 returns-6 c =
-    let at-if4 = c .before .before .before .before .before in
+    let at-there = c .before .before .before .before .before in
+    let at-if4 = at-there in
     let at-flags-allowed = at-if4 .before in
     let at-if3 = at-flags-allowed .before .before .before in
     let at-version-exists = at-if3 .before in

@@ -9,7 +9,7 @@ use borrow.Author.Tests.{not-true, not-false}
 use Rattle.frame.proofs.sized.Statement.{statement}
 use Rattle.frame.proofs.sized.Tie as tie
 use Rattle.cdr.specs.Number.{numberAt}
-use Rattle.frame.specs.Header.{sizeAt, headerSize, minorAt, kindAt, moreAt}
+use Rattle.frame.specs.Header.{headerSize, minorAt, kindAt, moreAt, sizeAt}
 use Rattle.frame.specs.Frames.{sizeAllowed, fragmentAllowed, eightsAllowed}
 use Rattle.frame.proofs.Rows.{sized-above, sized-below, sized-of-type, sized-fragmented, sized-last, id-there}
 
@@ -27,27 +27,28 @@ equal : (c : tie.Else2) →
     sizeAt (at-start .args .octets .now) ≡ length (at-start .args .octets .now) - headerSize
 equal c = let e = size-is (c .before .before) in omega arith
 
-size-allowed-is : (c : tie.After-size-allowed) →
+-- the tests are those of the rows
+size-fits-is : (c : tie.After-size-allowed) →
     let at-start = c .before .before .before .before .before .before .before .before .before .before .before in
     c .size-allowed .result ≡ sizeAllowed (minorAt (at-start .args .octets .now)) (kindAt (at-start .args .octets .now)) (sizeAt (at-start .args .octets .now))
-size-allowed-is c =
+size-fits-is c =
     let at-there = c .before .before .before in
     let at-start = at-there .before .before .before .before .before .before .before .before in
     c .size-allowed .ensures ∙ ap (sizeAllowed (minorAt (at-start .args .octets .now)) (kindAt (at-start .args .octets .now))) (size-is (at-there))
 
-fragment-allowed-is : (c : tie.After-fragment-allowed) →
-    let at-start = c .before .before .before .before .before .before .before .before .before .before .before .before .before in
+fragment-fits-is : (c : tie.After-fragment-allowed) →
+    let at-start = c .before .before .before .before .before .before .before .before .before .before .before .before in
     c .fragment-allowed .result ≡ fragmentAllowed (minorAt (at-start .args .octets .now)) (kindAt (at-start .args .octets .now)) (moreAt (at-start .args .octets .now))
-fragment-allowed-is c =
-    let at-more-flag = c .before .before .before .before .before .before .before in
+fragment-fits-is c =
+    let at-more-flag = c .before .before .before .before .before .before in
     let at-start = at-more-flag .before .before .before .before .before .before in
     c .fragment-allowed .ensures ∙ ap (fragmentAllowed (minorAt (at-start .args .octets .now)) (kindAt (at-start .args .octets .now))) (at-more-flag .more-flag .ensures)
 
-eights-allowed-is : (c : tie.After-eights-allowed) →
-    let at-start = c .before .before .before .before .before .before .before .before .before .before .before .before .before .before .before in
+eights-fit-is : (c : tie.After-eights-allowed) →
+    let at-start = c .before .before .before .before .before .before .before .before .before .before .before .before .before in
     c .eights-allowed .result ≡ eightsAllowed (moreAt (at-start .args .octets .now)) (sizeAt (at-start .args .octets .now))
-eights-allowed-is c =
-    let at-there = c .before .before .before .before .before .before .before in
+eights-fit-is c =
+    let at-there = c .before .before .before .before .before in
     let at-more-flag = at-there .before .before in
     c .eights-allowed .ensures ∙ rw (at-more-flag .more-flag .ensures, size-is (at-there))
 
@@ -94,57 +95,66 @@ returns-2 c =
 size-allowed-requires : tie.Need-size-allowed-requires
 size-allowed-requires c κs = search needs
 
-returns-3 : tie.Need-returns-3
-returns-3 c =
-    let at-start = c .before .before .before .before .before .before .before .before .before .before .before .before in
-    sym (sized-of-type (at-start .args .octets .now) (equal (c .before .before)) (sym (size-allowed-is (c .before)) ∙ not-true _ (c .if3 .taken)))
-
 fragment-allowed-requires : tie.Need-fragment-allowed-requires
 fragment-allowed-requires c κs = search needs
+
+eights-allowed-requires : tie.Need-eights-allowed-requires
+eights-allowed-requires c κs = search needs
+
+returns-3 : tie.Need-returns-3
+returns-3 c =
+    let at-there = c .before .before .before in
+    let at-there′ = at-there .before in
+    let at-start = at-there′ .before .before .before .before .before .before .before .before .before .before in
+    let v = at-start .args .octets .now in
+    sym (sized-of-type v (equal (at-there′)) (sym (size-fits-is (at-there)) ∙ not-true _ (c .if3 .taken)))
 
 returns-4 : tie.Need-returns-4
 returns-4 c =
     let at-there = c .before .before .before in
     let at-there′ = at-there .before in
-    let at-start = at-there′ .before .before .before .before .before .before .before .before .before .before in
-    sym (sized-fragmented (at-start .args .octets .now) (equal (at-there′)) (sym (size-allowed-is (at-there)) ∙ not-false _ (c .before .before .if3 .left))
-    (sym (fragment-allowed-is (c .before)) ∙ not-true _ (c .if4 .taken)))
-
-eights-allowed-requires : tie.Need-eights-allowed-requires
-eights-allowed-requires c κs = search needs
+    let at-there′′ = at-there′ .before in
+    let at-start = at-there′′ .before .before .before .before .before .before .before .before .before .before in
+    let v = at-start .args .octets .now in
+    let s = sym (size-fits-is (at-there′)) ∙ not-false _ (c .before .if3 .left) in
+    sym (sized-fragmented v (equal (at-there′′)) s (sym (fragment-fits-is (at-there)) ∙ not-true _ (c .if4 .taken)))
 
 returns-5 : tie.Need-returns-5
 returns-5 c =
     let at-there = c .before .before .before in
-    let at-if3 = at-there .before in
-    let at-there′ = at-if3 .before in
+    let at-there′ = at-there .before in
     let at-there′′ = at-there′ .before in
-    let at-start = at-there′′ .before .before .before .before .before .before .before .before .before .before in
-    sym (sized-last (at-start .args .octets .now) (equal (at-there′′)) (sym (size-allowed-is (at-there′)) ∙ not-false _ (at-if3 .if3 .left))
-    (sym (fragment-allowed-is (at-there)) ∙ not-false _ (c .before .before .if4 .left)) false (sym (eights-allowed-is (c .before)) ∙ not-true _ (c .if5 .taken)))
+    let at-there′′′ = at-there′′ .before in
+    let at-start = at-there′′′ .before .before .before .before .before .before .before .before .before .before in
+    let v = at-start .args .octets .now in
+    let s = sym (size-fits-is (at-there′′)) ∙ not-false _ (c .before .before .if3 .left) in
+    let f = sym (fragment-fits-is (at-there′)) ∙ not-false _ (c .before .if4 .left) in
+    sym (sized-last v (equal (at-there′′′)) s f false (sym (eights-fit-is (at-there)) ∙ not-true _ (c .if5 .taken)))
 
 request-id-requires : tie.Need-request-id-requires
 request-id-requires c κs =
-    let at-if3 = c .before .before .before .before in
-    let at-there = at-if3 .before in
+    let at-there = c .before .before .before .before .before in
     let at-there′ = at-there .before in
     let at-start = at-there′ .before .before .before .before .before .before .before .before .before .before in
-    id-there (at-start .args .octets .now) (equal (at-there′)) (sym (size-allowed-is (at-there)) ∙ not-false _ (at-if3 .if3 .left)) (at-start .pre)
+    let v = at-start .args .octets .now in
+    id-there v (equal (at-there′)) (sym (size-fits-is (at-there)) ∙ not-false _ (c .before .before .if3 .left)) (at-start .pre)
 
 returns-6 : tie.Need-returns-6
 returns-6 c =
-    let at-if4 = c .before .before .before in
-    let at-there = at-if4 .before in
-    let at-if3 = at-there .before in
-    let at-there′ = at-if3 .before in
+    let at-if3 = c .before .before .before in
+    let at-there = at-if3 .before in
+    let at-there′ = at-there .before in
     let at-there′′ = at-there′ .before in
-    let at-there′′′ = at-there′′ .before .before in
-    let at-more-flag = at-there′′′ .before .before in
+    let at-there′′′ = at-there′′ .before in
+    let at-there′′′′ = at-there′′′ .before .before in
+    let at-more-flag = at-there′′′′ .before .before in
     let at-order-flag = at-more-flag .before .before in
     let at-start = at-order-flag .before .before .before .before in
-    rw (at-order-flag .order-flag .ensures, at-more-flag .more-flag .ensures, size-is (at-there′′′), c .request-id .ensures)
-    (sym (sized-last (at-start .args .octets .now) (equal (at-there′′)) (sym (size-allowed-is (at-there′)) ∙ not-false _ (at-if3 .if3 .left))
-    (sym (fragment-allowed-is (at-there)) ∙ not-false _ (at-if4 .if4 .left)) true (sym (eights-allowed-is (c .before .before)) ∙ not-false _ (c .before .if5 .left))))
+    let v = at-start .args .octets .now in
+    let s = sym (size-fits-is (at-there′′)) ∙ not-false _ (at-if3 .if3 .left) in
+    let f = sym (fragment-fits-is (at-there′)) ∙ not-false _ (c .before .before .if4 .left) in
+    rw (at-order-flag .order-flag .ensures, at-more-flag .more-flag .ensures, size-is (at-there′′′′), c .request-id .ensures)
+    (sym (sized-last v (equal (at-there′′′)) s f true (sym (eights-fit-is (at-there)) ∙ not-false _ (c .before .if5 .left))))
 
 pub sized-spec : {M : Type 1} → statement M
 sized-spec =
@@ -163,10 +173,10 @@ sized-spec =
     cast-if2
     returns-2
     size-allowed-requires
-    returns-3
     fragment-allowed-requires
-    returns-4
     eights-allowed-requires
+    returns-3
+    returns-4
     returns-5
     request-id-requires
     returns-6)

@@ -1,6 +1,6 @@
 -- What is kept fits the line's memory; the turns are counted down.
 use borrow.Author.Needs.{needs}
-use Prim.Native.Nat.{_≤_, _-_}
+use Prim.Native.Nat.{_≤_}
 use mathlib.Core.Path.{_≡_, sym}
 use native.Mathlib.Omega.{arith}
 use lib.ListN.{length}
@@ -9,7 +9,8 @@ use Rattle.recording.proofs.read_all.Statement.{statement}
 use Rattle.recording.proofs.read_all.Tie as tie
 
 abbrev Inv-loop : tie.InvT-loop
-Inv-loop block₀ line₀ octets₀ out₀ state₀ turns₀ block line octets out state turns = (length block ≡ length block₀) × (length line ≡ length line₀) × (length octets ≡ length octets₀) × (length out ≡ length out₀) × (state .kept ≤ length line₀)
+Inv-loop block₀ line₀ octets₀ out₀ state₀ turns₀ block line octets out state turns =
+    (length block ≡ length block₀) × (length line ≡ length line₀) × (length octets ≡ length octets₀) × (length out ≡ length out₀) × (state .kept ≤ length line₀)
 
 abbrev μ-loop : tie.MeasureT-loop
 μ-loop block₀ line₀ octets₀ out₀ state₀ turns₀ block line octets out state turns = turns
@@ -35,8 +36,8 @@ same-length-4 c = search needs
 returns : tie.Need-returns Inv-loop μ-loop
 returns c = search needs
 
-failed-requires : tie.Need-failed-requires Inv-loop μ-loop
-failed-requires c κs = search needs
+stopped-requires : tie.Need-stopped-requires Inv-loop μ-loop
+stopped-requires c κs = search needs
 
 same-length-5 : tie.Need-same-length-5 Inv-loop μ-loop
 same-length-5 c = search needs
@@ -86,8 +87,8 @@ loop-less c = search needs
 loop-again : tie.Need-loop-again Inv-loop μ-loop
 loop-again c = search needs
 
-failed-requires-2 : tie.Need-failed-requires-2 Inv-loop μ-loop
-failed-requires-2 c κs = search needs
+endless-requires : tie.Need-endless-requires Inv-loop μ-loop
+endless-requires c κs = search needs
 
 same-length-13 : tie.Need-same-length-13 Inv-loop μ-loop
 same-length-13 c = search needs
@@ -117,7 +118,7 @@ read-all-spec =
     same-length-3
     same-length-4
     returns
-    failed-requires
+    stopped-requires
     same-length-5
     same-length-6
     same-length-7
@@ -134,7 +135,7 @@ read-all-spec =
     sub-turns
     loop-less
     loop-again
-    failed-requires-2
+    endless-requires
     same-length-13
     same-length-14
     same-length-15

@@ -13,7 +13,8 @@ value-is : (c : tie.After-known-told) →
     let at-start = c .before .before .before .before .before in
     c .before .value .given .0 .0 ≡ numberAt (at-start .args .octets .now) (at-start .args .at) 4 (at-start .args .order)
 value-is c =
-    let at-number = c .before .before .before in
+    let at-there = c .before .before .before in
+    let at-number = at-there in
     let at-start = at-number .before .before in
     let o = at-start .args in word-value (o .octets .now) (o .at) (o .order) (at-start .pre .0) _ _ (sym (at-number .number .ensures) ∙ c .before .value .given .1)
 
@@ -25,7 +26,8 @@ enum-known-value c = search needs
 
 cast-result : tie.Need-cast-result
 cast-result c =
-    let at-shared-slice-known = c .before .before .before .before in
+    let at-there = c .before .before .before .before in
+    let at-shared-slice-known = at-there in
     let at-start = at-shared-slice-known .before in
     let o = at-start .args in
     let e = value-is (c) in
@@ -40,7 +42,8 @@ returns c = value-is (c)
 
 returns-2 : tie.Need-returns-2
 returns-2 c =
-    let at-start = c .before .before .before .before in
+    let at-there = c .before .before .before .before in
+    let at-start = at-there in
     let o = at-start .args in
     absurd (word-there (o .octets .now) (o .at) (o .order) (at-start .pre .0) (at-start .pre .1) (sym (c .before .before .number .ensures) ∙ c .enum-told .given .1))
 

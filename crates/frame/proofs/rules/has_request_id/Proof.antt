@@ -19,14 +19,16 @@ returns c = rw (eq-eqb _ _ (c .if1 .taken))
 returns-2 : tie.Need-returns-2
 unfolding hasRequestId
 returns-2 c =
-    let at-body-starts-with-id = c .before .before .before in
+    let at-there = c .before .before .before in
+    let at-body-starts-with-id = at-there in
     let at-if1 = at-body-starts-with-id .before in
     rw (ne-eqb _ _ (at-if1 .if1 .left), sym (at-body-starts-with-id .body-starts-with-id .ensures) ∙ c .before .before .if2 .taken, sym (c .before .is-request-or-reply .ensures) ∙ c .if3 .taken, c .if3 .taken)
 
 returns-3 : tie.Need-returns-3
 unfolding hasRequestId
 returns-3 c =
-    let at-body-starts-with-id = c .before .before .before in
+    let at-there = c .before .before .before in
+    let at-body-starts-with-id = at-there in
     let at-if1 = at-body-starts-with-id .before in
     rw (ne-eqb _ _ (at-if1 .if1 .left), sym (at-body-starts-with-id .body-starts-with-id .ensures) ∙ c .before .before .if2 .taken, sym (c .before .is-request-or-reply .ensures) ∙ c .if3 .left)
 

@@ -15,13 +15,15 @@ body-starts-with-id-requires c κs = search needs
 returns : tie.Need-returns
 unfolding sizeAllowed
 returns c =
-    let at-is-request-or-reply = c .before .before .before in
+    let at-there = c .before .before .before in
+    let at-is-request-or-reply = at-there in
     rw (sym (at-is-request-or-reply .is-request-or-reply .ensures) ∙ c .before .before .if1 .taken, sym (c .before .body-starts-with-id .ensures) ∙ c .if2 .taken)
 
 returns-2 : tie.Need-returns-2
 unfolding sizeAllowed
 returns-2 c =
-    let at-is-request-or-reply = c .before .before .before in
+    let at-there = c .before .before .before in
+    let at-is-request-or-reply = at-there in
     rw (sym (at-is-request-or-reply .is-request-or-reply .ensures) ∙ c .before .before .if1 .taken, sym (c .before .body-starts-with-id .ensures) ∙ c .if2 .left)
 
 returns-3 : tie.Need-returns-3
@@ -31,13 +33,15 @@ returns-3 c = rw (sym (c .before .before .is-request-or-reply .ensures) ∙ c .b
 returns-4 : tie.Need-returns-4
 unfolding sizeAllowed
 returns-4 c =
-    let at-is-request-or-reply = c .before .before .before in
+    let at-there = c .before .before .before in
+    let at-is-request-or-reply = at-there in
     rw (sym (at-is-request-or-reply .is-request-or-reply .ensures) ∙ c .before .before .if1 .left, ne-eqb _ _ (c .before .if3 .left), eq-eqb _ _ (c .if4 .taken))
 
 returns-5 : tie.Need-returns-5
 unfolding sizeAllowed
 returns-5 c =
-    let at-is-request-or-reply = c .before .before .before in
+    let at-there = c .before .before .before in
+    let at-is-request-or-reply = at-there in
     rw (sym (at-is-request-or-reply .is-request-or-reply .ensures) ∙ c .before .before .if1 .left, ne-eqb _ _ (c .before .if3 .left), ne-eqb _ _ (c .if4 .left))
 
 pub size-allowed-spec : {M : Type 1} → statement M
