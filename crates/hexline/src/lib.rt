@@ -96,7 +96,7 @@ pub fn encode(octets: &[u8], out: &mut [u8]) -> Encoded
     Encoded::Digits(octets.len() * 2)
 }
 
-// Whether every character is a digit. No early end, which lets the loop run fast.
+// Whether every character is a digit. No early end.
 fn all_digits(characters: &[u8]) -> bool
     ensures { λ r. ⌜ r ≡ allDigits (now (characters .entry)) ⌝ }
 {
