@@ -2,7 +2,9 @@
 --   decodedCount     the octets that decoding wrote
 --   encodedCount     the digits that encoding wrote
 --   headerAfter      the seven numbers of an accepted header
---   DecodesC .. JudgesC    what a call ensures: the number that it returns, and all that was lent after it
+--   answerTo         the answer to a line
+--   joinedCount      the octets that joining wrote
+--   DecodesC .. JoinsC    what a call ensures: the number that it returns, and all that was lent after it
 use mathlib.Core.Path.{_≡_}
 use mathlib.Core.List.{List}
 use Prim.Native.Nat.{ℕ}
@@ -14,8 +16,14 @@ use Rattle.hexline.specs.declared.Encoded.the-variants.{Digits, NoRoom as NoRoo
 use Rattle.hexline.specs.Decoding.{decodedOf, decodedInto, decodedNumber}
 use Rattle.hexline.specs.Encoding.{encodedOf, encodedInto, encodedNumber}
 use Rattle.frame.specs.declared.Frame.{Frame}
-use Rattle.frame.specs.declared.Frame.the-variants.{Accepted, Refused}
+use Rattle.frame.specs.declared.Frame.the-variants.{Accepted, Refused as Unaccepted}
 use Rattle.frame.specs.Frames.{frameOf, frameNumber, headerNumbers}
+use Rattle.joining.specs.declared.Record.{Record}
+use Rattle.joining.specs.declared.Answer.{Answer}
+use Rattle.joining.specs.declared.Answer.the-variants.{Whole, Held, Joined, Cancelled, Refused}
+use Rattle.joining.specs.Steps.{stepOf}
+use Rattle.joining.specs.Answers.{messageOf, answerOf, recordAfter, placesAfter, outputAfter, answerNumber}
+use Rattle.capi.specs.declared.Numbered.{Numbered}
 
 abbrev pub decodedCount : Decoded → ℕ → ℕ
 decodedCount (Octets n) before = n
@@ -29,7 +37,18 @@ encodedCount NoRoomForDigits before = before
 
 abbrev pub headerAfter : Frame → List ℕ → List ℕ
 headerAfter (Accepted h) before = headerNumbers h
-headerAfter (Refused r) before = before
+headerAfter (Unaccepted r) before = before
+
+abbrev pub answerTo : List ℕ → Record → List ℕ → ℕ → Answer
+answerTo v before places room =
+    answerOf (stepOf v before places room) (length (messageOf (stepOf v before places room) before v places))
+
+abbrev pub joinedCount : Answer → ℕ → ℕ
+joinedCount (Whole n) before = n
+joinedCount Held before = before
+joinedCount (Joined n) before = n
+joinedCount (Cancelled n) before = n
+joinedCount (Refused why) before = before
 
 pub record DecodesC (line out : List ℕ) (count r : ℕ) (outAfter : List ℕ) (countAfter : ℕ) : Type 0 where
   pub number : r ≡ decodedNumber (decodedOf line (length out))
@@ -44,3 +63,10 @@ pub record EncodesC (octets out : List ℕ) (count r : ℕ) (outAfter : List ℕ
 pub record JudgesC (octets header : List ℕ) (r : ℕ) (headerLast : List ℕ) : Type 0 where
   pub number : r ≡ frameNumber (frameOf octets)
   pub values : headerLast ≡ headerAfter (frameOf octets) header
+
+pub record JoinsC (v : List ℕ) (before : Record) (places out : List ℕ) (count : ℕ) (r : Numbered) (placesLast outLast : List ℕ) (countLast : ℕ) : Type 0 where
+  pub number : r .number ≡ answerNumber (answerTo v before places (length out))
+  pub after : r .after ≡ recordAfter (stepOf v before places (length out)) before v
+  pub stored : placesLast ≡ placesAfter (stepOf v before places (length out)) before v places
+  pub output : outLast ≡ outputAfter (stepOf v before places (length out)) before v places out
+  pub counted : countLast ≡ joinedCount (answerTo v before places (length out)) count

@@ -2,7 +2,7 @@
 ghost use mathlib.Core.Path.{_≡_};
 ghost use Prim.Native.Nat.{_≤_};
 ghost use lib.ListN.{length};
-ghost use Rattle.frame.specs.Header.{headerSize, idAt};
+ghost use Rattle.frame.specs.Header.{headerSize, orderFlag, moreFlag, idAt};
 ghost use Rattle.frame.specs.Inner.{IdThere};
 ghost use Rattle.frame.specs.Frames.{sizedOf, messageOf, frameOf, refusalNumber};
 use cdr::Order;
@@ -68,6 +68,11 @@ pub enum Frame {
     Refused(Refusal),
 }
 
+// The types that joining tells from the others.
+pub const CANCEL_REQUEST: u8 = 2;
+
+pub const FRAGMENT: u8 = 7;
+
 // The octets of a header.
 const HEADER_SIZE: usize = 12;
 
@@ -115,8 +120,8 @@ fn sized(octets: &[u8]) -> Frame
     ensures { λ r. ⌜ r ≡ sizedOf (now (octets .entry)) ⌝ }
 {
     let minor = octets[5];
-    let order = fields::order_flag(octets[6]);
-    let more = fields::more_flag(octets[6]);
+    let order = order_flag(octets[6]);
+    let more = more_flag(octets[6]);
     let kind = octets[7];
     let size = fields::word(octets, 8, order);
     let body = octets.len() - HEADER_SIZE;
@@ -155,8 +160,26 @@ fn request_id(octets: &[u8]) -> RequestId
     ensures { λ r. ⌜ r ≡ idAt (now (octets .entry)) ⌝ }
 {
     if rules::has_request_id(octets[5], octets[7]) {
-        RequestId::Id(fields::word(octets, HEADER_SIZE, fields::order_flag(octets[6])))
+        RequestId::Id(fields::word(octets, HEADER_SIZE, order_flag(octets[6])))
     } else {
         RequestId::NoId
     }
+}
+
+// The byte order that the flags name.
+pub fn order_flag(flags: u8) -> Order
+    ensures { λ r. ⌜ r ≡ orderFlag flags ⌝ }
+{
+    if flags % 2 == 1 {
+        Order::Little
+    } else {
+        Order::Big
+    }
+}
+
+// Whether more fragments follow.
+pub fn more_flag(flags: u8) -> bool
+    ensures { λ r. ⌜ r ≡ moreFlag flags ⌝ }
+{
+    flags / 2 % 2 == 1
 }

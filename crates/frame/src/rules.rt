@@ -2,10 +2,8 @@
 ghost use mathlib.Core.Path.{_≡_};
 ghost use Rattle.frame.specs.Messages.{versionExists, flagsAllowed, typeExists, bodyStartsWithId, readsFragments, isRequestOrReply, isBare, hasRequestId};
 ghost use Rattle.frame.specs.Frames.{sizeAllowed, fragmentAllowed, eightsAllowed};
-
-const CANCEL_REQUEST: u8 = 2;
-
-const FRAGMENT: u8 = 7;
+use crate::CANCEL_REQUEST;
+use crate::FRAGMENT;
 
 // Whether the version is one of GIOP's that are read here.
 pub(crate) fn version_exists(major: u8, minor: u8) -> bool

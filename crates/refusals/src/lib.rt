@@ -36,5 +36,23 @@ pub const NO_FRAGMENTS: u32 = 20;
 // A message says that a fragment follows, and does not end at a multiple of 8.
 pub const NOT_IN_EIGHTS: u32 = 21;
 
+// A message's request id is that of an open message.
+pub const ID_OPEN: u32 = 22;
+
+// A first fragment comes when four messages are open.
+pub const FOUR_OPEN: u32 = 23;
+
+// A fragment's request id is not that of an open message.
+pub const ID_NOT_OPEN: u32 = 24;
+
+// A fragment has another minor version or byte order than the first one.
+pub const FIRST_DIFFERS: u32 = 25;
+
+// A joined message would pass 16,384 octets.
+pub const JOINED_TOO_LONG: u32 = 26;
+
 // An output is shorter than what is to be written.
 pub const NO_ROOM: u32 = 27;
+
+// A lent record has one id open twice, a place that is too short, or an open length out of its range.
+pub const BAD_RECORD: u32 = 28;

@@ -1,7 +1,7 @@
 -- Bit 0 decides.
 use borrow.Author.Tests.{eq-eqb, ne-eqb}
-use Rattle.frame.proofs.fields.order_flag.Statement.{statement}
-use Rattle.frame.proofs.fields.order_flag.Tie as tie
+use Rattle.frame.proofs.order_flag.Statement.{statement}
+use Rattle.frame.proofs.order_flag.Tie as tie
 
 returns : tie.Need-returns
 returns c = rw (eq-eqb _ _ (c .if1 .taken))

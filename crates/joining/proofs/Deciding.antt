@@ -1,0 +1,184 @@
+-- The ways of a step's definition, and what an accepted message and a record that is not refused say.
+use mathlib.Core.Path.{_≡_, refl, sym, ap, subst, _∙_}
+use mathlib.Core.List.{List}
+use mathlib.Core.Bool.{Bool, true, false, cond, not, _&&_, _||_}
+use Prim.Native.Nat.{ℕ, _≤_, _<_}
+use native.Mathlib.Omega.{arith}
+use lib.Dec.{ltb}
+use lib.ListN.{length}
+use borrow.Author.Tests.{ltb-false, leb-true, eqb-true, lt-ltb, le-ltb}
+use Rattle.frame.specs.declared.Header.{Header}
+use Rattle.frame.specs.declared.RequestId.{RequestId}
+use Rattle.frame.specs.declared.Frame.{Frame}
+use Rattle.frame.specs.declared.Frame.the-variants.{Accepted}
+use Rattle.frame.specs.Messages.{isRequestOrReply, isCancel, isFragment}
+use Rattle.frame.specs.Header.{kindAt, minorAt, sizeAt}
+use Rattle.frame.specs.Frames.{messageLimit, sizeAllowed, frameOf}
+use Rattle.frame.proofs.Accepts.{frame-accepts}
+use Rattle.joining.specs.declared.Record.{Record}
+use Rattle.joining.specs.declared.Found.{Found}
+use Rattle.joining.specs.declared.Found.the-variants.{At, Nowhere}
+use Rattle.joining.specs.Places.{placeSize, placesSize, isOpen, lengthOf, heldIn, placeOf, allOpen, lowestFree, placeShort, idOpenTwice, lengthWrong, someLengthWrong, badRecord}
+use Rattle.joining.specs.Message.{idEnd}
+use Rattle.joining.specs.declared.Refusal.the-variants.{BadRecord, IdOpen, FourOpen, FirstDiffers, TooLong, NoRoom}
+use Rattle.joining.specs.Steps.{Step, Passes, Opens, Extends, Completes, Refuses, written, cancelled, differs, lengthAfter, continued, fragmentOf, startOf, withId, byId, messageStep, judged, stepOf}
+use Rattle.joining.proofs.Choices.{neither, of-four}
+use Rattle.joining.proofs.Finding.{Placed, place-is, place-found}
+use Rattle.joining.specs.Inner.{Sound, Within, isAt, Opening, Continues}
+
+-- a place that is found is one of the four
+within-placed : (r : Record) (id : ℕ) (f : Found) → Placed r id f → Within f
+within-placed r id (At i) h = h .place
+within-placed r id Nowhere h = tt
+
+pub place-within : (r : Record) (id : ℕ) (f : Found) → f ≡ placeOf r id → Within f
+place-within r id f e = subst Within (sym e) (within-placed r id (placeOf r id) (place-is r id))
+
+pub is-at : (f : Found) → isAt f ≡ false → f ≡ Nowhere
+is-at (At i) e = let z : _≡_ {A = ℕ} 0 1 = cc in absurd (omega arith)
+is-at Nowhere e = refl
+
+pub free-within : (r : Record) → lowestFree r < 4
+unfolding lowestFree
+free-within r = least (isOpen r 0) (isOpen r 1) (isOpen r 2)
+  where
+    least : (a b c : Bool) → cond a (cond b (cond c 3 2) 1) 0 < 4
+    least true true true = omega arith
+    least true true false = omega arith
+    least true false c = omega arith
+    least false b c = omega arith
+
+-- of a record that is not refused, the places have their octets and the open lengths are in their range
+pub sound-lent : (r : Record) (lent : ℕ) → badRecord r lent ≡ false → placesSize ≤ lent
+unfolding badRecord
+sound-lent r lent e =
+    ltb-false lent placesSize (neither (idOpenTwice r) (placeShort lent) (neither (idOpenTwice r || placeShort lent) (someLengthWrong r) e .0) .1)
+
+length-right : (o : Bool) (n : ℕ) → o ≡ true → (o && (ltb n 16 || ltb placeSize n)) ≡ false → (idEnd ≤ n) × (n ≤ placeSize)
+length-right true n e f =
+    let t = neither (ltb n 16) (ltb placeSize n) f in
+    (ltb-false n 16 (t .0), ltb-false placeSize n (t .1))
+length-right false n e f = let z : _≡_ {A = ℕ} 0 1 = cc in absurd (omega arith)
+
+pub sound-length : (r : Record) (lent i : ℕ) → i < 4 → isOpen r i ≡ true → badRecord r lent ≡ false → (idEnd ≤ lengthOf r i) × (lengthOf r i ≤ placeSize)
+unfolding badRecord someLengthWrong lengthWrong
+sound-length r lent i h o e =
+    let three = neither _ (lengthWrong r 3) (neither (idOpenTwice r || placeShort lent) (someLengthWrong r) e .1) in
+    let two = neither _ (lengthWrong r 2) (three .0) in
+    let one = neither (lengthWrong r 0) (lengthWrong r 1) (two .0) in
+    length-right (isOpen r i) (lengthOf r i) o (of-four (λ j. lengthWrong r j ≡ false) (one .0) (one .1) (two .1) (three .1) i h)
+
+-- a fragment has its request id
+fragment-size : (minor kind size : ℕ) → isFragment kind ≡ true → sizeAllowed minor kind size ≡ true → 4 ≤ size
+unfolding sizeAllowed isRequestOrReply
+fragment-size minor kind size k e =
+    let s : kind ≡ 7 = eqb-true kind 7 k in
+    leb-true 4 size (subst (λ (x : ℕ). sizeAllowed minor x size ≡ true) s e)
+
+pub fragment-length : (v : List ℕ) (h : Header) → frameOf v ≡ Accepted h → isFragment (h .kind) ≡ true → (idEnd ≤ length v) × (length v ≤ messageLimit)
+fragment-length v h e k =
+    let a = frame-accepts v h e in
+    let b = a .1 in
+    let n = b .octets in
+    let l = a .0 in
+    let kind : h .kind ≡ kindAt v = ap (λ (x : Header). x .kind) (b .says) in
+    let m = fragment-size (minorAt v) (kindAt v) (sizeAt v) (ap isFragment (sym kind) ∙ k) (b .size) in
+    (omega arith, l)
+
+-- what a fragment's function asks
+pub continues : (v : List ℕ) (h : Header) (r : Record) (places : List ℕ) (id i : ℕ) → Sound v h r places → isFragment (h .kind) ≡ true
+    → placeOf r id ≡ At i → Continues v r places i
+continues v h r places id i s k e =
+    let f = place-found r id i e in
+    let n = fragment-length v h (s .accepted) k in
+    let l = sound-length r (length places) i (f .place) (f .opened) (s .sound) in
+    record { place = f .place; lent = sound-lent r (length places) (s .sound); id = n .0; short = n .1; least = l .0; most = l .1 }
+
+-- what a first fragment's function asks
+pub opening : (v : List ℕ) (h : Header) (r : Record) (places : List ℕ) (i : ℕ) → i ≡ lowestFree r → Sound v h r places → Opening v places i
+opening v h r places i e s =
+    record {
+      place = subst (λ (x : ℕ). x < 4) (sym e) (free-within r);
+      lent = sound-lent r (length places) (s .sound);
+      short = frame-accepts v h (s .accepted) .0;
+    }
+
+-- the ways of a fragment
+pub first-differs : (r : Record) (places : List ℕ) (room n : ℕ) (h : Header) (i : ℕ) → differs (heldIn r places i) h ≡ true
+    → continued r places room n h i ≡ Refuses FirstDiffers
+unfolding continued
+first-differs r places room n h i e = rw e
+
+pub too-long : (r : Record) (places : List ℕ) (room n : ℕ) (h : Header) (i : ℕ) → differs (heldIn r places i) h ≡ false
+    → placeSize < lengthAfter r i n → continued r places room n h i ≡ Refuses TooLong
+unfolding continued
+too-long r places room n h i e l = rw (e, lt-ltb placeSize (lengthAfter r i n) l)
+
+pub goes-on : (r : Record) (places : List ℕ) (room n : ℕ) (h : Header) (i : ℕ) → differs (heldIn r places i) h ≡ false
+    → lengthAfter r i n ≤ placeSize → h .more ≡ true → continued r places room n h i ≡ Extends i
+unfolding continued
+goes-on r places room n h i e l m = rw (e, le-ltb placeSize (lengthAfter r i n) l, m)
+
+pub last-one : (r : Record) (places : List ℕ) (room n : ℕ) (h : Header) (i : ℕ) → differs (heldIn r places i) h ≡ false
+    → lengthAfter r i n ≤ placeSize → h .more ≡ false → continued r places room n h i ≡ written room (lengthAfter r i n) (Completes i)
+unfolding continued
+last-one r places room n h i e l m = rw (e, le-ltb placeSize (lengthAfter r i n) l, m)
+
+pub no-room : (room n : ℕ) (s : Step) → room < n → written room n s ≡ Refuses NoRoom
+no-room room n s l = rw (lt-ltb room n l)
+
+pub in-room : (room n : ℕ) (s : Step) → n ≤ room → written room n s ≡ s
+in-room room n s l = rw (le-ltb room n l)
+
+-- the ways of a message that starts
+pub id-open : (r : Record) (room n : ℕ) (h : Header) (id : ℕ) (f : Found) → isAt f ≡ true → startOf r room n h id f ≡ Refuses IdOpen
+id-open r room n h id (At i) e = refl
+id-open r room n h id Nowhere e = let z : _≡_ {A = ℕ} 0 1 = cc in absurd (omega arith)
+
+starts : (r : Record) (room n : ℕ) (h : Header) (id : ℕ) (f : Found) → isAt f ≡ false
+    → startOf r room n h id f ≡ cond (h .more) (cond (allOpen r) (Refuses FourOpen) (Opens (lowestFree r) id)) (written room n Passes)
+starts r room n h id f e = ap (startOf r room n h id) (is-at f e)
+
+pub starts-whole : (r : Record) (room n : ℕ) (h : Header) (id : ℕ) (f : Found) → isAt f ≡ false → h .more ≡ false
+    → startOf r room n h id f ≡ written room n Passes
+starts-whole r room n h id f e m = starts r room n h id f e ∙ rw m
+
+pub four-open : (r : Record) (room n : ℕ) (h : Header) (id : ℕ) (f : Found) → isAt f ≡ false → h .more ≡ true → allOpen r ≡ true
+    → startOf r room n h id f ≡ Refuses FourOpen
+four-open r room n h id f e m a = starts r room n h id f e ∙ rw (m, a)
+
+pub starts-first : (r : Record) (room n : ℕ) (h : Header) (id : ℕ) (f : Found) (i : ℕ) → isAt f ≡ false → h .more ≡ true → allOpen r ≡ false
+    → i ≡ lowestFree r → startOf r room n h id f ≡ Opens i id
+starts-first r room n h id f i e m a l = starts r room n h id f e ∙ rw (m, a, l)
+
+-- the ways of a message with a request id
+pub cancels : (r : Record) (places : List ℕ) (room n : ℕ) (h : Header) (id : ℕ) → isCancel (h .kind) ≡ true
+    → withId r places room n h id ≡ cancelled room n (placeOf r id)
+unfolding withId
+cancels r places room n h id e = rw e
+
+pub fragments : (r : Record) (places : List ℕ) (room n : ℕ) (h : Header) (id : ℕ) → isCancel (h .kind) ≡ false → isFragment (h .kind) ≡ true
+    → withId r places room n h id ≡ fragmentOf r places room n h (placeOf r id)
+unfolding withId
+fragments r places room n h id e f = rw (e, f)
+
+pub begins : (r : Record) (places : List ℕ) (room n : ℕ) (h : Header) (id : ℕ) → isCancel (h .kind) ≡ false → isFragment (h .kind) ≡ false
+    → withId r places room n h id ≡ startOf r room n h id (placeOf r id)
+unfolding withId
+begins r places room n h id e f = rw (e, f)
+
+-- the ways of an accepted message, and of a line
+pub bad-refused : (r : Record) (places : List ℕ) (room n : ℕ) (h : Header) → badRecord r (length places) ≡ true
+    → messageStep r places room n h ≡ Refuses BadRecord
+unfolding messageStep
+bad-refused r places room n h e = rw e
+
+pub by-id : (r : Record) (places : List ℕ) (room n : ℕ) (h : Header) (x : RequestId) → badRecord r (length places) ≡ false → h .id ≡ x
+    → messageStep r places room n h ≡ byId r places room n h x
+unfolding messageStep
+by-id r places room n h x e f = rw (e, f)
+
+pub step-of : (v : List ℕ) (r : Record) (places : List ℕ) (room : ℕ) (f : Frame) → frameOf v ≡ f
+    → stepOf v r places room ≡ judged r places room (length v) f
+unfolding stepOf
+step-of v r places room f e = rw e

@@ -1,0 +1,75 @@
+-- What each step does, from what the functions that carry it out are told.
+use mathlib.Core.Path.{_≡_, refl, sym, ap, subst, _∙_}
+use mathlib.Core.List.{List, _++_}
+use Prim.Native.Nat.{ℕ, _+_, _-_, _≤_}
+use native.Mathlib.Omega.{arith}
+use borrow.Author.Tests.{le-ltb}
+use lib.ListN.{length, take, drop, length-drop}
+use lib.Seq.{sets, take-all}
+use Rattle.cdr.specs.declared.Written.{Written}
+use Rattle.cdr.specs.Write.{Stored}
+use Rattle.cdr.proofs.Stores.{stored-fits}
+use Rattle.joining.specs.declared.Record.{Record}
+use Rattle.joining.specs.declared.Refusal.{Refusal}
+use Rattle.joining.specs.declared.Answer.the-variants.{Whole, Held, Joined, Cancelled}
+use Rattle.joining.specs.declared.Outcome.{Outcome}
+use Rattle.joining.specs.Places.{placeStart, lengthOf, heldIn}
+use Rattle.joining.specs.Message.{idEnd, bodyAfterId, corrected}
+use Rattle.joining.specs.Steps.{Step, Passes, Opens, Extends, Completes, Frees, Refuses, written, lengthAfter}
+use Rattle.joining.specs.Answers.{closed, opened, lengthened, refusedWith, Does}
+
+-- a fragment's body, as the rest of its octets
+pub body-rest : (v : List ℕ) → take (length v - idEnd) (drop idEnd v) ≡ bodyAfterId v
+body-rest v = let e = length-drop idEnd v in take-all (length v - idEnd) (drop idEnd v) (omega arith)
+
+-- a part of octets from a start on
+pub part-of : (start n : ℕ) (l : List ℕ) → take (start + n - start) (drop start l) ≡ take n (drop start l)
+part-of start n l = let e : start + n - start ≡ n = omega arith in ap (λ (k : ℕ). take k (drop start l)) e
+
+module _ (v : List ℕ) (r : Record) (places out : List ℕ) where
+  pub by-step : (s t : Step) (o : Outcome) (p q : List ℕ) → s ≡ t → Does t v r places out o p q → Does s v r places out o p q
+  by-step s t o p q e d = subst (λ (x : Step). Does x v r places out o p q) (sym e) d
+
+  pub refuses : (s : Step) (why : Refusal) (o : Outcome) → s ≡ Refuses why → o ≡ refusedWith r why → Does s v r places out o places out
+  refuses s why o e f =
+      by-step s (Refuses why) o places out e
+      (record { answer = ap (λ (x : Outcome). x .answer) f; after = ap (λ (x : Outcome). x .after) f; stored = refl; output = refl })
+
+  pub passes : (w : Written) (last : List ℕ) → length v ≤ length out → Stored out 0 v w last
+      → Does (written (length out) (length v) Passes) v r places out (record { answer = Whole (length v); after = r }) places last
+  passes w last h s =
+      by-step (written (length out) (length v) Passes) Passes (record { answer = Whole (length v); after = r }) places last
+      (rw (le-ltb (length out) (length v) h))
+      (record { answer = refl; after = refl; stored = refl; output = stored-fits out 0 v w last (omega arith) s })
+
+  pub frees : (i : ℕ) (after : Record) (w : Written) (last : List ℕ) → length v ≤ length out → after ≡ closed r i → Stored out 0 v w last
+      → Does (written (length out) (length v) (Frees i)) v r places out (record { answer = Cancelled (length v); after = after }) places last
+  frees i after w last h e s =
+      by-step (written (length out) (length v) (Frees i)) (Frees i) (record { answer = Cancelled (length v); after = after }) places last
+      (rw (le-ltb (length out) (length v) h))
+      (record { answer = refl; after = e; stored = refl; output = stored-fits out 0 v w last (omega arith) s })
+
+  pub opens : (i id : ℕ) (after : Record) (w : Written) (last : List ℕ) → placeStart i + length v ≤ length places → after ≡ opened r i id (length v)
+      → Stored places (placeStart i) v w last → Does (Opens i id) v r places out (record { answer = Held; after = after }) last out
+  opens i id after w last h e s =
+      record { answer = refl; after = e; stored = stored-fits places (placeStart i) v w last h s; output = refl }
+
+  pub lengthens : (i : ℕ) (after : Record) (w : Written) (last : List ℕ) → placeStart i + lengthAfter r i (length v) ≤ length places
+      → after ≡ lengthened r i (lengthAfter r i (length v))
+      → Stored places (placeStart i + lengthOf r i) (take (length v - idEnd) (drop idEnd v)) w last
+      → Does (Extends i) v r places out (record { answer = Held; after = after }) last out
+  lengthens i after w last h e s =
+      let t = subst (λ (b : List ℕ). Stored places (placeStart i + lengthOf r i) b w last) (body-rest v) s in
+      let n = length-drop idEnd v in
+      record {
+        answer = refl;
+        after = e;
+        stored = stored-fits places (placeStart i + lengthOf r i) (bodyAfterId v) w last (omega arith) t;
+        output = refl;
+      }
+
+  pub completes : (i total : ℕ) (after : Record) (last : List ℕ) → total ≡ length (heldIn r places i ++ bodyAfterId v) → after ≡ closed r i
+      → length (corrected (heldIn r places i ++ bodyAfterId v)) ≡ length (heldIn r places i ++ bodyAfterId v)
+      → last ≡ sets out 0 (corrected (heldIn r places i ++ bodyAfterId v))
+      → Does (Completes i) v r places out (record { answer = Joined total; after = after }) places last
+  completes i total after last n e l f = record { answer = ap Joined (n ∙ sym l); after = e; stored = refl; output = f }

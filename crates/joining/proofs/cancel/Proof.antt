@@ -1,0 +1,86 @@
+-- Freed where the id was open; a message as it is where not.
+use mathlib.Core.Path.{ap, subst, _∙_}
+use lib.ListN.{length}
+use borrow.Author.Needs.{needs}
+use Rattle.joining.specs.declared.Refusal.the-variants.{NoRoom}
+use Rattle.joining.specs.Steps.{Passes, Frees, written, cancelled}
+use Rattle.joining.specs.Inner.{Within}
+use Rattle.joining.proofs.Doing.{by-step, refuses, frees}
+use Rattle.joining.proofs.Deciding.{no-room}
+use Rattle.joining.proofs.cancel.Statement.{statement}
+use Rattle.joining.proofs.cancel.Tie as tie
+
+enum-known-found : tie.Need-enum-known-found
+enum-known-found c = search needs
+
+enum-told : tie.Need-enum-told
+enum-told c = search needs
+
+whole-requires : tie.Need-whole-requires
+whole-requires c κs = search needs
+
+same-length : tie.Need-same-length
+same-length c = search needs
+
+returns : tie.Need-returns
+returns c =
+    let at-enum-told = c .before .before .before .before in
+    let start = at-enum-told .before .before .before .before in
+    let octets = start .args .octets .now in
+    let out = start .args .out .now in
+    λ places. by-step octets (start .args .before) places out _ (written (length out) (length octets) Passes) _ places _
+    (ap (cancelled (length out) (length octets)) (at-enum-told .enum-told .given .1)) (c .before .before .whole .ensures places)
+
+refused-requires : tie.Need-refused-requires
+refused-requires c κs = search needs
+
+returns-2 : tie.Need-returns-2
+returns-2 c =
+    let at-found = c .before .before .before in
+    let start = at-found .before .before .before .before in
+    let octets = start .args .octets .now in
+    let out = start .args .out .now in
+    λ places. refuses octets (start .args .before) places out _ NoRoom _
+    (ap (cancelled (length out) (length octets)) (at-found .found .given .1) ∙ no-room (length out) (length octets) (Frees (at-found .found .given .0 .0)) (c .before .if1 .taken))
+    (c .refused .ensures)
+
+write-octets-requires : tie.Need-write-octets-requires
+write-octets-requires c κs = search needs
+
+closed-requires : tie.Need-closed-requires
+closed-requires c κs =
+    let at-found = c .before .before .before .before .before .before in
+    let start = at-found .before .before .before .before in
+    subst Within (at-found .found .given .1) (start .pre)
+
+same-length-2 : tie.Need-same-length-2
+same-length-2 c = search needs
+
+returns-3 : tie.Need-returns-3
+returns-3 c =
+    let at-write-octets = c .before .before .before in
+    let at-if1 = at-write-octets .before .before in
+    let at-found = at-if1 .before .before in
+    let start = at-found .before .before .before .before in
+    let octets = start .args .octets .now in
+    let r = start .args .before in
+    let out = start .args .out .now in
+    λ places. by-step octets r places out _ (written (length out) (length octets) (Frees (at-found .found .given .0 .0))) _ places _
+    (ap (cancelled (length out) (length octets)) (at-found .found .given .1))
+    (frees octets r places out (at-found .found .given .0 .0) (c .closed .result) _ _ (at-if1 .if1 .left) (c .closed .ensures) (at-write-octets .write-octets .ensures))
+
+pub cancel-spec : {M : Type 1} → statement M
+cancel-spec =
+    tie.close
+    (tie.spec
+    enum-known-found
+    enum-told
+    whole-requires
+    same-length
+    returns
+    refused-requires
+    returns-2
+    write-octets-requires
+    closed-requires
+    same-length-2
+    returns-3)

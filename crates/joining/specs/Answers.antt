@@ -1,0 +1,102 @@
+-- What a step answers, and what it leaves in the record, the places and the output. "Lent memory that an answer doesn't fill keeps its
+-- contents": `sets l at xs` is a run of stores, the octets `xs` from `at` on, the rest as it was.
+--   closed, opened, lengthened    the record with a place freed, opened for a request id, and with its message lengthened
+--   messageOf       the message that is written, or none
+--   answerOf        "0 whole message; 1 held; 2 joined; 3 a CancelRequest whose id was open", with the octets written
+--   recordAfter     the record, "which only an accepted line may change"
+--   placesAfter     the octets of the places: a first one's at the start, a fragment's body after the id behind what is held
+--   outputAfter     "Answers 0, 2 and 3 write a message into the lent output, from its start"
+--   refusalNumber   the number of each refusal
+--   answerNumber    the number of each answer
+--   refusedWith     a refusal, with the record as it was
+--   Does            what a call ensures: the answer, the record after, and every octet of the places and of the output
+use mathlib.Core.Path.{_≡_}
+use mathlib.Core.List.{List, [], _++_}
+use mathlib.Core.Bool.{true, false}
+use Prim.Native.Nat.{ℕ, _+_}
+use lib.ListN.{length, set}
+use lib.Seq.{sets}
+use Rattle.frame.specs.Frames.{refusalNumber as rowNumber}
+use Rattle.joining.specs.declared.Record.{Record}
+use Rattle.joining.specs.declared.Refusal.{Refusal}
+use Rattle.joining.specs.declared.Refusal.the-variants.{Frame, BadRecord, IdOpen, FourOpen, IdNotOpen, FirstDiffers, TooLong, NoRoom}
+use Rattle.joining.specs.declared.Answer.{Answer}
+use Rattle.joining.specs.declared.Answer.the-variants.{Whole, Held, Joined, Cancelled, Refused}
+use Rattle.joining.specs.declared.Outcome.{Outcome}
+use Rattle.joining.specs.Places.{placeStart, lengthOf, heldIn}
+use Rattle.joining.specs.Message.{bodyAfterId, corrected}
+use Rattle.joining.specs.Steps.{Step, Passes, Opens, Extends, Completes, Frees, Refuses, lengthAfter, stepOf}
+
+-- "which frees that place": its id and length stay, and mean nothing until it is opened again
+abbrev pub closed : Record → ℕ → Record
+closed r i = record { ids = r .ids; lengths = r .lengths; opened = set (r .opened) i false }
+
+abbrev pub opened : Record → ℕ → ℕ → ℕ → Record
+opened r i id n = record { ids = set (r .ids) i id; lengths = set (r .lengths) i n; opened = set (r .opened) i true }
+
+abbrev pub lengthened : Record → ℕ → ℕ → Record
+lengthened r i n = record { ids = r .ids; lengths = set (r .lengths) i n; opened = r .opened }
+
+abbrev pub messageOf : Step → Record → List ℕ → List ℕ → List ℕ
+messageOf Passes r v places = v
+messageOf (Opens i id) r v places = []
+messageOf (Extends i) r v places = []
+messageOf (Completes i) r v places = corrected (heldIn r places i ++ bodyAfterId v)
+messageOf (Frees i) r v places = v
+messageOf (Refuses why) r v places = []
+
+abbrev pub answerOf : Step → ℕ → Answer
+answerOf Passes n = Whole n
+answerOf (Opens i id) n = Held
+answerOf (Extends i) n = Held
+answerOf (Completes i) n = Joined n
+answerOf (Frees i) n = Cancelled n
+answerOf (Refuses why) n = Refused why
+
+abbrev pub recordAfter : Step → Record → List ℕ → Record
+recordAfter Passes r v = r
+recordAfter (Opens i id) r v = opened r i id (length v)
+recordAfter (Extends i) r v = lengthened r i (lengthAfter r i (length v))
+recordAfter (Completes i) r v = closed r i
+recordAfter (Frees i) r v = closed r i
+recordAfter (Refuses why) r v = r
+
+abbrev pub placesAfter : Step → Record → List ℕ → List ℕ → List ℕ
+placesAfter Passes r v places = places
+placesAfter (Opens i id) r v places = sets places (placeStart i) v
+placesAfter (Extends i) r v places = sets places (placeStart i + lengthOf r i) (bodyAfterId v)
+placesAfter (Completes i) r v places = places
+placesAfter (Frees i) r v places = places
+placesAfter (Refuses why) r v places = places
+
+abbrev pub outputAfter : Step → Record → List ℕ → List ℕ → List ℕ → List ℕ
+outputAfter step r v places out = sets out 0 (messageOf step r v places)
+
+abbrev pub refusalNumber : Refusal → ℕ
+refusalNumber (Frame row) = rowNumber row
+refusalNumber IdOpen = 22
+refusalNumber FourOpen = 23
+refusalNumber IdNotOpen = 24
+refusalNumber FirstDiffers = 25
+refusalNumber TooLong = 26
+refusalNumber NoRoom = 27
+refusalNumber BadRecord = 28
+
+abbrev pub answerNumber : Answer → ℕ
+answerNumber (Whole n) = 0
+answerNumber Held = 1
+answerNumber (Joined n) = 2
+answerNumber (Cancelled n) = 3
+answerNumber (Refused why) = refusalNumber why
+
+abbrev pub refusedWith : Record → Refusal → Outcome
+refusedWith before why = record { answer = Refused why; after = before }
+
+pub record Does (step : Step) (v : List ℕ) (before : Record) (places out : List ℕ) (r : Outcome) (placesLast outLast : List ℕ) : Type 0 where
+  pub answer : r .answer ≡ answerOf step (length (messageOf step before v places))
+  pub after : r .after ≡ recordAfter step before v
+  pub stored : placesLast ≡ placesAfter step before v places
+  pub output : outLast ≡ outputAfter step before v places out
+
+abbrev pub Joins : List ℕ → Record → List ℕ → List ℕ → Outcome → List ℕ → List ℕ → Type 0
+Joins v before places out r placesLast outLast = Does (stepOf v before places (length out)) v before places out r placesLast outLast

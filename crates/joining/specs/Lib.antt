@@ -1,0 +1,6 @@
+-- Joining: the record and its places, the joined message, what a line does, and what it leaves.
+pub mod Places
+pub mod Message
+pub mod Steps
+pub mod Answers
+pub mod Inner

@@ -1,0 +1,83 @@
+-- "The record of one recording has four places for open messages."
+--   placeSize      the octets of a place
+--   placeStart     where the octets of a place start in the lent memory of the four
+--   placesSize     the octets of the four places
+--   isOpen         whether a place has an open message,
+--   idOf           and its request id
+--   lengthOf       and length
+--   heldIn         the octets that a place has of its open message
+--   isOpenWith     whether a place has the open message of a request id
+--   placeOf        the place of the open message of a request id
+--   allOpen        "when four are open"
+--   lowestFree     "the lowest free one first"
+--   bothOpen       whether two places have open messages of the same id
+--   idOpenTwice    28: "one id open twice",
+--   placeShort     "a place of under 16,384 octets",
+--   lengthWrong    "an open length under 16 or over 16,384", of one place
+--   someLengthWrong    and of one of the four
+--   badRecord      28
+use Prim.Native.Nat.{ℕ, _*_}
+use mathlib.Core.List.{List}
+use mathlib.Core.Bool.{Bool, false, cond, _&&_, _||_}
+use lib.Dec.{ltb, eqb}
+use lib.ListN.{getD, length, take, drop}
+use Rattle.joining.specs.declared.Record.{Record}
+use Rattle.joining.specs.declared.Found.{Found}
+use Rattle.joining.specs.declared.Found.the-variants.{At, Nowhere}
+
+abbrev pub placeSize : ℕ
+placeSize = 16384
+
+abbrev pub placeStart : ℕ → ℕ
+placeStart i = i * placeSize
+
+abbrev pub placesSize : ℕ
+placesSize = 65536
+
+abbrev pub isOpen : Record → ℕ → Bool
+isOpen r i = getD (r .opened) i false
+
+abbrev pub idOf : Record → ℕ → ℕ
+idOf r i = getD (r .ids) i 0
+
+abbrev pub lengthOf : Record → ℕ → ℕ
+lengthOf r i = getD (r .lengths) i 0
+
+abbrev pub heldIn : Record → List ℕ → ℕ → List ℕ
+heldIn r places i = take (lengthOf r i) (drop (placeStart i) places)
+
+unfoldable pub isOpenWith : Record → ℕ → ℕ → Bool
+isOpenWith r id i = isOpen r i && eqb (idOf r i) id
+
+unfoldable pub placeOf : Record → ℕ → Found
+placeOf r id =
+    cond (isOpenWith r id 0) (At 0)
+    (cond (isOpenWith r id 1) (At 1)
+    (cond (isOpenWith r id 2) (At 2)
+    (cond (isOpenWith r id 3) (At 3)
+    Nowhere)))
+
+unfoldable pub allOpen : Record → Bool
+allOpen r = isOpen r 0 && isOpen r 1 && isOpen r 2 && isOpen r 3
+
+unfoldable pub lowestFree : Record → ℕ
+lowestFree r = cond (isOpen r 0) (cond (isOpen r 1) (cond (isOpen r 2) 3 2) 1) 0
+
+unfoldable pub bothOpen : Record → ℕ → ℕ → Bool
+bothOpen r i j = isOpen r i && isOpen r j && eqb (idOf r i) (idOf r j)
+
+unfoldable pub idOpenTwice : Record → Bool
+idOpenTwice r = bothOpen r 0 1 || bothOpen r 0 2 || bothOpen r 0 3 || bothOpen r 1 2 || bothOpen r 1 3 || bothOpen r 2 3
+
+-- the places stand one behind the other, so the last is too short where any is
+abbrev pub placeShort : ℕ → Bool
+placeShort lent = ltb lent placesSize
+
+unfoldable pub lengthWrong : Record → ℕ → Bool
+lengthWrong r i = isOpen r i && (ltb (lengthOf r i) 16 || ltb placeSize (lengthOf r i))
+
+unfoldable pub someLengthWrong : Record → Bool
+someLengthWrong r = lengthWrong r 0 || lengthWrong r 1 || lengthWrong r 2 || lengthWrong r 3
+
+unfoldable pub badRecord : Record → ℕ → Bool
+badRecord r lent = idOpenTwice r || placeShort lent || someLengthWrong r

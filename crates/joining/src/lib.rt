@@ -1,0 +1,283 @@
+// Joining of 1.2 fragments: what each line of a recording is answered, by the record of the messages that are open.
+ghost use mathlib.Core.Path.{_≡_};
+ghost use mathlib.Core.List.{List};
+ghost use Prim.Native.Nat.{ℕ, _≤_, _<_};
+ghost use lib.ListN.{length};
+ghost use Rattle.frame.specs.declared.Frame.the-variants.{Accepted};
+ghost use Rattle.frame.specs.Frames.{frameOf};
+ghost use Rattle.joining.specs.Places.{placeSize};
+ghost use Rattle.joining.specs.Steps.{Passes, Opens, Extends, Completes, Frees, written, cancelled, lengthAfter, continued, startOf, withId, messageStep};
+ghost use Rattle.joining.specs.Answers.{refusalNumber, answerNumber, refusedWith, Does, Joins};
+ghost use Rattle.joining.specs.Inner.{Sound, Within, Opening, Continues};
+use frame::Frame;
+use frame::Header;
+use frame::RequestId;
+
+mod message;
+mod place;
+
+// The record of a recording: of each of the four places its open message's request id and length, and whether there is one.
+#[repr(C)]
+pub struct Record {
+    pub ids: [u32; 4],
+    pub lengths: [usize; 4],
+    pub opened: [bool; 4],
+}
+
+// One of the four places, or none of them.
+pub enum Found {
+    At(usize),
+    Nowhere,
+}
+
+// A refusal: a row of the frame header's table, or a rule of joining.
+pub enum Refusal {
+    Frame(frame::Refusal),
+    IdOpen,
+    FourOpen,
+    IdNotOpen,
+    FirstDiffers,
+    TooLong,
+    NoRoom,
+    BadRecord,
+}
+
+impl Refusal {
+    // The paper's number of the refusal.
+    pub fn number(self) -> u32
+        ensures { λ r. ⌜ r ≡ refusalNumber self ⌝ }
+    {
+        match self {
+            Refusal::Frame(row) => row.number(),
+            Refusal::IdOpen => refusals::ID_OPEN,
+            Refusal::FourOpen => refusals::FOUR_OPEN,
+            Refusal::IdNotOpen => refusals::ID_NOT_OPEN,
+            Refusal::FirstDiffers => refusals::FIRST_DIFFERS,
+            Refusal::TooLong => refusals::JOINED_TOO_LONG,
+            Refusal::NoRoom => refusals::NO_ROOM,
+            Refusal::BadRecord => refusals::BAD_RECORD,
+        }
+    }
+}
+
+// The answer to a line, with the octets written of the message that it gives.
+pub enum Answer {
+    Whole(usize),
+    Held,
+    Joined(usize),
+    Cancelled(usize),
+    Refused(Refusal),
+}
+
+impl Answer {
+    // The paper's number of the answer.
+    pub fn number(self) -> u32
+        ensures { λ r. ⌜ r ≡ answerNumber self ⌝ }
+    {
+        match self {
+            Answer::Whole(_) => 0,
+            Answer::Held => 1,
+            Answer::Joined(_) => 2,
+            Answer::Cancelled(_) => 3,
+            Answer::Refused(why) => why.number(),
+        }
+    }
+}
+
+// The answer, and the record after the line.
+pub struct Outcome {
+    pub answer: Answer,
+    pub after: Record,
+}
+
+// Answers a line's octets by the record and the octets of its four places, 16,384 each, one place behind the other.
+pub fn join(octets: &[u8], before: Record, places: &mut [u8], out: &mut [u8]) -> Outcome
+    ensures { λ r. ⌜ Joins (now (octets .entry)) before (now (places .entry)) (now (out .entry)) r (now (places .exit)) (now (out .exit)) ⌝ }
+{
+    match frame::judge(octets) {
+        Frame::Accepted(h) => accepted(octets, h, before, places, out),
+        Frame::Refused(row) => refused(before, Refusal::Frame(row)),
+    }
+}
+
+// A refusal leaves the record as it was.
+fn refused(before: Record, why: Refusal) -> Outcome
+    ensures { λ r. ⌜ r ≡ refusedWith before why ⌝ }
+{
+    Outcome {
+        answer: Answer::Refused(why),
+        after: before,
+    }
+}
+
+// Answers an accepted message.
+fn accepted(octets: &[u8], h: Header, before: Record, places: &mut [u8], out: &mut [u8]) -> Outcome
+    requires { ⌜ frameOf (now octets) ≡ Accepted h ⌝ }
+    ensures { λ r. ⌜ Does (messageStep before (now (places .entry)) (length (now (out .entry))) (length (now (octets .entry))) h) (now (octets .entry)) before (now (places .entry)) (now (out .entry)) r (now (places .exit)) (now (out .exit)) ⌝ }
+{
+    if place::bad_record(before, places.len()) {
+        return refused(before, Refusal::BadRecord);
+    }
+    let id = h.id;
+    match id {
+        RequestId::Id(x) => identified(octets, h, x, before, places, out),
+        RequestId::NoId => whole(octets, before, out),
+    }
+}
+
+// Answers a message that has a request id.
+fn identified(
+    octets: &[u8],
+    h: Header,
+    id: u32,
+    before: Record,
+    places: &mut [u8],
+    out: &mut [u8],
+) -> Outcome
+    requires { ⌜ Sound (now octets) h before (now places) ⌝ }
+    ensures { λ r. ⌜ Does (withId before (now (places .entry)) (length (now (out .entry))) (length (now (octets .entry))) h id) (now (octets .entry)) before (now (places .entry)) (now (out .entry)) r (now (places .exit)) (now (out .exit)) ⌝ }
+{
+    let found = place::place_of(before, id);
+    if h.kind == frame::CANCEL_REQUEST {
+        return cancel(octets, found, before, out);
+    }
+    if h.kind == frame::FRAGMENT {
+        let Found::At(i) = found else {
+            return refused(before, Refusal::IdNotOpen);
+        };
+        return fragment(octets, h, i, before, places, out);
+    }
+    start(octets, h, id, found, before, places, out)
+}
+
+// Writes a message as it is.
+fn whole(octets: &[u8], before: Record, out: &mut [u8]) -> Outcome
+    ensures { λ r. ⌜ ((places : List ℕ) → Does (written (length (now (out .entry))) (length (now (octets .entry))) Passes) (now (octets .entry)) before places (now (out .entry)) r places (now (out .exit))) ⌝ }
+{
+    if out.len() < octets.len() {
+        return refused(before, Refusal::NoRoom);
+    }
+    cdr::write_octets(out, 0, octets);
+    Outcome {
+        answer: Answer::Whole(octets.len()),
+        after: before,
+    }
+}
+
+// Answers a CancelRequest: it frees the place of its id, where there is one.
+fn cancel(octets: &[u8], found: Found, before: Record, out: &mut [u8]) -> Outcome
+    requires { ⌜ Within found ⌝ }
+    ensures { λ r. ⌜ ((places : List ℕ) → Does (cancelled (length (now (out .entry))) (length (now (octets .entry))) found) (now (octets .entry)) before places (now (out .entry)) r places (now (out .exit))) ⌝ }
+{
+    let Found::At(i) = found else {
+        return whole(octets, before, out);
+    };
+    if out.len() < octets.len() {
+        return refused(before, Refusal::NoRoom);
+    }
+    cdr::write_octets(out, 0, octets);
+    Outcome {
+        answer: Answer::Cancelled(octets.len()),
+        after: place::closed(before, i),
+    }
+}
+
+// Answers a message that starts, whole or as a first fragment.
+fn start(
+    octets: &[u8],
+    h: Header,
+    id: u32,
+    found: Found,
+    before: Record,
+    places: &mut [u8],
+    out: &mut [u8],
+) -> Outcome
+    requires { ⌜ Sound (now octets) h before (now places) ⌝ }
+    ensures { λ r. ⌜ Does (startOf before (length (now (out .entry))) (length (now (octets .entry))) h id found) (now (octets .entry)) before (now (places .entry)) (now (out .entry)) r (now (places .exit)) (now (out .exit)) ⌝ }
+{
+    let open = place::is_at(found);
+    let full = place::all_open(before);
+    if open {
+        return refused(before, Refusal::IdOpen);
+    }
+    if !h.more {
+        return whole(octets, before, out);
+    }
+    if full {
+        return refused(before, Refusal::FourOpen);
+    }
+    first(octets, id, place::lowest_free(before), before, places)
+}
+
+// Opens a place for a first fragment.
+fn first(octets: &[u8], id: u32, i: usize, before: Record, places: &mut [u8]) -> Outcome
+    requires { ⌜ Opening (now octets) (now places) i ⌝ }
+    ensures { λ r. ⌜ ((out : List ℕ) → Does (Opens i id) (now (octets .entry)) before (now (places .entry)) out r (now (places .exit)) out) ⌝ }
+{
+    cdr::write_octets(places, i * place::PLACE_SIZE, octets);
+    Outcome {
+        answer: Answer::Held,
+        after: place::opened(before, i, id, octets.len()),
+    }
+}
+
+// Answers a fragment of the message that is open in a place.
+fn fragment(
+    octets: &[u8],
+    h: Header,
+    i: usize,
+    before: Record,
+    places: &mut [u8],
+    out: &mut [u8],
+) -> Outcome
+    requires { ⌜ Continues (now octets) before (now places) i ⌝ }
+    ensures { λ r. ⌜ Does (continued before (now (places .entry)) (length (now (out .entry))) (length (now (octets .entry))) h i) (now (octets .entry)) before (now (places .entry)) (now (out .entry)) r (now (places .exit)) (now (out .exit)) ⌝ }
+{
+    let begin = i * place::PLACE_SIZE;
+    let held = before.lengths[i];
+    let total = held + (octets.len() - message::ID_END);
+    if message::differs(&places[begin..begin + held], h) {
+        return refused(before, Refusal::FirstDiffers);
+    }
+    if place::PLACE_SIZE < total {
+        return refused(before, Refusal::TooLong);
+    }
+    if h.more {
+        return extend(octets, i, before, places);
+    }
+    if out.len() < total {
+        return refused(before, Refusal::NoRoom);
+    }
+    complete(octets, i, before, places, out)
+}
+
+// Adds a middle fragment's body to its place.
+fn extend(octets: &[u8], i: usize, before: Record, places: &mut [u8]) -> Outcome
+    requires { ⌜ Continues (now octets) before (now places) i × (lengthAfter before i (length (now octets)) ≤ placeSize) ⌝ }
+    ensures { λ r. ⌜ ((out : List ℕ) → Does (Extends i) (now (octets .entry)) before (now (places .entry)) out r (now (places .exit)) out) ⌝ }
+{
+    let held = before.lengths[i];
+    let at = i * place::PLACE_SIZE + held;
+    cdr::write_octets(places, at, &octets[message::ID_END..]);
+    Outcome {
+        answer: Answer::Held,
+        after: place::lengthened(before, i, held + (octets.len() - message::ID_END)),
+    }
+}
+
+// Writes the joined message and frees its place.
+fn complete(octets: &[u8], i: usize, before: Record, places: &[u8], out: &mut [u8]) -> Outcome
+    requires { ⌜ Continues (now octets) before (now places) i × (lengthAfter before i (length (now octets)) ≤ length (now out)) ⌝ }
+    ensures { λ r. ⌜ Does (Completes i) (now (octets .entry)) before (now (places .entry)) (now (out .entry)) r (now (places .entry)) (now (out .exit)) ⌝ }
+{
+    let begin = i * place::PLACE_SIZE;
+    let held = before.lengths[i];
+    let total = held + (octets.len() - message::ID_END);
+    cdr::write_octets(out, 0, &places[begin..begin + held]);
+    cdr::write_octets(out, held, &octets[message::ID_END..]);
+    message::correct(out, total);
+    Outcome {
+        answer: Answer::Joined(total),
+        after: place::closed(before, i),
+    }
+}

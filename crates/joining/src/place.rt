@@ -1,0 +1,200 @@
+// The four places of a record.
+ghost use mathlib.Core.Path.{_≡_};
+ghost use Prim.Native.Nat.{_<_};
+ghost use Rattle.joining.specs.Places.{isOpenWith, placeOf, allOpen, lowestFree, bothOpen, idOpenTwice, lengthWrong, someLengthWrong, badRecord};
+ghost use Rattle.joining.specs.Answers.{opened, lengthened, closed};
+ghost use Rattle.joining.specs.Inner.{isAt};
+use crate::Found;
+use crate::Record;
+
+// The octets of a place.
+pub(crate) const PLACE_SIZE: usize = 16384;
+
+// The octets of the four places.
+const PLACES_SIZE: usize = 65536;
+
+// The least octets of an open message: its header and its request id.
+const LEAST: usize = 16;
+
+// Whether a place was found.
+pub(crate) fn is_at(found: Found) -> bool
+    ensures { λ r. ⌜ r ≡ isAt found ⌝ }
+{
+    match found {
+        Found::At(_) => true,
+        Found::Nowhere => false,
+    }
+}
+
+// Whether a place has the open message of a request id.
+fn is_open_with(r: Record, i: usize, id: u32) -> bool
+    requires { ⌜ i < 4 ⌝ }
+    ensures { λ b. ⌜ b ≡ isOpenWith r id i ⌝ }
+{
+    if !r.opened[i] {
+        return false;
+    }
+    r.ids[i] == id
+}
+
+// The place of the open message of a request id.
+pub(crate) fn place_of(r: Record, id: u32) -> Found
+    ensures { λ found. ⌜ found ≡ placeOf r id ⌝ }
+{
+    if is_open_with(r, 0, id) {
+        return Found::At(0);
+    }
+    if is_open_with(r, 1, id) {
+        return Found::At(1);
+    }
+    if is_open_with(r, 2, id) {
+        return Found::At(2);
+    }
+    if is_open_with(r, 3, id) {
+        return Found::At(3);
+    }
+    Found::Nowhere
+}
+
+// Whether every place has an open message.
+pub(crate) fn all_open(r: Record) -> bool
+    ensures { λ b. ⌜ b ≡ allOpen r ⌝ }
+{
+    if !r.opened[0] {
+        return false;
+    }
+    if !r.opened[1] {
+        return false;
+    }
+    if !r.opened[2] {
+        return false;
+    }
+    r.opened[3]
+}
+
+// The lowest place that has no open message, if one has none.
+pub(crate) fn lowest_free(r: Record) -> usize
+    ensures { λ i. ⌜ i ≡ lowestFree r ⌝ }
+{
+    if !r.opened[0] {
+        return 0;
+    }
+    if !r.opened[1] {
+        return 1;
+    }
+    if !r.opened[2] {
+        return 2;
+    }
+    3
+}
+
+// Whether two places have open messages of the same id.
+fn both_open(r: Record, i: usize, j: usize) -> bool
+    requires { ⌜ (i < 4) × (j < 4) ⌝ }
+    ensures { λ b. ⌜ b ≡ bothOpen r i j ⌝ }
+{
+    if !r.opened[i] {
+        return false;
+    }
+    if !r.opened[j] {
+        return false;
+    }
+    r.ids[i] == r.ids[j]
+}
+
+// Whether one id is open twice.
+fn id_open_twice(r: Record) -> bool
+    ensures { λ b. ⌜ b ≡ idOpenTwice r ⌝ }
+{
+    if both_open(r, 0, 1) {
+        return true;
+    }
+    if both_open(r, 0, 2) {
+        return true;
+    }
+    if both_open(r, 0, 3) {
+        return true;
+    }
+    if both_open(r, 1, 2) {
+        return true;
+    }
+    if both_open(r, 1, 3) {
+        return true;
+    }
+    both_open(r, 2, 3)
+}
+
+// Whether the length of a place's open message is out of its range.
+fn length_wrong(r: Record, i: usize) -> bool
+    requires { ⌜ i < 4 ⌝ }
+    ensures { λ b. ⌜ b ≡ lengthWrong r i ⌝ }
+{
+    if !r.opened[i] {
+        return false;
+    }
+    if r.lengths[i] < LEAST {
+        return true;
+    }
+    PLACE_SIZE < r.lengths[i]
+}
+
+// Whether one of the open lengths is out of its range.
+fn some_length_wrong(r: Record) -> bool
+    ensures { λ b. ⌜ b ≡ someLengthWrong r ⌝ }
+{
+    if length_wrong(r, 0) {
+        return true;
+    }
+    if length_wrong(r, 1) {
+        return true;
+    }
+    if length_wrong(r, 2) {
+        return true;
+    }
+    length_wrong(r, 3)
+}
+
+// Whether a record with so many octets of places is refused.
+pub(crate) fn bad_record(r: Record, lent: usize) -> bool
+    ensures { λ b. ⌜ b ≡ badRecord r lent ⌝ }
+{
+    if id_open_twice(r) {
+        return true;
+    }
+    if lent < PLACES_SIZE {
+        return true;
+    }
+    some_length_wrong(r)
+}
+
+// The record with a place opened.
+pub(crate) fn opened(r: Record, i: usize, id: u32, length: usize) -> Record
+    requires { ⌜ i < 4 ⌝ }
+    ensures { λ after. ⌜ after ≡ opened r i id «length» ⌝ }
+{
+    let mut after = r;
+    after.ids[i] = id;
+    after.lengths[i] = length;
+    after.opened[i] = true;
+    after
+}
+
+// The record with a place's message lengthened.
+pub(crate) fn lengthened(r: Record, i: usize, length: usize) -> Record
+    requires { ⌜ i < 4 ⌝ }
+    ensures { λ after. ⌜ after ≡ lengthened r i «length» ⌝ }
+{
+    let mut after = r;
+    after.lengths[i] = length;
+    after
+}
+
+// The record with a place freed.
+pub(crate) fn closed(r: Record, i: usize) -> Record
+    requires { ⌜ i < 4 ⌝ }
+    ensures { λ after. ⌜ after ≡ closed r i ⌝ }
+{
+    let mut after = r;
+    after.opened[i] = false;
+    after
+}

@@ -1,0 +1,6 @@
+-- Facts of each step, and what holds after any lines.
+pub mod Lists
+pub mod Inversion
+pub mod Fits
+pub mod Places
+pub mod Sequence

@@ -1,0 +1,2 @@
+-- Lines one after another, and what the places hold after them.
+pub mod Sequence

@@ -1,0 +1,1 @@
+// Joining over the whole sequence of lines: definitions and theorems, no code.
