@@ -32,12 +32,19 @@ pub const MAJOR: u8 = 1;
 /// The highest minor version that is read.
 pub const NEWEST_MINOR: u8 = 2;
 
+/// Where a header has the minor version.
+pub const MINOR_AT: usize = 5;
+/// Where a header has the flags.
+pub const FLAGS_AT: usize = 6;
+/// Where a header has the size.
+pub const SIZE_AT: usize = 8;
+/// The flag of little-endian messages.
+pub const LITTLE: u8 = 0b01;
+/// The flag that says more fragments follow.
+pub const MORE: u8 = 0b10;
+
 /// The first four octets of every message.
 const MAGIC: [u8; 4] = *b"GIOP";
-/// The flag of little-endian messages.
-const LITTLE: u8 = 0b01;
-/// The flag that says more fragments follow.
-const MORE: u8 = 0b10;
 
 /// An accepted frame header, and the request id after it.
 #[derive(Clone, Copy, Debug, PartialEq, Eq)]

@@ -11,38 +11,75 @@ pub const LONGEST_MESSAGE: usize = 4_096;
 /// The digits that are written.
 const UPPER_CASE: &[u8; 16] = b"0123456789ABCDEF";
 
+/// What stands in [`VALUES`] for a character that is no digit.
+const NO_DIGIT: u8 = 0xFF;
+
+/// The value of each character, 0 to 15 for the digits of either case.
+static VALUES: [u8; 256] = values();
+
+/// The two upper-case digits of each octet.
+static DIGITS: [[u8; 2]; 256] = digits();
+
 /// Turns a line's characters, without its LF, into octets; refusals 10 and 11.
 pub fn decode(line: &[u8]) -> Result<Vec<u8>, u32> {
+    let mut octets = Vec::new();
+    decode_into(line, &mut octets).map(|()| octets)
+}
+
+/// Turns a line's characters into octets, which take the place of those that
+/// were there; after a refusal nothing is said of them.
+pub fn decode_into(line: &[u8], octets: &mut Vec<u8>) -> Result<(), u32> {
     demand(line.len() <= LONGEST_LINE, LINE_TOO_LONG)?;
     demand(line.len().is_multiple_of(2), NOT_HEXADECIMAL)?;
-    line.chunks_exact(2)
-        .map(|pair| octet(pair[0], pair[1]).ok_or(NOT_HEXADECIMAL))
-        .collect()
+    octets.resize(line.len() / 2, 0);
+    let mut all_bits = 0;
+    for (octet, pair) in octets.iter_mut().zip(line.chunks_exact(2)) {
+        let high = VALUES[usize::from(pair[0])];
+        let low = VALUES[usize::from(pair[1])];
+        all_bits |= high | low;
+        *octet = high << 4 | low;
+    }
+    demand(all_bits < 16, NOT_HEXADECIMAL)
 }
 
 /// Turns octets into upper-case digits.
 pub fn encode(octets: &[u8]) -> Vec<u8> {
-    octets.iter().flat_map(|&octet| digits(octet)).collect()
+    let mut text = Vec::new();
+    encode_into(octets, &mut text);
+    text
 }
 
-/// The octet of two digits, if both are digits.
-fn octet(high: u8, low: u8) -> Option<u8> {
-    Some(digit_value(high)? << 4 | digit_value(low)?)
-}
-
-/// The value of a digit of either case.
-fn digit_value(character: u8) -> Option<u8> {
-    match character {
-        b'0'..=b'9' => Some(character - b'0'),
-        b'A'..=b'F' => Some(character - b'A' + 10),
-        b'a'..=b'f' => Some(character - b'a' + 10),
-        _ => None,
+/// Adds the upper-case digits of octets to a text.
+pub fn encode_into(octets: &[u8], text: &mut Vec<u8>) {
+    let start = text.len();
+    text.resize(start + 2 * octets.len(), 0);
+    for (pair, &octet) in text[start..].chunks_exact_mut(2).zip(octets) {
+        pair.copy_from_slice(&DIGITS[usize::from(octet)]);
     }
 }
 
-/// The two upper-case digits of an octet.
-fn digits(octet: u8) -> [u8; 2] {
-    [octet >> 4, octet & 0x0F].map(|value| UPPER_CASE[usize::from(value)])
+/// The table of the characters' values.
+const fn values() -> [u8; 256] {
+    let mut values = [NO_DIGIT; 256];
+    let mut value = 0;
+    while value < 16 {
+        let digit = UPPER_CASE[value as usize];
+        values[digit as usize] = value;
+        values[digit.to_ascii_lowercase() as usize] = value;
+        value += 1;
+    }
+    values
+}
+
+/// The table of the octets' digits.
+const fn digits() -> [[u8; 2]; 256] {
+    let mut digits = [[0; 2]; 256];
+    let mut octet = 0;
+    while octet < 256 {
+        digits[octet] = [UPPER_CASE[octet >> 4], UPPER_CASE[octet & 0x0F]];
+        octet += 1;
+    }
+    digits
 }
 
 #[cfg(test)]
@@ -100,6 +137,16 @@ mod tests {
     fn octets_are_written_in_upper_case() {
         assert_eq!(encode(&[]), b"");
         assert_eq!(encode(&[0x00, 0x0A, 0xF0, 0xBC]), b"000AF0BC");
+    }
+
+    #[test]
+    fn lent_vectors_are_used_again() {
+        let mut octets = vec![0xAA; 7];
+        assert_eq!(decode_into(b"0102", &mut octets), Ok(()));
+        assert_eq!(octets, [0x01, 0x02]);
+        let mut text = b"1 0 ".to_vec();
+        encode_into(&octets, &mut text);
+        assert_eq!(text, b"1 0 0102");
     }
 
     #[test]

@@ -24,8 +24,20 @@ pub const SIZE_UNFIT: u32 = 19;
 pub const FRAGMENT_UNFIT: u32 = 20;
 /// The more flag on a message that is no multiple of 8 octets.
 pub const FRAGMENT_UNALIGNED: u32 = 21;
+/// A message with a request id that is open already.
+pub const ID_OPEN: u32 = 22;
+/// A first fragment when every place is in use.
+pub const NO_FREE_PLACE: u32 = 23;
+/// A fragment whose request id is not open.
+pub const ID_NOT_OPEN: u32 = 24;
+/// A fragment of another minor version or byte order than the first.
+pub const FRAGMENT_DIFFERS: u32 = 25;
+/// A joined message that would be over 16,384 octets.
+pub const JOINED_TOO_LONG: u32 = 26;
 /// Output shorter than what is to be written.
 pub const OUTPUT_TOO_SHORT: u32 = 27;
+/// A lent record that no recording can have brought about.
+pub const RECORD_UNSOUND: u32 = 28;
 
 /// Gives the refusal unless the demand is met.
 pub fn demand(met: bool, refusal: u32) -> Result<(), u32> {

@@ -129,10 +129,11 @@ fn joined(
 {
     let r = joining::join(octets, before, places, out);
     let answer = r.answer;
+    let after = r.after;
     *count = joined_count(answer, *count);
     Numbered {
         number: answer.number(),
-        after: r.after,
+        after,
     }
 }
 

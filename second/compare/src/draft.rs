@@ -4,13 +4,11 @@ use second::frame::{
     CANCEL_REQUEST, CLOSE_CONNECTION, FRAGMENT, HEADER_LENGTH, LOCATE_REPLY, LOCATE_REQUEST,
     MESSAGE_ERROR, REPLY, REQUEST,
 };
+use second::primitive::ulong_octets;
+
+pub use second::frame::{LITTLE, MORE};
 
 use crate::chance::Chance;
-
-/// The flag of little-endian messages.
-pub const LITTLE: u8 = 1;
-/// The flag that says more fragments follow.
-pub const MORE: u8 = 2;
 
 /// What a frame says of its body's length.
 #[derive(Clone, Copy)]
@@ -40,6 +38,9 @@ pub struct Draft {
     pub size: Size,
     /// Octets of the body.
     pub body: usize,
+    /// The request id at the body's start; by chance like the rest if there is
+    /// none.
+    pub id: Option<u32>,
     /// How many of the octets there are, all others being cut off.
     pub kept: usize,
 }
@@ -55,7 +56,16 @@ impl Draft {
             kind,
             size: Size::Off(0),
             body,
+            id: None,
             kept: usize::MAX,
+        }
+    }
+
+    /// The frame with a request id in its own byte order.
+    pub fn with_id(self, id: u32) -> Self {
+        Draft {
+            id: Some(id),
+            ..self
         }
     }
 
@@ -73,34 +83,34 @@ impl Draft {
         }
     }
 
-    /// The octets, the body's by chance.
+    /// The octets, the body's by chance except for the id.
     pub fn octets(&self, chance: &mut Chance) -> Vec<u8> {
         let mut octets = Vec::with_capacity(HEADER_LENGTH + self.body);
         octets.extend_from_slice(&self.magic);
         octets.extend_from_slice(&[self.major, self.minor, self.flags, self.kind]);
         octets.extend_from_slice(&self.size_field());
         octets.extend_from_slice(&chance.octets(self.body));
+        let id_octets = octets.get_mut(HEADER_LENGTH..HEADER_LENGTH + 4);
+        if let (Some(id), Some(octets)) = (self.id, id_octets) {
+            octets.copy_from_slice(&ulong_octets(id, self.little()));
+        }
         octets.truncate(self.kept);
         octets
     }
 
+    /// Whether the flags say little-endian.
+    fn little(&self) -> bool {
+        self.flags & LITTLE != 0
+    }
+
     /// The four octets of the size field.
     fn size_field(&self) -> [u8; 4] {
-        let little = self.flags & LITTLE != 0;
+        let little = self.little();
         match self.size {
-            Size::Off(by) => in_order((self.body as i64 + by) as u32, little),
-            Size::Exactly(size) => in_order(size, little),
-            Size::WrongOrder => in_order(self.body as u32, !little),
+            Size::Off(by) => ulong_octets((self.body as i64 + by) as u32, little),
+            Size::Exactly(size) => ulong_octets(size, little),
+            Size::WrongOrder => ulong_octets(self.body as u32, !little),
         }
-    }
-}
-
-/// An unsigned long in the given byte order.
-fn in_order(number: u32, little: bool) -> [u8; 4] {
-    if little {
-        number.to_le_bytes()
-    } else {
-        number.to_be_bytes()
     }
 }
 

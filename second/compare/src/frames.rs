@@ -241,7 +241,7 @@ fn mutated_frames(judge: &mut Judge, chance: &mut Chance) {
 }
 
 /// The octets with one to three changed, cut or lengthened.
-fn mutated(chance: &mut Chance, mut octets: Vec<u8>) -> Vec<u8> {
+pub fn mutated(chance: &mut Chance, mut octets: Vec<u8>) -> Vec<u8> {
     match chance.below(4) {
         0 => octets.truncate(chance.below(octets.len() + 1)),
         1 => {

@@ -1,18 +1,22 @@
 //! Holds the archive's answers and lent memory to the second program's.
 
 use second::hexline::LONGEST_MESSAGE;
+use second::joining::{Answer, CANCELLED, JOINED, PLACE_OCTETS, WHOLE};
 use second::refusal::{LINE_TOO_LONG, OUTPUT_TOO_SHORT};
 use second::Header;
 
 use crate::archive::{self, HeaderNumbers};
 use crate::chance::Chance;
-use crate::lent::{LentHeader, LentOutput};
-use crate::tally::{Held, Tally};
+use crate::joinings::Recording;
+use crate::lent::{LentHeader, LentJoining, LentOutput, Noise};
+use crate::tally::{Held, Section, Tally};
 
 /// Asks both programs, and keeps the tally.
 pub struct Judge {
     /// Patterns for the lent memory.
     seeds: Chance,
+    /// Contents for the lent memory of joining.
+    noise: Noise,
     /// What was found so far.
     pub tally: Tally,
 }
@@ -22,6 +26,7 @@ impl Judge {
     pub fn new() -> Self {
         Judge {
             seeds: Chance::new(0x5EED),
+            noise: Noise::new(0x00_15E),
             tally: Tally::default(),
         }
     }
@@ -31,7 +36,8 @@ impl Judge {
         let mut lent = LentOutput::new(self.seeds.next(), room);
         let number = call_decode(line, &mut lent);
         let expected = hold_output(&lent, &limited(second::decode(line), room));
-        self.tally.enter("decode", line, number, expected);
+        self.tally
+            .enter(Section::Lines, "decode", line, number, expected);
     }
 
     /// Encodes octets into an output with room for so many digits.
@@ -39,7 +45,8 @@ impl Judge {
         let mut lent = LentOutput::new(self.seeds.next(), room);
         let number = call_encode(octets, &mut lent);
         let expected = hold_output(&lent, &limited(Ok(second::encode(octets)), room));
-        self.tally.enter("encode", octets, number, expected);
+        self.tally
+            .enter(Section::Lines, "encode", octets, number, expected);
     }
 
     /// Reads a frame's header.
@@ -47,7 +54,8 @@ impl Judge {
         let mut lent = LentHeader::new(self.seeds.next());
         let number = archive::frame(octets, lent.lend());
         let expected = hold_header(&lent, &second::frame(octets));
-        self.tally.enter("frame", octets, number, expected);
+        self.tally
+            .enter(Section::Lines, "frame", octets, number, expected);
     }
 
     /// Takes a line the whole way: decodes it, then reads its octets' header.
@@ -65,7 +73,8 @@ impl Judge {
             memory: in_output.or(in_header.memory),
             ..in_header
         };
-        self.tally.enter("line", line, number, expected);
+        self.tally
+            .enter(Section::Lines, "line", line, number, expected);
     }
 
     /// Encodes octets and decodes the digits, with room for just the octets.
@@ -81,8 +90,67 @@ impl Judge {
             _ => Err(LINE_TOO_LONG),
         };
         let expected = hold_output(&output, &answer);
-        self.tally.enter("round trip", octets, number, expected);
+        self.tally
+            .enter(Section::Lines, "round trip", octets, number, expected);
     }
+
+    /// Gives the lines of a recording one after the other.
+    pub fn recording(&mut self, name: &str, recording: &Recording) {
+        let mut lent = LentJoining::new(&mut self.seeds, &self.noise, &recording.start);
+        for line in &recording.lines {
+            let room = self.room(line, &lent);
+            let answer = self.join(name, line, &mut lent, room);
+            if answer.number == OUTPUT_TOO_SHORT && self.seeds.once_in(2) {
+                self.join(name, line, &mut lent, PLACE_OCTETS);
+            }
+        }
+    }
+
+    /// The room for a line's message: mostly plenty, sometimes none, just
+    /// enough, or around that.
+    fn room(&mut self, line: &[u8], lent: &LentJoining) -> usize {
+        if !self.seeds.once_in(4) {
+            return PLACE_OCTETS;
+        }
+        let mut trial = lent.clone();
+        trial.renew_output(&mut self.seeds, &self.noise, PLACE_OCTETS);
+        let written = call_second(line, &mut trial).written;
+        let needed = if written > 0 { written } else { line.len() };
+        let around = [
+            needed,
+            needed.saturating_sub(1),
+            needed + 1,
+            0,
+            PLACE_OCTETS + 8,
+        ];
+        self.seeds.pick(&around)
+    }
+
+    /// Gives a line with an output of so many octets, and gives back the
+    /// second program's answer and the memory as that leaves it.
+    fn join(&mut self, name: &str, line: &[u8], lent: &mut LentJoining, room: usize) -> Answer {
+        lent.renew_output(&mut self.seeds, &self.noise, room);
+        let mut ours = lent.clone();
+        let parts = ours.lend();
+        let number = archive::join(line, parts.record, parts.places, parts.output, parts.count);
+        let answer = call_second(line, lent);
+        let held = Held {
+            number: answer.number,
+            memory: ours.unlike(lent),
+        };
+        self.tally.enter(Section::Joining, name, line, number, held);
+        answer
+    }
+}
+
+/// The second program's answer; the count as the archive is to leave it.
+fn call_second(line: &[u8], lent: &mut LentJoining) -> Answer {
+    let parts = lent.lend();
+    let answer = second::joining::join(line, parts.record, parts.places, parts.output);
+    if [WHOLE, JOINED, CANCELLED].contains(&answer.number) {
+        *parts.count = answer.written as u64;
+    }
+    answer
 }
 
 /// Holds a lent output to the second program's answer.

@@ -1,6 +1,11 @@
 //! Memory to lend, filled with a pattern so that every write to it shows.
 
+use second::frame::MINOR_AT;
+use second::joining::{Record, PLACE_OCTETS};
+
 use crate::archive::HeaderNumbers;
+use crate::chance::Chance;
+use crate::start::Start;
 
 /// Octets on either side of the lent ones, which nobody may touch.
 const MARGIN: usize = 32;
@@ -126,4 +131,133 @@ impl LentHeader {
     fn pattern(seed: u64) -> [u64; 9] {
         std::array::from_fn(|index| pattern_number(seed, index as u64))
     }
+}
+
+/// Octets by chance, of which any part can be lent. They are made once, as the
+/// places have many.
+pub struct Noise(Vec<u8>);
+
+impl Noise {
+    /// The octets of a seed.
+    pub fn new(seed: u64) -> Self {
+        Noise(Chance::new(seed).octets(1 << 20))
+    }
+
+    /// So many of them.
+    fn part(&self, chance: &mut Chance, count: usize) -> &[u8] {
+        let start = chance.below(self.0.len() - count);
+        &self.0[start..start + count]
+    }
+}
+
+/// A lent record, with a number on either side that nobody may touch.
+#[repr(C)]
+#[derive(Clone, Copy, PartialEq, Eq, Debug)]
+struct GuardedRecord {
+    before: u64,
+    record: Record,
+    after: u64,
+}
+
+/// All that is lent with the lines of a recording.
+#[derive(Clone)]
+pub struct LentJoining {
+    /// The lent record.
+    guarded: GuardedRecord,
+    /// The places' octets between their margins.
+    places: Vec<u8>,
+    /// The output's octets between their margins.
+    output: Vec<u8>,
+    /// The lent count.
+    count: u64,
+}
+
+/// The parts of what is lent with a line.
+pub struct Parts<'a> {
+    /// The lent record.
+    pub record: &'a mut Record,
+    /// The places' octets.
+    pub places: &'a mut [u8],
+    /// The output's octets.
+    pub output: &'a mut [u8],
+    /// The lent count.
+    pub count: &'a mut u64,
+}
+
+impl LentJoining {
+    /// What is lent at the start, with no output yet.
+    pub fn new(chance: &mut Chance, noise: &Noise, start: &Start) -> Self {
+        let guarded = GuardedRecord {
+            before: chance.next(),
+            record: start.record,
+            after: chance.next(),
+        };
+        let mut places = noise.part(chance, start.places + 2 * MARGIN).to_vec();
+        for (place, stored) in start.stored.iter().enumerate() {
+            let frame = MARGIN + PLACE_OCTETS * place;
+            let octets = places.get_mut(frame + MINOR_AT..frame + MINOR_AT + 2);
+            if let (Some(stored), Some(octets)) = (stored, octets) {
+                octets.copy_from_slice(stored);
+            }
+        }
+        LentJoining {
+            guarded,
+            places,
+            output: Vec::new(),
+            count: 0,
+        }
+    }
+
+    /// Lends an output with room for so many octets, and a count.
+    pub fn renew_output(&mut self, chance: &mut Chance, noise: &Noise, room: usize) {
+        self.output.clear();
+        self.output
+            .extend_from_slice(noise.part(chance, room + 2 * MARGIN));
+        self.count = chance.next();
+    }
+
+    /// The lent parts.
+    pub fn lend(&mut self) -> Parts<'_> {
+        Parts {
+            record: &mut self.guarded.record,
+            places: within_margins(&mut self.places),
+            output: within_margins(&mut self.output),
+            count: &mut self.count,
+        }
+    }
+
+    /// What is not as in the other.
+    pub fn unlike(&self, other: &Self) -> Option<String> {
+        if self.guarded != other.guarded {
+            return Some(format!(
+                "record {:?}, not {:?}",
+                self.guarded, other.guarded
+            ));
+        }
+        if self.count != other.count {
+            return Some(format!("count is {}, not {}", self.count, other.count));
+        }
+        unlike_octets("places", &self.places, &other.places)
+            .or_else(|| unlike_octets("output", &self.output, &other.output))
+    }
+}
+
+/// The octets without their margins.
+fn within_margins(memory: &mut [u8]) -> &mut [u8] {
+    let end = memory.len() - MARGIN;
+    &mut memory[MARGIN..end]
+}
+
+/// The first octet, counted after the margin, in which two memories differ.
+fn unlike_octets(name: &str, found: &[u8], expected: &[u8]) -> Option<String> {
+    if found == expected {
+        return None;
+    }
+    let index = (0..expected.len()).find(|&index| found[index] != expected[index])?;
+    Some(format!(
+        "octet {} of the {name} is {:02X}, not {:02X}",
+        index as i64 - MARGIN as i64,
+        found[index],
+        expected[index]
+    ))
 }

@@ -5,11 +5,14 @@
 mod archive;
 mod chance;
 mod draft;
+mod fragments;
 mod frames;
+mod joinings;
 mod judge;
 mod lent;
 mod lines;
 mod recordings;
+mod start;
 mod tally;
 
 use std::env;
@@ -36,6 +39,7 @@ fn run() -> io::Result<u64> {
     let mut judge = Judge::new();
     lines::judge(&mut judge);
     frames::judge(&mut judge);
+    joinings::judge(&mut judge);
     if let Some(program) = env::args_os().nth(1) {
         recordings::judge(&mut judge, Path::new(&program))?;
     }

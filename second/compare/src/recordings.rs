@@ -10,28 +10,89 @@ use second::recording::answer_lines;
 
 use crate::chance::Chance;
 use crate::draft::{Draft, FAULTS};
+use crate::fragments::{Message, LONGEST_PART};
+use crate::joinings::{self, GENERATORS};
 use crate::judge::Judge;
 
 /// The characters that the proved program reads at once.
 const BLOCK: usize = 1 << 16;
 
+/// How many recordings of each generator of joining go to the program.
+const EACH: u64 = 150;
+
 /// Gives every recording to the program, and holds its output.
 pub fn judge(judge: &mut Judge, program: &Path) -> io::Result<()> {
-    let chance = &mut Chance::new(0x2EC0_2D);
+    let chance = &mut Chance::new(0x002E_C02D);
     for recording in fixed() {
-        hold(judge, program, &recording)?;
+        hold(judge, "program", program, &recording)?;
     }
     for length in lengths() {
-        hold(judge, program, &vec![b'0'; length])?;
-        hold(judge, program, &around(chance, length))?;
+        hold(judge, "program", program, &vec![b'0'; length])?;
+        hold(judge, "program", program, &around(chance, length))?;
     }
     for _ in 0..400 {
         let lines = 1 + chance.below(40);
         let recording = by_chance(chance, lines);
-        hold(judge, program, &recording)?;
+        hold(judge, "program", program, &recording)?;
     }
     let long = by_chance(chance, 20_000);
-    hold(judge, program, &long)
+    hold(judge, "program", program, &long)?;
+    for lines in limits() {
+        let recording = text(chance, &lines);
+        hold(judge, "program (limits)", program, &recording)?;
+    }
+    generated(judge, chance, program)
+}
+
+/// Recordings of all generators of joining, each alone and all as one.
+fn generated(judge: &mut Judge, chance: &mut Chance, program: &Path) -> io::Result<()> {
+    let mut all = Vec::new();
+    for number in 0..EACH {
+        for (generator, (name, _)) in GENERATORS.iter().enumerate() {
+            let lines = joinings::recording(generator, number).lines;
+            let recording = text(chance, &lines);
+            let name = format!("program ({name}, recording {number})");
+            hold(judge, &name, program, &recording)?;
+            all.extend(lines);
+        }
+    }
+    let recording = text(chance, &all);
+    hold(judge, "program (all generators)", program, &recording)
+}
+
+/// The lines as digits, the last one with or without its LF.
+fn text(chance: &mut Chance, lines: &[Vec<u8>]) -> Vec<u8> {
+    let mut text = Vec::new();
+    for line in lines {
+        text.extend(chance.digits(line));
+        text.push(b'\n');
+    }
+    if chance.once_in(2) {
+        text.pop();
+    }
+    text
+}
+
+/// Recordings that reach the limits: joined messages of 16,383 to 16,385
+/// octets, and lines of 8,192 and 8,194 digits, whole and in fragments.
+fn limits() -> Vec<Vec<Vec<u8>>> {
+    let chance = &mut Chance::new(0x11_317);
+    let mut recordings = Vec::new();
+    for _ in 0..8 {
+        let message = Message::by_chance(chance, 9);
+        for rest in 47..=49 {
+            let mut drafts = vec![message.first(LONGEST_PART)];
+            drafts.extend([message.middle(LONGEST_PART); 3]);
+            drafts.extend([message.last(rest), message.last(0)]);
+            recordings.push(drafts);
+        }
+        for part in [LONGEST_PART, LONGEST_PART + 1] {
+            recordings.push(vec![message.whole(part), message.first(0)]);
+            recordings.push(vec![message.first(0), message.last(part), message.whole(0)]);
+        }
+    }
+    let octets = |drafts: Vec<Draft>| drafts.iter().map(|draft| draft.octets(chance)).collect();
+    recordings.into_iter().map(octets).collect()
 }
 
 /// Recordings by hand: the paper's example, and every way a line can end.
@@ -94,13 +155,13 @@ fn line(chance: &mut Chance) -> Vec<u8> {
 }
 
 /// Gives one recording to both programs.
-fn hold(judge: &mut Judge, program: &Path, recording: &[u8]) -> io::Result<()> {
+fn hold(judge: &mut Judge, name: &str, program: &Path, recording: &[u8]) -> io::Result<()> {
     let mut expected = Vec::new();
     answer_lines(recording, &mut expected)
         .map_err(|failure| io::Error::other(failure.to_string()))?;
     let found = run(program, recording)?;
     let difference = difference(&found, &expected);
-    judge.tally.hold("program", recording, difference);
+    judge.tally.hold(name, recording, difference);
     Ok(())
 }
 

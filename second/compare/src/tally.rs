@@ -2,8 +2,12 @@
 
 use std::collections::BTreeMap;
 use std::fmt::{self, Write};
+use std::ops::RangeInclusive;
 
-use second::refusal::{FRAGMENT_UNALIGNED, LINE_TOO_LONG, OUTPUT_TOO_SHORT};
+use second::joining::{CANCELLED, WHOLE};
+use second::refusal::{
+    FRAGMENT_UNALIGNED, HEADER_CUT, ID_OPEN, LINE_TOO_LONG, OUTPUT_TOO_SHORT, RECORD_UNSOUND,
+};
 
 /// How many differences are shown.
 const SHOWN: usize = 20;
@@ -11,15 +15,75 @@ const SHOWN: usize = 20;
 /// How many digits of an input are shown.
 const SHOWN_DIGITS: usize = 200;
 
-/// How often each of the numbers must be given.
-const OFTEN: u64 = 100;
-
 /// How many inputs there must be.
 const ENOUGH: u64 = 200_000;
 
+/// The sections of the paper whose numbers are counted apart.
+#[derive(Clone, Copy, PartialEq, Eq, PartialOrd, Ord)]
+pub enum Section {
+    /// Lines and frame headers.
+    Lines,
+    /// Joining.
+    Joining,
+}
+
+/// Both sections.
+const SECTIONS: [Section; 2] = [Section::Lines, Section::Joining];
+
+/// Numbers of a section, and how often each of them must be given.
+struct Demand {
+    numbers: RangeInclusive<u32>,
+    often: u64,
+}
+
+/// So many times each of these numbers.
+const fn each(first: u32, last: u32, often: u64) -> Demand {
+    Demand {
+        numbers: first..=last,
+        often,
+    }
+}
+
+/// What lines and frame headers must bring.
+const OF_LINES: [Demand; 3] = [
+    each(0, 0, 100),
+    each(LINE_TOO_LONG, FRAGMENT_UNALIGNED, 100),
+    each(OUTPUT_TOO_SHORT, OUTPUT_TOO_SHORT, 100),
+];
+
+/// What joining must bring. It takes octets, so that 11 is not among them.
+const OF_JOINING: [Demand; 4] = [
+    each(WHOLE, CANCELLED, 500),
+    each(LINE_TOO_LONG, LINE_TOO_LONG, 100),
+    each(HEADER_CUT, FRAGMENT_UNALIGNED, 100),
+    each(ID_OPEN, RECORD_UNSOUND, 500),
+];
+
+impl Section {
+    /// The section's numbers, each with how often it must be given.
+    fn demands(self) -> impl Iterator<Item = (u32, u64)> {
+        let demands: &[Demand] = match self {
+            Section::Lines => &OF_LINES,
+            Section::Joining => &OF_JOINING,
+        };
+        demands
+            .iter()
+            .flat_map(|demand| demand.numbers.clone().map(|number| (number, demand.often)))
+    }
+}
+
+impl fmt::Display for Section {
+    fn fmt(&self, formatter: &mut fmt::Formatter<'_>) -> fmt::Result {
+        formatter.write_str(match self {
+            Section::Lines => "lines and frames",
+            Section::Joining => "joining",
+        })
+    }
+}
+
 /// What an answer of the archive was held to.
 pub struct Held {
-    /// The second program's number, 0 or a refusal.
+    /// The second program's number, an answer or a refusal.
     pub number: u32,
     /// What lent memory holds other than it should, if anything.
     pub memory: Option<String>,
@@ -32,26 +96,26 @@ pub struct Tally {
     passed: u64,
     /// Inputs with one.
     different: u64,
-    /// How often both programs gave a number.
-    given: BTreeMap<u32, u64>,
+    /// How often both programs gave a number in a section.
+    given: BTreeMap<(Section, u32), u64>,
     /// The first differences.
     shown: Vec<String>,
 }
 
 impl Tally {
     /// Enters one input, the archive's number for it, and what it was held to.
-    pub fn enter(&mut self, function: &str, input: &[u8], number: u32, held: Held) {
+    pub fn enter(&mut self, section: Section, name: &str, input: &[u8], number: u32, held: Held) {
         let difference = if number != held.number {
             Some(format!("archive gives {number}, second {}", held.number))
         } else {
-            *self.given.entry(number).or_default() += 1;
+            *self.given.entry((section, number)).or_default() += 1;
             held.memory.map(|found| format!("number {number}, {found}"))
         };
-        self.hold(function, input, difference);
+        self.hold(name, input, difference);
     }
 
     /// Enters one input, and in what its outcome differs, if in anything.
-    pub fn hold(&mut self, function: &str, input: &[u8], difference: Option<String>) {
+    pub fn hold(&mut self, name: &str, input: &[u8], difference: Option<String>) {
         match difference {
             None => self.passed += 1,
             Some(difference) => {
@@ -59,22 +123,31 @@ impl Tally {
                 if self.shown.len() < SHOWN {
                     let input = shortened(input);
                     self.shown
-                        .push(format!("difference: {function} {input}: {difference}"));
+                        .push(format!("difference: {name} {input}: {difference}"));
                 }
             }
         }
     }
 
     /// How often a number was given by both programs.
-    fn given(&self, number: u32) -> u64 {
-        self.given.get(&number).copied().unwrap_or(0)
+    fn given(&self, section: Section, number: u32) -> u64 {
+        self.given.get(&(section, number)).copied().unwrap_or(0)
     }
 
-    /// The numbers that were given too seldom.
-    fn seldom(&self) -> Vec<u32> {
-        numbers()
-            .filter(|&number| self.given(number) < OFTEN)
-            .collect()
+    /// What is said of the numbers that were given too seldom.
+    fn seldom(&self) -> Vec<String> {
+        let mut seldom = Vec::new();
+        for section in SECTIONS {
+            for (number, often) in section.demands() {
+                let count = self.given(section, number);
+                if count < often {
+                    seldom.push(format!(
+                        "seldom: {section}, {number} given {count} times, not {often}"
+                    ));
+                }
+            }
+        }
+        seldom
     }
 
     /// How many inputs there were.
@@ -89,29 +162,17 @@ impl Tally {
     }
 }
 
-/// The numbers that both programs can give: acceptance and the refusals.
-fn numbers() -> impl Iterator<Item = u32> {
-    [0].into_iter()
-        .chain(LINE_TOO_LONG..=FRAGMENT_UNALIGNED)
-        .chain([OUTPUT_TOO_SHORT])
-}
-
 impl fmt::Display for Tally {
     fn fmt(&self, formatter: &mut fmt::Formatter<'_>) -> fmt::Result {
-        writeln!(formatter, "number count")?;
-        for number in numbers() {
-            writeln!(formatter, "{number} {}", self.given(number))?;
+        for section in SECTIONS {
+            writeln!(formatter, "{section}: number count")?;
+            for (number, _) in section.demands() {
+                writeln!(formatter, "{number} {}", self.given(section, number))?;
+            }
         }
         writeln!(formatter, "total {}, at least {ENOUGH}", self.total())?;
-        for difference in &self.shown {
-            writeln!(formatter, "{difference}")?;
-        }
-        for number in self.seldom() {
-            let count = self.given(number);
-            writeln!(
-                formatter,
-                "seldom: {number} given {count} times, not {OFTEN}"
-            )?;
+        for line in self.shown.iter().chain(&self.seldom()) {
+            writeln!(formatter, "{line}")?;
         }
         writeln!(
             formatter,
