@@ -18,7 +18,7 @@ use Rattle.hexline.specs.Encoding.{encodedOf, encodedInto, encodedNumber}
 use Rattle.frame.specs.declared.Frame.{Frame}
 use Rattle.frame.specs.declared.Frame.the-variants.{Accepted, Refused as Unaccepted}
 use Rattle.frame.specs.Frames.{frameOf, frameNumber, headerNumbers}
-use Rattle.joining.specs.declared.Record.{Record}
+use Rattle.places.specs.declared.Record.{Record}
 use Rattle.joining.specs.declared.Answer.{Answer}
 use Rattle.joining.specs.declared.Answer.the-variants.{Whole, Held, Joined, Cancelled, Refused}
 use Rattle.joining.specs.Steps.{stepOf}

@@ -9,7 +9,7 @@ use frame::RequestId;
 use hexline::Decoded;
 use hexline::Encoded;
 use joining::Answer;
-use joining::Record;
+use places::Record;
 
 // A line's characters to octets in `out`, and their number in `count`; 10, 11, or 27 where `out` is too short.
 #[no_mangle]

@@ -13,8 +13,8 @@ use Rattle.cdr.specs.Write.{Stored}
 use Rattle.cdr.proofs.Stores.{stored-fits, sets-append}
 use Rattle.cdr.proofs.Numbers.{octets-length}
 use Rattle.frame.specs.Header.{headerSize, flagsAt, orderAt, orderFlag}
-use Rattle.joining.specs.declared.Record.{Record}
-use Rattle.joining.specs.Places.{placeStart, lengthOf, heldIn}
+use Rattle.places.specs.declared.Record.{Record}
+use Rattle.places.specs.Places.{placeStart, lengthOf, heldIn}
 use Rattle.joining.specs.Message.{idEnd, bodyAfterId, moreCleared, flagsPlace, sizePlace, corrected}
 use Rattle.joining.specs.Inner.{Continues}
 use Rattle.joining.specs.Steps.{lengthAfter}

@@ -1,12 +1,11 @@
 -- The ways of a step's definition, and what an accepted message and a record that is not refused say.
 use mathlib.Core.Path.{_≡_, refl, sym, ap, subst, _∙_}
 use mathlib.Core.List.{List}
-use mathlib.Core.Bool.{Bool, true, false, cond, not, _&&_, _||_}
+use mathlib.Core.Bool.{true, false, cond, not}
 use Prim.Native.Nat.{ℕ, _≤_, _<_}
 use native.Mathlib.Omega.{arith}
-use lib.Dec.{ltb}
 use lib.ListN.{length}
-use borrow.Author.Tests.{ltb-false, leb-true, eqb-true, lt-ltb, le-ltb}
+use borrow.Author.Tests.{leb-true, eqb-true, lt-ltb, le-ltb}
 use Rattle.frame.specs.declared.Header.{Header}
 use Rattle.frame.specs.declared.RequestId.{RequestId}
 use Rattle.frame.specs.declared.Frame.{Frame}
@@ -15,16 +14,16 @@ use Rattle.frame.specs.Messages.{isRequestOrReply, isCancel, isFragment}
 use Rattle.frame.specs.Header.{kindAt, minorAt, sizeAt}
 use Rattle.frame.specs.Frames.{messageLimit, sizeAllowed, frameOf}
 use Rattle.frame.proofs.Accepts.{frame-accepts}
-use Rattle.joining.specs.declared.Record.{Record}
-use Rattle.joining.specs.declared.Found.{Found}
-use Rattle.joining.specs.declared.Found.the-variants.{At, Nowhere}
-use Rattle.joining.specs.Places.{placeSize, placesSize, isOpen, lengthOf, heldIn, placeOf, allOpen, lowestFree, placeShort, idOpenTwice, lengthWrong, someLengthWrong, badRecord}
+use Rattle.places.specs.declared.Record.{Record}
+use Rattle.places.specs.declared.Found.{Found}
+use Rattle.places.specs.declared.Found.the-variants.{At, Nowhere}
+use Rattle.places.specs.Places.{placeSize, heldIn, placeOf, allOpen, lowestFree, badRecord, isAt}
 use Rattle.joining.specs.Message.{idEnd}
 use Rattle.joining.specs.declared.Refusal.the-variants.{BadRecord, IdOpen, FourOpen, FirstDiffers, TooLong, NoRoom}
 use Rattle.joining.specs.Steps.{Step, Passes, Opens, Extends, Completes, Refuses, written, cancelled, differs, lengthAfter, continued, fragmentOf, startOf, withId, byId, messageStep, judged, stepOf}
-use Rattle.joining.proofs.Choices.{neither, of-four}
-use Rattle.joining.proofs.Finding.{Placed, place-is, place-found}
-use Rattle.joining.specs.Inner.{Sound, Within, isAt, Opening, Continues}
+use Rattle.places.proofs.Sound.{is-at, free-within, sound-lent, sound-length}
+use Rattle.places.proofs.Finding.{Placed, place-is, place-found}
+use Rattle.joining.specs.Inner.{Sound, Within, Opening, Continues}
 
 -- a place that is found is one of the four
 within-placed : (r : Record) (id : ℕ) (f : Found) → Placed r id f → Within f
@@ -33,40 +32,6 @@ within-placed r id Nowhere h = tt
 
 pub place-within : (r : Record) (id : ℕ) (f : Found) → f ≡ placeOf r id → Within f
 place-within r id f e = subst Within (sym e) (within-placed r id (placeOf r id) (place-is r id))
-
-pub is-at : (f : Found) → isAt f ≡ false → f ≡ Nowhere
-is-at (At i) e = let z : _≡_ {A = ℕ} 0 1 = cc in absurd (omega arith)
-is-at Nowhere e = refl
-
-pub free-within : (r : Record) → lowestFree r < 4
-unfolding lowestFree
-free-within r = least (isOpen r 0) (isOpen r 1) (isOpen r 2)
-  where
-    least : (a b c : Bool) → cond a (cond b (cond c 3 2) 1) 0 < 4
-    least true true true = omega arith
-    least true true false = omega arith
-    least true false c = omega arith
-    least false b c = omega arith
-
--- of a record that is not refused, the places have their octets and the open lengths are in their range
-pub sound-lent : (r : Record) (lent : ℕ) → badRecord r lent ≡ false → placesSize ≤ lent
-unfolding badRecord
-sound-lent r lent e =
-    ltb-false lent placesSize (neither (idOpenTwice r) (placeShort lent) (neither (idOpenTwice r || placeShort lent) (someLengthWrong r) e .0) .1)
-
-length-right : (o : Bool) (n : ℕ) → o ≡ true → (o && (ltb n 16 || ltb placeSize n)) ≡ false → (idEnd ≤ n) × (n ≤ placeSize)
-length-right true n e f =
-    let t = neither (ltb n 16) (ltb placeSize n) f in
-    (ltb-false n 16 (t .0), ltb-false placeSize n (t .1))
-length-right false n e f = let z : _≡_ {A = ℕ} 0 1 = cc in absurd (omega arith)
-
-pub sound-length : (r : Record) (lent i : ℕ) → i < 4 → isOpen r i ≡ true → badRecord r lent ≡ false → (idEnd ≤ lengthOf r i) × (lengthOf r i ≤ placeSize)
-unfolding badRecord someLengthWrong lengthWrong
-sound-length r lent i h o e =
-    let three = neither _ (lengthWrong r 3) (neither (idOpenTwice r || placeShort lent) (someLengthWrong r) e .1) in
-    let two = neither _ (lengthWrong r 2) (three .0) in
-    let one = neither (lengthWrong r 0) (lengthWrong r 1) (two .0) in
-    length-right (isOpen r i) (lengthOf r i) o (of-four (λ j. lengthWrong r j ≡ false) (one .0) (one .1) (two .1) (three .1) i h)
 
 -- a fragment has its request id
 fragment-size : (minor kind size : ℕ) → isFragment kind ≡ true → sizeAllowed minor kind size ≡ true → 4 ≤ size

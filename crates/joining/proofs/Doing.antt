@@ -9,14 +9,14 @@ use lib.Seq.{sets, take-all}
 use Rattle.cdr.specs.declared.Written.{Written}
 use Rattle.cdr.specs.Write.{Stored}
 use Rattle.cdr.proofs.Stores.{stored-fits}
-use Rattle.joining.specs.declared.Record.{Record}
+use Rattle.places.specs.declared.Record.{Record}
 use Rattle.joining.specs.declared.Refusal.{Refusal}
 use Rattle.joining.specs.declared.Answer.the-variants.{Whole, Held, Joined, Cancelled}
 use Rattle.joining.specs.declared.Outcome.{Outcome}
-use Rattle.joining.specs.Places.{placeStart, lengthOf, heldIn}
+use Rattle.places.specs.Places.{placeStart, lengthOf, heldIn, closed, opened, lengthened}
 use Rattle.joining.specs.Message.{idEnd, bodyAfterId, corrected}
 use Rattle.joining.specs.Steps.{Step, Passes, Opens, Extends, Completes, Frees, Refuses, written, lengthAfter}
-use Rattle.joining.specs.Answers.{closed, opened, lengthened, refusedWith, Does}
+use Rattle.joining.specs.Answers.{refusedWith, Does}
 
 -- a fragment's body, as the rest of its octets
 pub body-rest : (v : List ℕ) → take (length v - idEnd) (drop idEnd v) ≡ bodyAfterId v

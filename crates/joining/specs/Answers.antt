@@ -1,6 +1,5 @@
 -- What a step answers, and what it leaves in the record, the places and the output. "Lent memory that an answer doesn't fill keeps its
 -- contents": `sets l at xs` is a run of stores, the octets `xs` from `at` on, the rest as it was.
---   closed, opened, lengthened    the record with a place freed, opened for a request id, and with its message lengthened
 --   messageOf       the message that is written, or none
 --   answerOf        "0 whole message; 1 held; 2 joined; 3 a CancelRequest whose id was open", with the octets written
 --   recordAfter     the record, "which only an accepted line may change"
@@ -17,25 +16,15 @@ use Prim.Native.Nat.{ℕ, _+_}
 use lib.ListN.{length, set}
 use lib.Seq.{sets}
 use Rattle.frame.specs.Frames.{refusalNumber as rowNumber}
-use Rattle.joining.specs.declared.Record.{Record}
+use Rattle.places.specs.declared.Record.{Record}
 use Rattle.joining.specs.declared.Refusal.{Refusal}
 use Rattle.joining.specs.declared.Refusal.the-variants.{Frame, BadRecord, IdOpen, FourOpen, IdNotOpen, FirstDiffers, TooLong, NoRoom}
 use Rattle.joining.specs.declared.Answer.{Answer}
 use Rattle.joining.specs.declared.Answer.the-variants.{Whole, Held, Joined, Cancelled, Refused}
 use Rattle.joining.specs.declared.Outcome.{Outcome}
-use Rattle.joining.specs.Places.{placeStart, lengthOf, heldIn}
+use Rattle.places.specs.Places.{placeStart, lengthOf, heldIn, closed, opened, lengthened}
 use Rattle.joining.specs.Message.{bodyAfterId, corrected}
 use Rattle.joining.specs.Steps.{Step, Passes, Opens, Extends, Completes, Frees, Refuses, lengthAfter, stepOf}
-
--- "which frees that place": its id and length stay, and mean nothing until it is opened again
-abbrev pub closed : Record → ℕ → Record
-closed r i = record { ids = r .ids; lengths = r .lengths; opened = set (r .opened) i false }
-
-abbrev pub opened : Record → ℕ → ℕ → ℕ → Record
-opened r i id n = record { ids = set (r .ids) i id; lengths = set (r .lengths) i n; opened = set (r .opened) i true }
-
-abbrev pub lengthened : Record → ℕ → ℕ → Record
-lengthened r i n = record { ids = r .ids; lengths = set (r .lengths) i n; opened = r .opened }
 
 abbrev pub messageOf : Step → Record → List ℕ → List ℕ → List ℕ
 messageOf Passes r v places = v

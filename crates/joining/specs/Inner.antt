@@ -1,7 +1,6 @@
 -- What the private functions of the crate ask of each other; nothing that a caller is told rests on these names.
 --   Sound       an accepted message, a record that is not refused, and places that have their octets
 --   Within      a place that was found is one of the four
---   isAt        whether a place was found
 --   Opening     a first fragment's octets, and a place for them
 --   Continues   a fragment's octets, and the place of its open message
 use mathlib.Core.Path.{_≡_}
@@ -12,10 +11,10 @@ use lib.ListN.{length}
 use Rattle.frame.specs.declared.Header.{Header}
 use Rattle.frame.specs.declared.Frame.the-variants.{Accepted}
 use Rattle.frame.specs.Frames.{frameOf}
-use Rattle.joining.specs.declared.Record.{Record}
-use Rattle.joining.specs.declared.Found.{Found}
-use Rattle.joining.specs.declared.Found.the-variants.{At, Nowhere}
-use Rattle.joining.specs.Places.{placeSize, placesSize, lengthOf, badRecord}
+use Rattle.places.specs.declared.Record.{Record}
+use Rattle.places.specs.declared.Found.{Found}
+use Rattle.places.specs.declared.Found.the-variants.{At, Nowhere}
+use Rattle.places.specs.Places.{placeSize, placesSize, lengthOf, badRecord}
 use Rattle.joining.specs.Message.{idEnd}
 use Rattle.joining.specs.Steps.{lengthAfter}
 
@@ -27,10 +26,6 @@ pub record Sound (v : List ℕ) (h : Header) (r : Record) (places : List ℕ) : 
 abbrev pub Within : Found → Type 0
 Within (At i) = i < 4
 Within Nowhere = Unit {0}
-
-abbrev pub isAt : Found → Bool
-isAt (At i) = true
-isAt Nowhere = false
 
 pub record Opening (v places : List ℕ) (i : ℕ) : Type 0 where
   pub place : i < 4

@@ -1,5 +1,4 @@
--- Joining: the record and its places, the joined message, what a line does, and what it leaves.
-pub mod Places
+-- Joining: the joined message, what a line does, and what it leaves.
 pub mod Message
 pub mod Steps
 pub mod Answers

@@ -26,12 +26,12 @@ use Rattle.frame.specs.declared.Frame.the-variants.{Accepted, Refused as Unacce
 use Rattle.frame.specs.Messages.{isCancel, isFragment}
 use Rattle.frame.specs.Header.{minorAt, orderAt}
 use Rattle.frame.specs.Frames.{frameOf}
-use Rattle.joining.specs.declared.Record.{Record}
-use Rattle.joining.specs.declared.Found.{Found}
-use Rattle.joining.specs.declared.Found.the-variants.{At, Nowhere}
+use Rattle.places.specs.declared.Record.{Record}
+use Rattle.places.specs.declared.Found.{Found}
+use Rattle.places.specs.declared.Found.the-variants.{At, Nowhere}
 use Rattle.joining.specs.declared.Refusal.{Refusal}
 use Rattle.joining.specs.declared.Refusal.the-variants.{Frame as InFrame, BadRecord, IdOpen, FourOpen, IdNotOpen, FirstDiffers, TooLong, NoRoom}
-use Rattle.joining.specs.Places.{placeSize, lengthOf, heldIn, placeOf, allOpen, lowestFree, badRecord}
+use Rattle.places.specs.Places.{placeSize, lengthOf, heldIn, placeOf, allOpen, lowestFree, badRecord}
 use Rattle.joining.specs.Message.{idEnd}
 
 pub data Step : Type 0 where

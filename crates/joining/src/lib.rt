@@ -5,30 +5,18 @@ ghost use Prim.Native.Nat.{ℕ, _≤_, _<_};
 ghost use lib.ListN.{length};
 ghost use Rattle.frame.specs.declared.Frame.the-variants.{Accepted};
 ghost use Rattle.frame.specs.Frames.{frameOf};
-ghost use Rattle.joining.specs.Places.{placeSize};
+ghost use Rattle.places.specs.Places.{placeSize};
 ghost use Rattle.joining.specs.Steps.{Passes, Opens, Extends, Completes, Frees, written, cancelled, lengthAfter, continued, startOf, withId, messageStep};
 ghost use Rattle.joining.specs.Answers.{refusalNumber, answerNumber, refusedWith, Does, Joins};
 ghost use Rattle.joining.specs.Inner.{Sound, Within, Opening, Continues};
 use frame::Frame;
 use frame::Header;
 use frame::RequestId;
+use places::Found;
+use places::Record;
 
+mod change;
 mod message;
-mod place;
-
-// The record of a recording: of each of the four places its open message's request id and length, and whether there is one.
-#[repr(C)]
-pub struct Record {
-    pub ids: [u32; 4],
-    pub lengths: [usize; 4],
-    pub opened: [bool; 4],
-}
-
-// One of the four places, or none of them.
-pub enum Found {
-    At(usize),
-    Nowhere,
-}
 
 // A refusal: a row of the frame header's table, or a rule of joining.
 pub enum Refusal {
@@ -115,7 +103,7 @@ fn accepted(octets: &[u8], h: Header, before: Record, places: &mut [u8], out: &m
     requires { ⌜ frameOf (now octets) ≡ Accepted h ⌝ }
     ensures { λ r. ⌜ Does (messageStep before (now (places .entry)) (length (now (out .entry))) (length (now (octets .entry))) h) (now (octets .entry)) before (now (places .entry)) (now (out .entry)) r (now (places .exit)) (now (out .exit)) ⌝ }
 {
-    if place::bad_record(before, places.len()) {
+    if places::bad_record(before, places.len()) {
         return refused(before, Refusal::BadRecord);
     }
     let id = h.id;
@@ -137,7 +125,7 @@ fn identified(
     requires { ⌜ Sound (now octets) h before (now places) ⌝ }
     ensures { λ r. ⌜ Does (withId before (now (places .entry)) (length (now (out .entry))) (length (now (octets .entry))) h id) (now (octets .entry)) before (now (places .entry)) (now (out .entry)) r (now (places .exit)) (now (out .exit)) ⌝ }
 {
-    let found = place::place_of(before, id);
+    let found = places::place_of(before, id);
     if h.kind == frame::CANCEL_REQUEST {
         return cancel(octets, found, before, out);
     }
@@ -178,7 +166,7 @@ fn cancel(octets: &[u8], found: Found, before: Record, out: &mut [u8]) -> Outcom
     cdr::write_octets(out, 0, octets);
     Outcome {
         answer: Answer::Cancelled(octets.len()),
-        after: place::closed(before, i),
+        after: change::closed(before, i),
     }
 }
 
@@ -195,8 +183,8 @@ fn start(
     requires { ⌜ Sound (now octets) h before (now places) ⌝ }
     ensures { λ r. ⌜ Does (startOf before (length (now (out .entry))) (length (now (octets .entry))) h id found) (now (octets .entry)) before (now (places .entry)) (now (out .entry)) r (now (places .exit)) (now (out .exit)) ⌝ }
 {
-    let open = place::is_at(found);
-    let full = place::all_open(before);
+    let open = places::is_at(found);
+    let full = places::all_open(before);
     if open {
         return refused(before, Refusal::IdOpen);
     }
@@ -206,7 +194,7 @@ fn start(
     if full {
         return refused(before, Refusal::FourOpen);
     }
-    first(octets, id, place::lowest_free(before), before, places)
+    first(octets, id, places::lowest_free(before), before, places)
 }
 
 // Opens a place for a first fragment.
@@ -214,10 +202,10 @@ fn first(octets: &[u8], id: u32, i: usize, before: Record, places: &mut [u8]) ->
     requires { ⌜ Opening (now octets) (now places) i ⌝ }
     ensures { λ r. ⌜ ((out : List ℕ) → Does (Opens i id) (now (octets .entry)) before (now (places .entry)) out r (now (places .exit)) out) ⌝ }
 {
-    cdr::write_octets(places, i * place::PLACE_SIZE, octets);
+    cdr::write_octets(places, i * places::PLACE_SIZE, octets);
     Outcome {
         answer: Answer::Held,
-        after: place::opened(before, i, id, octets.len()),
+        after: change::opened(before, i, id, octets.len()),
     }
 }
 
@@ -233,13 +221,13 @@ fn fragment(
     requires { ⌜ Continues (now octets) before (now places) i ⌝ }
     ensures { λ r. ⌜ Does (continued before (now (places .entry)) (length (now (out .entry))) (length (now (octets .entry))) h i) (now (octets .entry)) before (now (places .entry)) (now (out .entry)) r (now (places .exit)) (now (out .exit)) ⌝ }
 {
-    let begin = i * place::PLACE_SIZE;
+    let begin = i * places::PLACE_SIZE;
     let held = before.lengths[i];
     let total = held + (octets.len() - message::ID_END);
     if message::differs(&places[begin..begin + held], h) {
         return refused(before, Refusal::FirstDiffers);
     }
-    if place::PLACE_SIZE < total {
+    if places::PLACE_SIZE < total {
         return refused(before, Refusal::TooLong);
     }
     if h.more {
@@ -257,11 +245,11 @@ fn extend(octets: &[u8], i: usize, before: Record, places: &mut [u8]) -> Outcome
     ensures { λ r. ⌜ ((out : List ℕ) → Does (Extends i) (now (octets .entry)) before (now (places .entry)) out r (now (places .exit)) out) ⌝ }
 {
     let held = before.lengths[i];
-    let at = i * place::PLACE_SIZE + held;
+    let at = i * places::PLACE_SIZE + held;
     cdr::write_octets(places, at, &octets[message::ID_END..]);
     Outcome {
         answer: Answer::Held,
-        after: place::lengthened(before, i, held + (octets.len() - message::ID_END)),
+        after: change::lengthened(before, i, held + (octets.len() - message::ID_END)),
     }
 }
 
@@ -270,7 +258,7 @@ fn complete(octets: &[u8], i: usize, before: Record, places: &[u8], out: &mut [u
     requires { ⌜ Continues (now octets) before (now places) i × (lengthAfter before i (length (now octets)) ≤ length (now out)) ⌝ }
     ensures { λ r. ⌜ Does (Completes i) (now (octets .entry)) before (now (places .entry)) (now (out .entry)) r (now (places .entry)) (now (out .exit)) ⌝ }
 {
-    let begin = i * place::PLACE_SIZE;
+    let begin = i * places::PLACE_SIZE;
     let held = before.lengths[i];
     let total = held + (octets.len() - message::ID_END);
     cdr::write_octets(out, 0, &places[begin..begin + held]);
@@ -278,6 +266,6 @@ fn complete(octets: &[u8], i: usize, before: Record, places: &[u8], out: &mut [u
     message::correct(out, total);
     Outcome {
         answer: Answer::Joined(total),
-        after: place::closed(before, i),
+        after: change::closed(before, i),
     }
 }

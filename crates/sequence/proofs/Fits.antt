@@ -4,8 +4,8 @@ use Prim.Native.Nat.{ℕ, _-_, _≤_, zero-le}
 use native.Mathlib.Nat.{min-le-left}
 use native.Mathlib.Omega.{arith}
 use lib.ListN.{length, length-append, length-take, length-drop}
-use Rattle.joining.specs.declared.Record.{Record}
-use Rattle.joining.specs.Places.{lengthOf, heldIn}
+use Rattle.places.specs.declared.Record.{Record}
+use Rattle.places.specs.Places.{lengthOf, heldIn}
 use Rattle.joining.specs.Message.{idEnd, bodyAfterId, corrected}
 use Rattle.joining.specs.Steps.{Step, Passes, Opens, Extends, Completes, Frees, Refuses, lengthAfter, stepOf}
 use Rattle.joining.specs.Answers.{messageOf}

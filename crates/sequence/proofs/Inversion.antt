@@ -17,17 +17,17 @@ use Rattle.frame.specs.Header.{minorAt, kindAt, moreAt, sizeAt, idAt, headerOf}
 use Rattle.frame.specs.Frames.{messageLimit, frameOf}
 use Rattle.frame.proofs.Accepts.{Accepts, frame-accepts}
 use Rattle.frame.proofs.Rows.{id-fits}
-use Rattle.joining.specs.declared.Record.{Record}
-use Rattle.joining.specs.declared.Found.{Found}
-use Rattle.joining.specs.declared.Found.the-variants.{At, Nowhere}
+use Rattle.places.specs.declared.Record.{Record}
+use Rattle.places.specs.declared.Found.{Found}
+use Rattle.places.specs.declared.Found.the-variants.{At, Nowhere}
 use Rattle.joining.specs.declared.Refusal.{Refusal}
 use Rattle.joining.specs.declared.Refusal.the-variants.{Frame as Row, BadRecord, IdOpen, FourOpen, IdNotOpen, FirstDiffers, TooLong, NoRoom}
-use Rattle.joining.specs.Places.{placeSize, isOpen, idOf, heldIn, placeOf, allOpen, lowestFree, badRecord}
+use Rattle.places.specs.Places.{placeSize, isOpen, idOf, heldIn, placeOf, allOpen, lowestFree, badRecord}
 use Rattle.joining.specs.Message.{idEnd}
 use Rattle.joining.specs.Steps.{Step, Passes, Opens, Extends, Completes, Frees, Refuses, written, cancelled, differs, lengthAfter, continued, fragmentOf, startOf, withId, byId, messageStep, judged, stepOf}
 use Rattle.sequence.specs.Sequence.{isId, partsWith, partsAfter}
-use Rattle.joining.proofs.Choices.{chosen}
-use Rattle.joining.proofs.Finding.{FoundAt, OpenNowhere, Placed, place-is}
+use Rattle.places.proofs.Choices.{chosen}
+use Rattle.places.proofs.Finding.{FoundAt, OpenNowhere, Placed, place-is}
 
 -- what a line makes of the parts of its own request id, and of those of any other
 module _ (v : List ℕ) (held : List (List ℕ)) where

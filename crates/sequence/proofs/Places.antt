@@ -9,12 +9,12 @@ use lib.Dec.{ltb, eqb, lit<}
 use lib.ListN.{length, take, drop, length-drop}
 use lib.Seq.{sets}
 use borrow.Author.Tests.{le-ltb, ne-eqb}
-use Rattle.joining.specs.declared.Record.{Record}
-use Rattle.joining.specs.Places.{placeSize, placeStart, placesSize, isOpen, idOf, lengthOf, heldIn, allOpen, lowestFree, bothOpen, idOpenTwice, lengthWrong, someLengthWrong, badRecord}
+use Rattle.places.specs.declared.Record.{Record}
+use Rattle.places.specs.Places.{placeSize, placeStart, placesSize, isOpen, idOf, lengthOf, heldIn, allOpen, lowestFree, bothOpen, idOpenTwice, lengthWrong, someLengthWrong, badRecord}
 use Rattle.joining.specs.Message.{idEnd, bodyAfterId, bodies}
 use Rattle.joining.specs.Steps.{lengthAfter}
 use Rattle.sequence.specs.Sequence.{heldOf, Lowest}
-use Rattle.joining.proofs.Choices.{chosen, and-true, and-false, or-false, of-four}
+use Rattle.places.proofs.Choices.{chosen, and-true, and-false, or-false, of-four}
 use Rattle.sequence.proofs.Lists.{part-before, part-behind, part-filled, part-longer}
 
 below-by : (r : Record) (i : ℕ) → (0 < i → isOpen r 0 ≡ true) → (1 < i → isOpen r 1 ≡ true) → (2 < i → isOpen r 2 ≡ true) → i < 4

@@ -7,16 +7,17 @@ use native.Mathlib.Decide.{ℕ-discrete}
 use native.Mathlib.Omega.{arith}
 use lib.ListN.{length, getD, replicate, length-set, length-drop}
 use lib.Seq.{sets, length-sets, getD-set-same, getD-set-other}
-use Rattle.joining.specs.declared.Record.{Record}
-use Rattle.joining.specs.declared.Found.the-variants.{At, Nowhere}
+use Rattle.places.specs.declared.Record.{Record}
+use Rattle.places.specs.declared.Found.the-variants.{At, Nowhere}
 use Rattle.joining.specs.declared.Refusal.the-variants.{BadRecord}
-use Rattle.joining.specs.Places.{placeStart, placesSize, isOpen, idOf, lengthOf, placeOf, badRecord}
+use Rattle.places.specs.Places.{placeStart, placesSize, isOpen, idOf, lengthOf, placeOf, badRecord}
 use Rattle.joining.specs.Message.{idEnd, bodyAfterId, corrected}
 use Rattle.joining.specs.Steps.{Step, Passes, Opens, Extends, Completes, Frees, Refuses, lengthAfter}
-use Rattle.joining.specs.Answers.{closed, opened, lengthened, messageOf, recordAfter, placesAfter}
+use Rattle.places.specs.Places.{closed, opened, lengthened}
+use Rattle.joining.specs.Answers.{messageOf, recordAfter, placesAfter}
 use Rattle.sequence.specs.Sequence.{Call, State, stepIn, after, afterAll, acceptedLine, accepted, partsAfter, partsFrom, partsOf, heldOf, Fresh, HoldsParts, JoinsParts, Lowest}
-use Rattle.joining.proofs.Choices.{never-both, of-four}
-use Rattle.joining.proofs.Finding.{OpenNowhere, place-found, place-nowhere}
+use Rattle.places.proofs.Choices.{never-both, of-four}
+use Rattle.places.proofs.Finding.{OpenNowhere, place-found, place-nowhere}
 use Rattle.sequence.proofs.Inversion.{Passed, Opened, Extended, Ended, Facts, own-parts, other-parts, step-says}
 use Rattle.sequence.proofs.Places.{lowest-free, other-place, HoldsAt, holds-still, holds-first, holds-more, held-more, not-bad}
 

@@ -29,8 +29,8 @@ use Rattle.frame.specs.declared.RequestId.{RequestId}
 use Rattle.frame.specs.declared.RequestId.the-variants.{Id, NoId}
 use Rattle.frame.specs.Messages.{isCancel, isFragment}
 use Rattle.frame.specs.Header.{kindAt, moreAt, idAt}
-use Rattle.joining.specs.declared.Record.{Record}
-use Rattle.joining.specs.Places.{placesSize, isOpen, idOf, heldIn}
+use Rattle.places.specs.declared.Record.{Record}
+use Rattle.places.specs.Places.{placesSize, isOpen, idOf, heldIn}
 use Rattle.joining.specs.Message.{parts, joinedOf}
 use Rattle.joining.specs.Steps.{Step, Passes, Opens, Extends, Completes, Frees, Refuses, stepOf}
 use Rattle.joining.specs.Answers.{messageOf, recordAfter, placesAfter}

@@ -37,10 +37,10 @@ use denote.Triple.Entry.{Args, Vals, onEntry}
 use denote.Triple.Spec.{Back, Meets, tripleOf}
 use denote.Triple.Table.{entered, cited}
 use denote.Triple.Clauses.{Lasts, atExit, lasts, ensured}
-use Rattle.joining.specs.declared.Record.{Record}
+use Rattle.places.specs.declared.Record.{Record}
 use Rattle.capi.specs.declared.Numbered.{Numbered}
-use Rattle.joining.proofs.Record as R
-use Rattle.joining.proofs.Record.Laws as R′
+use Rattle.places.proofs.Record as R
+use Rattle.places.proofs.Record.Laws as R′
 use Rattle.capi.proofs.Numbered as N
 use Rattle.capi.proofs.Numbered.Laws as N′
 use Rattle.capi.proofs.joined as core

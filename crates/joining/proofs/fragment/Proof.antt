@@ -5,9 +5,9 @@ use Prim.Native.Nat.{ℕ, _+_, _-_}
 use lib.ListN.{length, take, drop}
 use borrow.Author.Needs.{needs}
 use Rattle.frame.specs.declared.Header.{Header}
-use Rattle.joining.specs.declared.Record.{Record}
+use Rattle.places.specs.declared.Record.{Record}
 use Rattle.joining.specs.declared.Refusal.the-variants.{FirstDiffers, TooLong, NoRoom}
-use Rattle.joining.specs.Places.{placeStart, lengthOf, heldIn}
+use Rattle.places.specs.Places.{placeStart, lengthOf, heldIn}
 use Rattle.joining.specs.Steps.{Extends, Completes, differs, lengthAfter}
 use Rattle.joining.proofs.Doing.{part-of, by-step, refuses}
 use Rattle.joining.proofs.Deciding.{first-differs, too-long, goes-on, last-one, no-room, in-room}

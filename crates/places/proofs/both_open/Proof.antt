@@ -1,9 +1,9 @@
 -- The two places, then their ids.
 use borrow.Author.Tests.{not-true, not-false}
 use borrow.Author.Needs.{needs}
-use Rattle.joining.specs.Places.{isOpen, bothOpen}
-use Rattle.joining.proofs.place.both_open.Statement.{statement}
-use Rattle.joining.proofs.place.both_open.Tie as tie
+use Rattle.places.specs.Places.{isOpen, bothOpen}
+use Rattle.places.proofs.both_open.Statement.{statement}
+use Rattle.places.proofs.both_open.Tie as tie
 
 element-copy-out-if1 : tie.Need-element-copy-out-if1
 element-copy-out-if1 c = search needs

@@ -1,9 +1,9 @@
 -- The six pairs in turn.
 use mathlib.Core.Path.{sym, _∙_}
 use borrow.Author.Needs.{needs}
-use Rattle.joining.specs.Places.{idOpenTwice}
-use Rattle.joining.proofs.place.id_open_twice.Statement.{statement}
-use Rattle.joining.proofs.place.id_open_twice.Tie as tie
+use Rattle.places.specs.Places.{idOpenTwice}
+use Rattle.places.proofs.id_open_twice.Statement.{statement}
+use Rattle.places.proofs.id_open_twice.Tie as tie
 
 both-open-requires : tie.Need-both-open-requires
 both-open-requires c κs = search needs

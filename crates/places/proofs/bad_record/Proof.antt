@@ -2,9 +2,9 @@
 use mathlib.Core.Path.{sym, _∙_}
 use borrow.Author.Tests.{lt-ltb, le-ltb}
 use borrow.Author.Needs.{needs}
-use Rattle.joining.specs.Places.{badRecord}
-use Rattle.joining.proofs.place.bad_record.Statement.{statement}
-use Rattle.joining.proofs.place.bad_record.Tie as tie
+use Rattle.places.specs.Places.{badRecord}
+use Rattle.places.proofs.bad_record.Statement.{statement}
+use Rattle.places.proofs.bad_record.Tie as tie
 
 id-open-twice-requires : tie.Need-id-open-twice-requires
 id-open-twice-requires c κs = search needs

@@ -1,14 +1,24 @@
-// The four places of a record.
+// The record of a recording: four places for open messages.
 ghost use mathlib.Core.Path.{_≡_};
 ghost use Prim.Native.Nat.{_<_};
-ghost use Rattle.joining.specs.Places.{isOpenWith, placeOf, allOpen, lowestFree, bothOpen, idOpenTwice, lengthWrong, someLengthWrong, badRecord};
-ghost use Rattle.joining.specs.Answers.{opened, lengthened, closed};
-ghost use Rattle.joining.specs.Inner.{isAt};
-use crate::Found;
-use crate::Record;
+ghost use Rattle.places.specs.Places.{isAt, isOpenWith, placeOf, allOpen, lowestFree, bothOpen, idOpenTwice, lengthWrong, someLengthWrong, badRecord};
+
+// Of each of the four places its open message's request id and length, and whether there is one.
+#[repr(C)]
+pub struct Record {
+    pub ids: [u32; 4],
+    pub lengths: [usize; 4],
+    pub opened: [bool; 4],
+}
+
+// One of the four places, or none of them.
+pub enum Found {
+    At(usize),
+    Nowhere,
+}
 
 // The octets of a place.
-pub(crate) const PLACE_SIZE: usize = 16384;
+pub const PLACE_SIZE: usize = 16384;
 
 // The octets of the four places.
 const PLACES_SIZE: usize = 65536;
@@ -17,7 +27,7 @@ const PLACES_SIZE: usize = 65536;
 const LEAST: usize = 16;
 
 // Whether a place was found.
-pub(crate) fn is_at(found: Found) -> bool
+pub fn is_at(found: Found) -> bool
     ensures { λ r. ⌜ r ≡ isAt found ⌝ }
 {
     match found {
@@ -38,7 +48,7 @@ fn is_open_with(r: Record, i: usize, id: u32) -> bool
 }
 
 // The place of the open message of a request id.
-pub(crate) fn place_of(r: Record, id: u32) -> Found
+pub fn place_of(r: Record, id: u32) -> Found
     ensures { λ found. ⌜ found ≡ placeOf r id ⌝ }
 {
     if is_open_with(r, 0, id) {
@@ -57,7 +67,7 @@ pub(crate) fn place_of(r: Record, id: u32) -> Found
 }
 
 // Whether every place has an open message.
-pub(crate) fn all_open(r: Record) -> bool
+pub fn all_open(r: Record) -> bool
     ensures { λ b. ⌜ b ≡ allOpen r ⌝ }
 {
     if !r.opened[0] {
@@ -73,7 +83,7 @@ pub(crate) fn all_open(r: Record) -> bool
 }
 
 // The lowest place that has no open message, if one has none.
-pub(crate) fn lowest_free(r: Record) -> usize
+pub fn lowest_free(r: Record) -> usize
     ensures { λ i. ⌜ i ≡ lowestFree r ⌝ }
 {
     if !r.opened[0] {
@@ -155,7 +165,7 @@ fn some_length_wrong(r: Record) -> bool
 }
 
 // Whether a record with so many octets of places is refused.
-pub(crate) fn bad_record(r: Record, lent: usize) -> bool
+pub fn bad_record(r: Record, lent: usize) -> bool
     ensures { λ b. ⌜ b ≡ badRecord r lent ⌝ }
 {
     if id_open_twice(r) {
@@ -165,36 +175,4 @@ pub(crate) fn bad_record(r: Record, lent: usize) -> bool
         return true;
     }
     some_length_wrong(r)
-}
-
-// The record with a place opened.
-pub(crate) fn opened(r: Record, i: usize, id: u32, length: usize) -> Record
-    requires { ⌜ i < 4 ⌝ }
-    ensures { λ after. ⌜ after ≡ opened r i id «length» ⌝ }
-{
-    let mut after = r;
-    after.ids[i] = id;
-    after.lengths[i] = length;
-    after.opened[i] = true;
-    after
-}
-
-// The record with a place's message lengthened.
-pub(crate) fn lengthened(r: Record, i: usize, length: usize) -> Record
-    requires { ⌜ i < 4 ⌝ }
-    ensures { λ after. ⌜ after ≡ lengthened r i «length» ⌝ }
-{
-    let mut after = r;
-    after.lengths[i] = length;
-    after
-}
-
-// The record with a place freed.
-pub(crate) fn closed(r: Record, i: usize) -> Record
-    requires { ⌜ i < 4 ⌝ }
-    ensures { λ after. ⌜ after ≡ closed r i ⌝ }
-{
-    let mut after = r;
-    after.opened[i] = false;
-    after
 }

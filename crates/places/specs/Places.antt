@@ -8,6 +8,7 @@
 --   heldIn         the octets that a place has of its open message
 --   isOpenWith     whether a place has the open message of a request id
 --   placeOf        the place of the open message of a request id
+--   isAt           whether there is one
 --   allOpen        "when four are open"
 --   lowestFree     "the lowest free one first"
 --   bothOpen       whether two places have open messages of the same id
@@ -16,14 +17,17 @@
 --   lengthWrong    "an open length under 16 or over 16,384", of one place
 --   someLengthWrong    and of one of the four
 --   badRecord      28
+--   closed         the record with a place freed,
+--   opened         with a place opened for a request id,
+--   lengthened     and with the length of its message changed
 use Prim.Native.Nat.{ℕ, _*_}
 use mathlib.Core.List.{List}
-use mathlib.Core.Bool.{Bool, false, cond, _&&_, _||_}
+use mathlib.Core.Bool.{Bool, true, false, cond, _&&_, _||_}
 use lib.Dec.{ltb, eqb}
-use lib.ListN.{getD, length, take, drop}
-use Rattle.joining.specs.declared.Record.{Record}
-use Rattle.joining.specs.declared.Found.{Found}
-use Rattle.joining.specs.declared.Found.the-variants.{At, Nowhere}
+use lib.ListN.{getD, take, drop, set}
+use Rattle.places.specs.declared.Record.{Record}
+use Rattle.places.specs.declared.Found.{Found}
+use Rattle.places.specs.declared.Found.the-variants.{At, Nowhere}
 
 abbrev pub placeSize : ℕ
 placeSize = 16384
@@ -57,6 +61,10 @@ placeOf r id =
     (cond (isOpenWith r id 3) (At 3)
     Nowhere)))
 
+abbrev pub isAt : Found → Bool
+isAt (At i) = true
+isAt Nowhere = false
+
 unfoldable pub allOpen : Record → Bool
 allOpen r = isOpen r 0 && isOpen r 1 && isOpen r 2 && isOpen r 3
 
@@ -81,3 +89,13 @@ someLengthWrong r = lengthWrong r 0 || lengthWrong r 1 || lengthWrong r 2 || len
 
 unfoldable pub badRecord : Record → ℕ → Bool
 badRecord r lent = idOpenTwice r || placeShort lent || someLengthWrong r
+
+-- "which frees that place": its id and length stay, and mean nothing until it is opened again
+abbrev pub closed : Record → ℕ → Record
+closed r i = record { ids = r .ids; lengths = r .lengths; opened = set (r .opened) i false }
+
+abbrev pub opened : Record → ℕ → ℕ → ℕ → Record
+opened r i id n = record { ids = set (r .ids) i id; lengths = set (r .lengths) i n; opened = set (r .opened) i true }
+
+abbrev pub lengthened : Record → ℕ → ℕ → Record
+lengthened r i n = record { ids = r .ids; lengths = set (r .lengths) i n; opened = r .opened }

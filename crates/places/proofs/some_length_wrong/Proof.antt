@@ -1,9 +1,9 @@
 -- The four in turn.
 use mathlib.Core.Path.{sym, _∙_}
 use borrow.Author.Needs.{needs}
-use Rattle.joining.specs.Places.{someLengthWrong}
-use Rattle.joining.proofs.place.some_length_wrong.Statement.{statement}
-use Rattle.joining.proofs.place.some_length_wrong.Tie as tie
+use Rattle.places.specs.Places.{someLengthWrong}
+use Rattle.places.proofs.some_length_wrong.Statement.{statement}
+use Rattle.places.proofs.some_length_wrong.Tie as tie
 
 length-wrong-requires : tie.Need-length-wrong-requires
 length-wrong-requires c κs = search needs

@@ -1,9 +1,9 @@
 -- The four in turn.
 use mathlib.Core.Path.{sym, _∙_}
 use borrow.Author.Needs.{needs}
-use Rattle.joining.specs.Places.{placeOf}
-use Rattle.joining.proofs.place.place_of.Statement.{statement}
-use Rattle.joining.proofs.place.place_of.Tie as tie
+use Rattle.places.specs.Places.{placeOf}
+use Rattle.places.proofs.place_of.Statement.{statement}
+use Rattle.places.proofs.place_of.Tie as tie
 
 is-open-with-requires : tie.Need-is-open-with-requires
 is-open-with-requires c κs = search needs

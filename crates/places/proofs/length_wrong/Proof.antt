@@ -1,9 +1,9 @@
 -- The place, then the two ends of its range.
 use borrow.Author.Tests.{not-true, not-false, lt-ltb, le-ltb}
 use borrow.Author.Needs.{needs}
-use Rattle.joining.specs.Places.{isOpen, lengthWrong}
-use Rattle.joining.proofs.place.length_wrong.Statement.{statement}
-use Rattle.joining.proofs.place.length_wrong.Tie as tie
+use Rattle.places.specs.Places.{isOpen, lengthWrong}
+use Rattle.places.proofs.length_wrong.Statement.{statement}
+use Rattle.places.proofs.length_wrong.Tie as tie
 
 element-copy-out-if1 : tie.Need-element-copy-out-if1
 element-copy-out-if1 c = search needs

@@ -1,9 +1,9 @@
 -- The place, then its id.
 use borrow.Author.Tests.{not-true, not-false}
 use borrow.Author.Needs.{needs}
-use Rattle.joining.specs.Places.{isOpen, isOpenWith}
-use Rattle.joining.proofs.place.is_open_with.Statement.{statement}
-use Rattle.joining.proofs.place.is_open_with.Tie as tie
+use Rattle.places.specs.Places.{isOpen, isOpenWith}
+use Rattle.places.proofs.is_open_with.Statement.{statement}
+use Rattle.places.proofs.is_open_with.Tie as tie
 
 element-copy-out-if1 : tie.Need-element-copy-out-if1
 element-copy-out-if1 c = search needs

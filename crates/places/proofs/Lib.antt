@@ -1,0 +1,4 @@
+-- Choices, the place of a request id, and records that are not refused.
+pub mod Choices
+pub mod Finding
+pub mod Sound

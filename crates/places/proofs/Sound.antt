@@ -1,0 +1,46 @@
+-- What holds of a record that is not refused, and of the lowest free place.
+use mathlib.Core.Path.{_≡_, refl}
+use mathlib.Core.Bool.{Bool, true, false, cond, _&&_, _||_}
+use Prim.Native.Nat.{ℕ, _≤_, _<_}
+use native.Mathlib.Omega.{arith}
+use lib.Dec.{ltb}
+use borrow.Author.Tests.{ltb-false}
+use Rattle.places.specs.declared.Record.{Record}
+use Rattle.places.specs.declared.Found.{Found}
+use Rattle.places.specs.declared.Found.the-variants.{At, Nowhere}
+use Rattle.places.specs.Places.{placeSize, placesSize, isOpen, lengthOf, isAt, lowestFree, idOpenTwice, placeShort, lengthWrong, someLengthWrong, badRecord}
+use Rattle.places.proofs.Choices.{neither, of-four}
+
+pub is-at : (f : Found) → isAt f ≡ false → f ≡ Nowhere
+is-at (At i) e = let z : _≡_ {A = ℕ} 0 1 = cc in absurd (omega arith)
+is-at Nowhere e = refl
+
+pub free-within : (r : Record) → lowestFree r < 4
+unfolding lowestFree
+free-within r = least (isOpen r 0) (isOpen r 1) (isOpen r 2)
+  where
+    least : (a b c : Bool) → cond a (cond b (cond c 3 2) 1) 0 < 4
+    least true true true = omega arith
+    least true true false = omega arith
+    least true false c = omega arith
+    least false b c = omega arith
+
+-- of a record that is not refused, the places have their octets and the open lengths are in their range
+pub sound-lent : (r : Record) (lent : ℕ) → badRecord r lent ≡ false → placesSize ≤ lent
+unfolding badRecord
+sound-lent r lent e =
+    ltb-false lent placesSize (neither (idOpenTwice r) (placeShort lent) (neither (idOpenTwice r || placeShort lent) (someLengthWrong r) e .0) .1)
+
+length-right : (o : Bool) (n : ℕ) → o ≡ true → (o && (ltb n 16 || ltb placeSize n)) ≡ false → (16 ≤ n) × (n ≤ placeSize)
+length-right true n e f =
+    let t = neither (ltb n 16) (ltb placeSize n) f in
+    (ltb-false n 16 (t .0), ltb-false placeSize n (t .1))
+length-right false n e f = let z : _≡_ {A = ℕ} 0 1 = cc in absurd (omega arith)
+
+pub sound-length : (r : Record) (lent i : ℕ) → i < 4 → isOpen r i ≡ true → badRecord r lent ≡ false → (16 ≤ lengthOf r i) × (lengthOf r i ≤ placeSize)
+unfolding badRecord someLengthWrong lengthWrong
+sound-length r lent i h o e =
+    let three = neither _ (lengthWrong r 3) (neither (idOpenTwice r || placeShort lent) (someLengthWrong r) e .1) in
+    let two = neither _ (lengthWrong r 2) (three .0) in
+    let one = neither (lengthWrong r 0) (lengthWrong r 1) (two .0) in
+    length-right (isOpen r i) (lengthOf r i) o (of-four (λ j. lengthWrong r j ≡ false) (one .0) (one .1) (two .1) (three .1) i h)

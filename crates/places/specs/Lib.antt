@@ -1,0 +1,2 @@
+-- The record of a recording and its four places.
+pub mod Places
