@@ -1,9 +1,10 @@
--- What the C interface leaves in the numbers that it is lent: they are filled by an acceptance and kept by a refusal.
+-- What the C interface leaves in the numbers that it is lent: they are filled where something is written or said, and kept by a refusal and
+-- by a fragment that is held.
 --   decodedCount     the octets that decoding wrote
 --   encodedCount     the digits that encoding wrote
 --   headerAfter      the seven numbers of an accepted header
 --   answerTo         the answer to a line
---   joinedCount      the octets that joining wrote
+--   joinedCount      how many octets joining wrote
 --   DecodesC .. JoinsC    what a call ensures: the number that it returns, and all that was lent after it
 use mathlib.Core.Path.{_≡_}
 use mathlib.Core.List.{List}

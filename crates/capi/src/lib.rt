@@ -1,4 +1,4 @@
-// The C interface: each function answers 01's number, 0 for an acceptance, and fills what it is lent only then.
+// The C interface: each function answers 01's number, and a refusal leaves all that was lent as it was.
 ghost use mathlib.Core.Path.{_≡_};
 ghost use mathlib.Core.Bool.{cond};
 ghost use Rattle.frame.specs.Frames.{headerNumbers};
@@ -95,7 +95,8 @@ fn flag_number(flag: bool) -> u64
 }
 
 // A line's octets joined by the lent record and the octets of its places: 0 to 3, 10, or 12 to 28. Where a message is written,
-// `count` gets its octets. The record is C's `struct { uint32_t ids[4]; size_t lengths[4]; bool opened[4]; }`.
+// `count` gets the number of its octets. The record is C's `struct { uint32_t ids[4]; size_t lengths[4]; bool opened[4]; }`, each
+// of its bools 0 or 1.
 #[no_mangle]
 pub extern "C" fn haulspar_join(
     octets: &[u8],
@@ -137,7 +138,7 @@ fn joined(
     }
 }
 
-// The octets written, or what was there where none are.
+// The number of octets written, or what was there where none are.
 fn joined_count(answer: Answer, before: u64) -> u64
     ensures { λ r. ⌜ r ≡ joinedCount answer before ⌝ }
 {

@@ -18,7 +18,7 @@ use Rattle.places.specs.declared.Record.{Record}
 use Rattle.places.specs.declared.Found.{Found}
 use Rattle.places.specs.declared.Found.the-variants.{At, Nowhere}
 use Rattle.places.specs.Places.{placeSize, heldIn, placeOf, allOpen, lowestFree, badRecord, isAt}
-use Rattle.joining.specs.Message.{idEnd}
+use Rattle.joined.specs.Message.{idEnd}
 use Rattle.joining.specs.declared.Refusal.the-variants.{BadRecord, IdOpen, FourOpen, FirstDiffers, TooLong, NoRoom}
 use Rattle.joining.specs.Steps.{Step, Passes, Opens, Extends, Completes, Refuses, written, cancelled, differs, lengthAfter, continued, fragmentOf, startOf, withId, byId, messageStep, judged, stepOf}
 use Rattle.places.proofs.Sound.{is-at, free-within, sound-lent, sound-length}

@@ -1,5 +1,5 @@
 -- What each step does, from what the functions that carry it out are told.
-use mathlib.Core.Path.{_≡_, refl, sym, ap, subst, _∙_}
+use mathlib.Core.Path.{_≡_, refl, sym, ap, subst}
 use mathlib.Core.List.{List, _++_}
 use Prim.Native.Nat.{ℕ, _+_, _-_, _≤_}
 use native.Mathlib.Omega.{arith}
@@ -10,11 +10,12 @@ use Rattle.cdr.specs.declared.Written.{Written}
 use Rattle.cdr.specs.Write.{Stored}
 use Rattle.cdr.proofs.Stores.{stored-fits}
 use Rattle.places.specs.declared.Record.{Record}
+use Rattle.joined.proofs.Correcting.{corrected-length}
 use Rattle.joining.specs.declared.Refusal.{Refusal}
 use Rattle.joining.specs.declared.Answer.the-variants.{Whole, Held, Joined, Cancelled}
 use Rattle.joining.specs.declared.Outcome.{Outcome}
 use Rattle.places.specs.Places.{placeStart, lengthOf, heldIn, closed, opened, lengthened}
-use Rattle.joining.specs.Message.{idEnd, bodyAfterId, corrected}
+use Rattle.joined.specs.Message.{idEnd, bodyAfterId, corrected}
 use Rattle.joining.specs.Steps.{Step, Passes, Opens, Extends, Completes, Frees, Refuses, written, lengthAfter}
 use Rattle.joining.specs.Answers.{refusedWith, Does}
 
@@ -68,8 +69,12 @@ module _ (v : List ℕ) (r : Record) (places out : List ℕ) where
         output = refl;
       }
 
-  pub completes : (i total : ℕ) (after : Record) (last : List ℕ) → total ≡ length (heldIn r places i ++ bodyAfterId v) → after ≡ closed r i
-      → length (corrected (heldIn r places i ++ bodyAfterId v)) ≡ length (heldIn r places i ++ bodyAfterId v)
+  pub completes : (i : ℕ) (after : Record) (last : List ℕ) → after ≡ closed r i → lengthAfter r i (length v) ≤ length out
       → last ≡ sets out 0 (corrected (heldIn r places i ++ bodyAfterId v))
-      → Does (Completes i) v r places out (record { answer = Joined total; after = after }) places last
-  completes i total after last n e l f = record { answer = ap Joined (n ∙ sym l); after = e; stored = refl; output = f }
+      → Does (written (length out) (lengthAfter r i (length v)) (Completes i)) v r places out
+      (record { answer = Joined (length (heldIn r places i ++ bodyAfterId v)); after = after }) places last
+  completes i after last e h f =
+      by-step (written (length out) (lengthAfter r i (length v)) (Completes i)) (Completes i)
+      (record { answer = Joined (length (heldIn r places i ++ bodyAfterId v)); after = after }) places last
+      (rw (le-ltb (length out) (lengthAfter r i (length v)) h))
+      (record { answer = ap Joined (sym (corrected-length (heldIn r places i ++ bodyAfterId v))); after = e; stored = refl; output = f })

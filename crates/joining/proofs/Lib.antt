@@ -1,4 +1,4 @@
--- The ways of a step and what each does, and the joined message in the output.
+-- The ways of a step and what each does.
 pub mod Deciding
 pub mod Doing
-pub mod Correcting
+pub mod Completing

@@ -1,19 +1,20 @@
 -- What a step answers, and what it leaves in the record, the places and the output. "Lent memory that an answer doesn't fill keeps its
 -- contents": `sets l at xs` is a run of stores, the octets `xs` from `at` on, the rest as it was.
 --   messageOf       the message that is written, or none
---   answerOf        "0 whole message; 1 held; 2 joined; 3 a CancelRequest whose id was open", with the octets written
+--   answerOf        "0 whole message; 1 held ..; 2 joined; 3 a CancelRequest whose id was open", with how many octets are written
 --   recordAfter     the record, "which only an accepted line may change"
 --   placesAfter     the octets of the places: a first one's at the start, a fragment's body after the id behind what is held
 --   outputAfter     "Answers 0, 2 and 3 write a message into the lent output, from its start"
 --   refusalNumber   the number of each refusal
 --   answerNumber    the number of each answer
+--   answerNumbers   and how many octets are written; "a refusal's other numbers are 0"
 --   refusedWith     a refusal, with the record as it was
---   Does            what a call ensures: the answer, the record after, and every octet of the places and of the output
+--   Does            what a step ensures: the answer, the record after, and every octet of the places and of the output
+--   Joins           what a call ensures: what the step of its line does
 use mathlib.Core.Path.{_≡_}
-use mathlib.Core.List.{List, [], _++_}
-use mathlib.Core.Bool.{true, false}
+use mathlib.Core.List.{List, [], _∷_, _++_}
 use Prim.Native.Nat.{ℕ, _+_}
-use lib.ListN.{length, set}
+use lib.ListN.{length}
 use lib.Seq.{sets}
 use Rattle.frame.specs.Frames.{refusalNumber as rowNumber}
 use Rattle.places.specs.declared.Record.{Record}
@@ -23,7 +24,7 @@ use Rattle.joining.specs.declared.Answer.{Answer}
 use Rattle.joining.specs.declared.Answer.the-variants.{Whole, Held, Joined, Cancelled, Refused}
 use Rattle.joining.specs.declared.Outcome.{Outcome}
 use Rattle.places.specs.Places.{placeStart, lengthOf, heldIn, closed, opened, lengthened}
-use Rattle.joining.specs.Message.{bodyAfterId, corrected}
+use Rattle.joined.specs.Message.{bodyAfterId, corrected}
 use Rattle.joining.specs.Steps.{Step, Passes, Opens, Extends, Completes, Frees, Refuses, lengthAfter, stepOf}
 
 abbrev pub messageOf : Step → Record → List ℕ → List ℕ → List ℕ
@@ -77,6 +78,13 @@ answerNumber Held = 1
 answerNumber (Joined n) = 2
 answerNumber (Cancelled n) = 3
 answerNumber (Refused why) = refusalNumber why
+
+abbrev pub answerNumbers : Answer → List ℕ
+answerNumbers (Whole n) = 0 ∷ n ∷ []
+answerNumbers Held = 1 ∷ 0 ∷ []
+answerNumbers (Joined n) = 2 ∷ n ∷ []
+answerNumbers (Cancelled n) = 3 ∷ n ∷ []
+answerNumbers (Refused why) = refusalNumber why ∷ 0 ∷ []
 
 abbrev pub refusedWith : Record → Refusal → Outcome
 refusedWith before why = record { answer = Refused why; after = before }

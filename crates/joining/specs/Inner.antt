@@ -4,9 +4,9 @@
 --   Opening     a first fragment's octets, and a place for them
 --   Continues   a fragment's octets, and the place of its open message
 use mathlib.Core.Path.{_≡_}
-use mathlib.Core.Bool.{Bool, true, false}
+use mathlib.Core.Bool.{false}
 use mathlib.Core.List.{List}
-use Prim.Native.Nat.{ℕ, _+_, _≤_, _<_}
+use Prim.Native.Nat.{ℕ, _≤_, _<_}
 use lib.ListN.{length}
 use Rattle.frame.specs.declared.Header.{Header}
 use Rattle.frame.specs.declared.Frame.the-variants.{Accepted}
@@ -15,14 +15,12 @@ use Rattle.places.specs.declared.Record.{Record}
 use Rattle.places.specs.declared.Found.{Found}
 use Rattle.places.specs.declared.Found.the-variants.{At, Nowhere}
 use Rattle.places.specs.Places.{placeSize, placesSize, lengthOf, badRecord}
-use Rattle.joining.specs.Message.{idEnd}
-use Rattle.joining.specs.Steps.{lengthAfter}
+use Rattle.joined.specs.Message.{idEnd}
 
 pub record Sound (v : List ℕ) (h : Header) (r : Record) (places : List ℕ) : Type 0 where
   pub accepted : frameOf v ≡ Accepted h
   pub sound : badRecord r (length places) ≡ false
 
--- the place that was found is one of the four
 abbrev pub Within : Found → Type 0
 Within (At i) = i < 4
 Within Nowhere = Unit {0}

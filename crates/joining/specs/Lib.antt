@@ -1,5 +1,4 @@
--- Joining: the joined message, what a line does, and what it leaves.
-pub mod Message
+-- Joining: what a line does, and what it leaves.
 pub mod Steps
 pub mod Answers
 pub mod Inner

@@ -11,7 +11,8 @@
 --   withId          by the type of a message that has a request id
 --   byId            a message without a request id that counts is "0 whole message"
 --   messageStep     28 comes "after 21 and before these six, for any message"
---   stepOf          what a line's octets do: 10, 12 to 21, then as a message
+--   judged          10, 12 to 21, then as a message
+--   stepOf          what a line's octets do
 use Prim.Native.Nat.{ℕ, _+_, _-_}
 use mathlib.Core.List.{List}
 use mathlib.Core.Bool.{Bool, cond, not, _&&_}
@@ -32,7 +33,7 @@ use Rattle.places.specs.declared.Found.the-variants.{At, Nowhere}
 use Rattle.joining.specs.declared.Refusal.{Refusal}
 use Rattle.joining.specs.declared.Refusal.the-variants.{Frame as InFrame, BadRecord, IdOpen, FourOpen, IdNotOpen, FirstDiffers, TooLong, NoRoom}
 use Rattle.places.specs.Places.{placeSize, lengthOf, heldIn, placeOf, allOpen, lowestFree, badRecord}
-use Rattle.joining.specs.Message.{idEnd}
+use Rattle.joined.specs.Message.{idEnd}
 
 pub data Step : Type 0 where
   Passes : Step

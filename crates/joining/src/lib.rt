@@ -6,12 +6,13 @@ ghost use lib.ListN.{length};
 ghost use Rattle.frame.specs.declared.Frame.the-variants.{Accepted};
 ghost use Rattle.frame.specs.Frames.{frameOf};
 ghost use Rattle.places.specs.Places.{placeSize};
-ghost use Rattle.joining.specs.Steps.{Passes, Opens, Extends, Completes, Frees, written, cancelled, lengthAfter, continued, startOf, withId, messageStep};
+ghost use Rattle.joining.specs.Steps.{Passes, Opens, Extends, Completes, written, cancelled, lengthAfter, continued, startOf, withId, messageStep};
 ghost use Rattle.joining.specs.Answers.{refusalNumber, answerNumber, refusedWith, Does, Joins};
 ghost use Rattle.joining.specs.Inner.{Sound, Within, Opening, Continues};
 use frame::Frame;
 use frame::Header;
 use frame::RequestId;
+use joined::Assembled;
 use places::Found;
 use places::Record;
 
@@ -48,7 +49,7 @@ impl Refusal {
     }
 }
 
-// The answer to a line, with the octets written of the message that it gives.
+// The answer to a line, with the number of octets of the message that it writes.
 pub enum Answer {
     Whole(usize),
     Held,
@@ -233,9 +234,6 @@ fn fragment(
     if h.more {
         return extend(octets, i, before, places);
     }
-    if out.len() < total {
-        return refused(before, Refusal::NoRoom);
-    }
     complete(octets, i, before, places, out)
 }
 
@@ -255,17 +253,19 @@ fn extend(octets: &[u8], i: usize, before: Record, places: &mut [u8]) -> Outcome
 
 // Writes the joined message and frees its place.
 fn complete(octets: &[u8], i: usize, before: Record, places: &[u8], out: &mut [u8]) -> Outcome
-    requires { ⌜ Continues (now octets) before (now places) i × (lengthAfter before i (length (now octets)) ≤ length (now out)) ⌝ }
-    ensures { λ r. ⌜ Does (Completes i) (now (octets .entry)) before (now (places .entry)) (now (out .entry)) r (now (places .entry)) (now (out .exit)) ⌝ }
+    requires { ⌜ Continues (now octets) before (now places) i ⌝ }
+    ensures { λ r. ⌜ Does (written (length (now (out .entry))) (lengthAfter before i (length (now (octets .entry)))) (Completes i)) (now (octets .entry)) before (now (places .entry)) (now (out .entry)) r (now (places .entry)) (now (out .exit)) ⌝ }
 {
     let begin = i * places::PLACE_SIZE;
     let held = before.lengths[i];
-    let total = held + (octets.len() - message::ID_END);
-    cdr::write_octets(out, 0, &places[begin..begin + held]);
-    cdr::write_octets(out, held, &octets[message::ID_END..]);
-    message::correct(out, total);
-    Outcome {
-        answer: Answer::Joined(total),
-        after: change::closed(before, i),
+    let freed = change::closed(before, i);
+    let end = begin + held;
+    match joined::write_joined(&places[begin..end], &octets[message::ID_END..], out) {
+        Assembled::Message(n) => Outcome {
+            answer: Answer::Joined(n),
+            after: freed,
+        },
+        Assembled::NoRoom => refused(before, Refusal::NoRoom),
+        Assembled::NoHeader => refused(before, Refusal::NoRoom),
     }
 }

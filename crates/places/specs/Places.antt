@@ -10,7 +10,7 @@
 --   placeOf        the place of the open message of a request id
 --   isAt           whether there is one
 --   allOpen        "when four are open"
---   lowestFree     "the lowest free one first"
+--   lowestFree     "the lowest free one first"; where none is free, which 23 refuses, the last
 --   bothOpen       whether two places have open messages of the same id
 --   idOpenTwice    28: "one id open twice",
 --   placeShort     "a place of under 16,384 octets",

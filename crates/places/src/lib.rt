@@ -82,7 +82,7 @@ pub fn all_open(r: Record) -> bool
     r.opened[3]
 }
 
-// The lowest place that has no open message, if one has none.
+// The lowest place that has no open message; where each has one, which 23 refuses, the last.
 pub fn lowest_free(r: Record) -> usize
     ensures { λ i. ⌜ i ≡ lowestFree r ⌝ }
 {

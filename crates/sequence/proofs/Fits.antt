@@ -6,10 +6,10 @@ use native.Mathlib.Omega.{arith}
 use lib.ListN.{length, length-append, length-take, length-drop}
 use Rattle.places.specs.declared.Record.{Record}
 use Rattle.places.specs.Places.{lengthOf, heldIn}
-use Rattle.joining.specs.Message.{idEnd, bodyAfterId, corrected}
+use Rattle.joined.specs.Message.{idEnd, bodyAfterId, corrected}
 use Rattle.joining.specs.Steps.{Step, Passes, Opens, Extends, Completes, Frees, Refuses, lengthAfter, stepOf}
 use Rattle.joining.specs.Answers.{messageOf}
-use Rattle.joining.proofs.Correcting.{corrected-length}
+use Rattle.joined.proofs.Correcting.{corrected-length}
 use Rattle.sequence.proofs.Inversion.{Facts, step-says}
 
 pub length-held : (r : Record) (places : List ℕ) (i : ℕ) → length (heldIn r places i) ≤ lengthOf r i

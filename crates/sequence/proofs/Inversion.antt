@@ -23,9 +23,9 @@ use Rattle.places.specs.declared.Found.the-variants.{At, Nowhere}
 use Rattle.joining.specs.declared.Refusal.{Refusal}
 use Rattle.joining.specs.declared.Refusal.the-variants.{Frame as Row, BadRecord, IdOpen, FourOpen, IdNotOpen, FirstDiffers, TooLong, NoRoom}
 use Rattle.places.specs.Places.{placeSize, isOpen, idOf, heldIn, placeOf, allOpen, lowestFree, badRecord}
-use Rattle.joining.specs.Message.{idEnd}
+use Rattle.joined.specs.Message.{idEnd}
 use Rattle.joining.specs.Steps.{Step, Passes, Opens, Extends, Completes, Frees, Refuses, written, cancelled, differs, lengthAfter, continued, fragmentOf, startOf, withId, byId, messageStep, judged, stepOf}
-use Rattle.sequence.specs.Sequence.{isId, partsWith, partsAfter}
+use Rattle.sequence.specs.Sequence.{isId, withOne, partsWith, partsAfter}
 use Rattle.places.proofs.Choices.{chosen}
 use Rattle.places.proofs.Finding.{FoundAt, OpenNowhere, Placed, place-is}
 
@@ -36,7 +36,7 @@ module _ (v : List ℕ) (held : List (List ℕ)) where
   cancel-parts c = rw c
 
   module _ (c : isCancel (kindAt v) ≡ false) where
-    middle-parts : isFragment (kindAt v) ≡ true → moreAt v ≡ true → partsWith held v ≡ held ++ (v ∷ [])
+    middle-parts : isFragment (kindAt v) ≡ true → moreAt v ≡ true → partsWith held v ≡ withOne held v
     unfolding partsWith
     middle-parts f m = rw (c, f, m)
 
@@ -92,7 +92,7 @@ pub record Extended (v : List ℕ) (r : Record) (i : ℕ) : Type 0 where
   pub id : idAt v ≡ Id (idOf r i)
   pub least : idEnd ≤ length v
   pub most : lengthAfter r i (length v) ≤ placeSize
-  pub parts : (held : List (List ℕ)) → partsWith held v ≡ held ++ (v ∷ [])
+  pub parts : (held : List (List ℕ)) → partsWith held v ≡ withOne held v
 
 -- a message of n octets is written, and its place is freed
 pub record Ended (v : List ℕ) (r : Record) (room n i : ℕ) : Type 0 where

@@ -11,9 +11,9 @@ use lib.Seq.{sets}
 use borrow.Author.Tests.{le-ltb, ne-eqb}
 use Rattle.places.specs.declared.Record.{Record}
 use Rattle.places.specs.Places.{placeSize, placeStart, placesSize, isOpen, idOf, lengthOf, heldIn, allOpen, lowestFree, bothOpen, idOpenTwice, lengthWrong, someLengthWrong, badRecord}
-use Rattle.joining.specs.Message.{idEnd, bodyAfterId, bodies}
+use Rattle.joined.specs.Message.{idEnd, bodyAfterId, bodies}
 use Rattle.joining.specs.Steps.{lengthAfter}
-use Rattle.sequence.specs.Sequence.{heldOf, Lowest}
+use Rattle.sequence.specs.Sequence.{withOne, heldOf, Lowest}
 use Rattle.places.proofs.Choices.{chosen, and-true, and-false, or-false, of-four}
 use Rattle.sequence.proofs.Lists.{part-before, part-behind, part-filled, part-longer}
 
@@ -51,6 +51,10 @@ unfolding bodies
 bodies-more [] v = append-nil (bodyAfterId v)
 bodies-more (x ∷ fragments) v =
     ap (λ (l : List ℕ). bodyAfterId x ++ l) (bodies-more fragments v) ∙ sym (append-assoc (bodyAfterId x) (bodies fragments) (bodyAfterId v))
+
+one-more : (now : List (List ℕ)) (v : List ℕ) → (now ≡ [] → ⊥) → withOne now v ≡ now ++ (v ∷ [])
+one-more [] v some = absurd (some refl)
+one-more (first ∷ fragments) v some = refl
 
 pub held-more : (now : List (List ℕ)) (v : List ℕ) → (now ≡ [] → ⊥) → heldOf (now ++ (v ∷ [])) ≡ heldOf now ++ bodyAfterId v
 held-more [] v some = absurd (some refl)
@@ -101,7 +105,7 @@ holds-first q places new i v h lent least most e g =
 
 -- a fragment's body after the id behind what is held
 pub holds-more : (r q : Record) (places : List ℕ) (now new : List (List ℕ)) (i : ℕ) (v : List ℕ) → i < 4 → placesSize ≤ length places
-    → lengthAfter r i (length v) ≤ placeSize → lengthOf q i ≡ lengthAfter r i (length v) → new ≡ now ++ (v ∷ []) → HoldsAt r places now i
+    → lengthAfter r i (length v) ≤ placeSize → lengthOf q i ≡ lengthAfter r i (length v) → new ≡ withOne now v → HoldsAt r places now i
     → HoldsAt q (sets places (placeStart i + lengthOf r i) (bodyAfterId v)) new i
 holds-more r q places now new i v h lent most e g at =
     let a = at .least in
@@ -114,8 +118,8 @@ holds-more r q places now new i v h lent most e g at =
           ∙ part-longer (lengthOf r i) (placeStart i) places (bodyAfterId v) (omega arith)
           ∙ ap (λ (l : List ℕ). l ++ bodyAfterId v) (at .held)
           ∙ sym (held-more now v (at .some))
-          ∙ ap heldOf (sym g);
-      some = λ k. more-some now v (sym g ∙ k);
+          ∙ ap heldOf (sym (g ∙ one-more now v (at .some)));
+      some = λ k. more-some now v (sym (g ∙ one-more now v (at .some)) ∙ k);
     }
 
 -- a record that 28 does not refuse

@@ -11,7 +11,7 @@ use Rattle.places.specs.declared.Record.{Record}
 use Rattle.places.specs.declared.Found.the-variants.{At, Nowhere}
 use Rattle.joining.specs.declared.Refusal.the-variants.{BadRecord}
 use Rattle.places.specs.Places.{placeStart, placesSize, isOpen, idOf, lengthOf, placeOf, badRecord}
-use Rattle.joining.specs.Message.{idEnd, bodyAfterId, corrected}
+use Rattle.joined.specs.Message.{idEnd, bodyAfterId, corrected}
 use Rattle.joining.specs.Steps.{Step, Passes, Opens, Extends, Completes, Frees, Refuses, lengthAfter}
 use Rattle.places.specs.Places.{closed, opened, lengthened}
 use Rattle.joining.specs.Answers.{messageOf, recordAfter, placesAfter}

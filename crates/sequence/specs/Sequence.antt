@@ -6,11 +6,13 @@
 --   messageIn       the message that it writes,
 --   after           and the state that it leaves
 --   afterAll        the state that calls leave, one after another
---   acceptedLine    a line that is accepted, "0 whole message; 1 held; 2 joined; 3 a CancelRequest whose id was open", or none
+--   acceptedLine    a line that is accepted, "0 whole message; 1 held ..; 2 joined; 3 a CancelRequest whose id was open", or none
 --   accepted        the lines of calls that are accepted, in their order
 --   isId            whether a request id is this one
 --   partsWith       the parts of an open message after a line of its request id: none after "a CancelRequest whose id was open, which
---                   frees that place", one more after a middle fragment, none after the last, a first fragment by itself
+--                   frees that place", one more after a middle fragment, none after the last, a first fragment by itself, and the same
+--                   after a whole message
+--   withOne         a middle fragment's octets behind the parts of an open message; of one that is not open there are none
 --   partsAfter      the parts of the open message of a request id after any line
 --   partsFrom       and after lines, one after another
 --   partsOf         the parts of the open message of a request id, where no message was open before the first line
@@ -31,7 +33,7 @@ use Rattle.frame.specs.Messages.{isCancel, isFragment}
 use Rattle.frame.specs.Header.{kindAt, moreAt, idAt}
 use Rattle.places.specs.declared.Record.{Record}
 use Rattle.places.specs.Places.{placesSize, isOpen, idOf, heldIn}
-use Rattle.joining.specs.Message.{parts, joinedOf}
+use Rattle.joined.specs.Message.{parts, joinedOf}
 use Rattle.joining.specs.Steps.{Step, Passes, Opens, Extends, Completes, Frees, Refuses, stepOf}
 use Rattle.joining.specs.Answers.{messageOf, recordAfter, placesAfter}
 
@@ -72,10 +74,14 @@ abbrev pub isId : ℕ → RequestId → Bool
 isId id (Id x) = eqb x id
 isId id NoId = false
 
+abbrev pub withOne : List (List ℕ) → List ℕ → List (List ℕ)
+withOne [] v = []
+withOne (first ∷ fragments) v = first ∷ fragments ++ (v ∷ [])
+
 unfoldable pub partsWith : List (List ℕ) → List ℕ → List (List ℕ)
 partsWith held v =
     cond (isCancel (kindAt v)) []
-    (cond (isFragment (kindAt v)) (cond (moreAt v) (held ++ (v ∷ [])) [])
+    (cond (isFragment (kindAt v)) (cond (moreAt v) (withOne held v) [])
     (cond (moreAt v) (v ∷ []) held))
 
 unfoldable pub partsAfter : ℕ → List (List ℕ) → List ℕ → List (List ℕ)

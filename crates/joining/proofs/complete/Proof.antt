@@ -1,7 +1,6 @@
--- The place and the body are written one behind the other, and the header is corrected.
+-- By what the writer of the joined message answers; a place that is open has a header.
 use borrow.Author.Needs.{needs}
-use Rattle.joining.proofs.Doing.{completes}
-use Rattle.joining.proofs.Correcting.{corrected-length, last-joined, joined-length}
+use Rattle.joining.proofs.Completing.{written-whole, written-not, has-header}
 use Rattle.joining.proofs.complete.Statement.{statement}
 use Rattle.joining.proofs.complete.Tie as tie
 
@@ -14,62 +13,79 @@ mul-held c = search needs
 element-copy-out-held : tie.Need-element-copy-out-held
 element-copy-out-held c = search needs
 
-sub-total : tie.Need-sub-total
-sub-total c = search needs
-
-add-total : tie.Need-add-total
-add-total c = search needs
-
-add-write-octets : tie.Need-add-write-octets
-add-write-octets c = search needs
-
-sub-write-octets : tie.Need-sub-write-octets
-sub-write-octets c = search needs
-
-part-write-octets-start : tie.Need-part-write-octets-start
-part-write-octets-start c = search needs
-
-part-write-octets-end : tie.Need-part-write-octets-end
-part-write-octets-end c = search needs
-
-write-octets-requires : tie.Need-write-octets-requires
-write-octets-requires c κs = search needs
-
-sub-write-octets-2 : tie.Need-sub-write-octets-2
-sub-write-octets-2 c = search needs
-
-part-write-octets-start-2 : tie.Need-part-write-octets-start-2
-part-write-octets-start-2 c = search needs
-
-part-write-octets-end-2 : tie.Need-part-write-octets-end-2
-part-write-octets-end-2 c = search needs
-
-write-octets-requires-2 : tie.Need-write-octets-requires-2
-write-octets-requires-2 c κs = search needs
-
-correct-requires : tie.Need-correct-requires
-correct-requires c κs = search needs
-
 closed-requires : tie.Need-closed-requires
 closed-requires c κs = search needs
+
+add-end : tie.Need-add-end
+add-end c = search needs
+
+sub-write-joined : tie.Need-sub-write-joined
+sub-write-joined c = search needs
+
+part-write-joined-start : tie.Need-part-write-joined-start
+part-write-joined-start c = search needs
+
+part-write-joined-end : tie.Need-part-write-joined-end
+part-write-joined-end c = search needs
+
+sub-write-joined-2 : tie.Need-sub-write-joined-2
+sub-write-joined-2 c = search needs
+
+part-write-joined-start-2 : tie.Need-part-write-joined-start-2
+part-write-joined-start-2 c = search needs
+
+part-write-joined-end-2 : tie.Need-part-write-joined-end-2
+part-write-joined-end-2 c = search needs
+
+write-joined-requires : tie.Need-write-joined-requires
+write-joined-requires c κs = search needs
+
+enum-known-n : tie.Need-enum-known-n
+enum-known-n c = search needs
+
+enum-told : tie.Need-enum-told
+enum-told c = search needs
+
+refused-requires : tie.Need-refused-requires
+refused-requires c κs = search needs
+
+enum-told-2 : tie.Need-enum-told-2
+enum-told-2 c = search needs
+
+refused-requires-2 : tie.Need-refused-requires-2
+refused-requires-2 c κs = search needs
 
 same-length : tie.Need-same-length
 same-length c = search needs
 
 returns : tie.Need-returns
 returns c =
-    let at-correct = c .before .before .before in
-    let at-write-octets2 = at-correct .before .before .before .before in
-    let at-write-octets = at-write-octets2 .before .before .before .before .before in
-    let start = at-write-octets .before .before .before .before .before .before .before in
-    let octets = start .args .octets .now in
-    let r = start .args .t3 in
-    let places = start .args .places .now in
-    let out = start .args .out .now in
-    let i = start .args .i in
-    completes octets r places out i _ (c .closed .result) _ (joined-length octets r places i (start .pre .0)) (c .closed .ensures)
-    (corrected-length _)
-    (last-joined octets r places i out _ _ _ _ _ (start .pre .0) (start .pre .1) (at-write-octets .write-octets .ensures) (at-write-octets2 .write-octets2 .ensures) (at-correct .correct .ensures))
+    let at-n = c .before in
+    let at-write-joined = at-n .before .before .before .before in
+    let at-closed = at-write-joined .before .before .before .before in
+    let start = at-closed .before .before .before .before .before in
+    written-whole (start .args .octets .now) (start .args .t3) (start .args .places .now) (start .args .i) (start .pre) (start .args .out .now) _ _
+    (at-write-joined .write-joined .ensures) (at-n .n .given .0 .0) (at-n .n .given .1) (at-closed .closed .result) (at-closed .closed .ensures)
+
+same-length-2 : tie.Need-same-length-2
+same-length-2 c = search needs
+
+returns-2 : tie.Need-returns-2
+returns-2 c =
+    let at-write-joined = c .before .before .before .before .before in
+    let start = at-write-joined .before .before .before .before .before .before .before .before .before in
+    written-not (start .args .octets .now) (start .args .t3) (start .args .places .now) (start .args .i) (start .pre) (start .args .out .now) _ _
+    (at-write-joined .write-joined .ensures) (c .refused .result) (c .before .enum-told .given .1) (c .refused .ensures)
+
+same-length-3 : tie.Need-same-length-3
+same-length-3 c = search needs
+
+returns-3 : tie.Need-returns-3
+returns-3 c =
+    let at-write-joined = c .before .before .before .before .before in
+    let start = at-write-joined .before .before .before .before .before .before .before .before .before in
+    absurd
+    (has-header (start .args .octets .now) (start .args .t3) (start .args .places .now) (start .args .i) (start .pre) (start .args .out .now) _ _ (at-write-joined .write-joined .ensures) (c .before .enum-told2 .given .1))
 
 pub complete-spec : {M : Type 1} → statement M
 complete-spec =
@@ -78,18 +94,23 @@ complete-spec =
     mul-begin
     mul-held
     element-copy-out-held
-    sub-total
-    add-total
-    add-write-octets
-    sub-write-octets
-    part-write-octets-start
-    part-write-octets-end
-    write-octets-requires
-    sub-write-octets-2
-    part-write-octets-start-2
-    part-write-octets-end-2
-    write-octets-requires-2
-    correct-requires
     closed-requires
+    add-end
+    sub-write-joined
+    part-write-joined-start
+    part-write-joined-end
+    sub-write-joined-2
+    part-write-joined-start-2
+    part-write-joined-end-2
+    write-joined-requires
+    enum-known-n
+    enum-told
+    refused-requires
+    enum-told-2
+    refused-requires-2
     same-length
-    returns)
+    returns
+    same-length-2
+    returns-2
+    same-length-3
+    returns-3)

@@ -1,4 +1,4 @@
--- 25, 26 and 27 in their order; the part that is read is what is held.
+-- 25 and 26 in their order, then by the more flag; the part that is read is what is held.
 use mathlib.Core.Path.{_≡_, sym, ap, _∙_}
 use mathlib.Core.List.{List}
 use Prim.Native.Nat.{ℕ, _+_, _-_}
@@ -6,11 +6,11 @@ use lib.ListN.{length, take, drop}
 use borrow.Author.Needs.{needs}
 use Rattle.frame.specs.declared.Header.{Header}
 use Rattle.places.specs.declared.Record.{Record}
-use Rattle.joining.specs.declared.Refusal.the-variants.{FirstDiffers, TooLong, NoRoom}
 use Rattle.places.specs.Places.{placeStart, lengthOf, heldIn}
-use Rattle.joining.specs.Steps.{Extends, Completes, differs, lengthAfter}
+use Rattle.joining.specs.declared.Refusal.the-variants.{FirstDiffers, TooLong}
+use Rattle.joining.specs.Steps.{Extends, Completes, differs, written, lengthAfter}
 use Rattle.joining.proofs.Doing.{part-of, by-step, refuses}
-use Rattle.joining.proofs.Deciding.{first-differs, too-long, goes-on, last-one, no-room, in-room}
+use Rattle.joining.proofs.Deciding.{first-differs, too-long, goes-on, last-one}
 use Rattle.joining.proofs.fragment.Statement.{statement}
 use Rattle.joining.proofs.fragment.Tie as tie
 
@@ -111,41 +111,18 @@ returns-3 c =
     (goes-on r places (length out) (length octets) h i (sym (same-held r places i h) ∙ sym (at-differs .differs .ensures) ∙ at-if1 .if1 .left) (at-if2 .if2 .left) (at-if3 .if3 .taken))
     (c .before .before .extend .ensures out)
 
-refused-requires-3 : tie.Need-refused-requires-3
-refused-requires-3 c κs = search needs
+complete-requires : tie.Need-complete-requires
+complete-requires c κs = search needs
 
 same-length-4 : tie.Need-same-length-4
 same-length-4 c = search needs
 
-returns-4 : tie.Need-returns-4
-returns-4 c =
-    let at-if2 = c .before .before .before in
-    let at-if1 = at-if2 .before in
-    let at-differs = at-if1 .before in
-    let start = at-differs .before .before .before .before .before .before .before in
-    let octets = start .args .octets .now in
-    let r = start .args .t4 in
-    let places = start .args .places .now in
-    let out = start .args .out .now in
-    let h = start .args .h in
-    let i = start .args .i in
-    refuses octets r places out _ NoRoom _
-    (last-one r places (length out) (length octets) h i (sym (same-held r places i h) ∙ sym (at-differs .differs .ensures) ∙ at-if1 .if1 .left) (at-if2 .if2 .left) (c .before .before .if3 .left) ∙ no-room (length out) (lengthAfter r i (length octets)) (Completes i) (c .before .if4 .taken))
-    (c .refused3 .ensures)
-
-complete-requires : tie.Need-complete-requires
-complete-requires c κs = search needs
-
 same-length-5 : tie.Need-same-length-5
 same-length-5 c = search needs
 
-same-length-6 : tie.Need-same-length-6
-same-length-6 c = search needs
-
-returns-5 : tie.Need-returns-5
-returns-5 c =
-    let at-if4 = c .before .before .before .before .before in
-    let at-if3 = at-if4 .before in
+returns-4 : tie.Need-returns-4
+returns-4 c =
+    let at-if3 = c .before .before .before .before .before in
     let at-if2 = at-if3 .before in
     let at-if1 = at-if2 .before in
     let at-differs = at-if1 .before in
@@ -156,8 +133,8 @@ returns-5 c =
     let out = start .args .out .now in
     let i = start .args .i in
     let h = start .args .h in
-    by-step octets r places out _ (Completes i) _ places _
-    (last-one r places (length out) (length octets) h i (sym (same-held r places i h) ∙ sym (at-differs .differs .ensures) ∙ at-if1 .if1 .left) (at-if2 .if2 .left) (at-if3 .if3 .left) ∙ in-room (length out) (lengthAfter r i (length octets)) (Completes i) (at-if4 .if4 .left))
+    by-step octets r places out _ (written (length out) (lengthAfter r i (length octets)) (Completes i)) _ places _
+    (last-one r places (length out) (length octets) h i (sym (same-held r places i h) ∙ sym (at-differs .differs .ensures) ∙ at-if1 .if1 .left) (at-if2 .if2 .left) (at-if3 .if3 .left))
     (c .before .before .complete .ensures)
 
 pub fragment-spec : {M : Type 1} → statement M
@@ -183,10 +160,7 @@ fragment-spec =
     extend-requires
     same-length-3
     returns-3
-    refused-requires-3
-    same-length-4
-    returns-4
     complete-requires
+    same-length-4
     same-length-5
-    same-length-6
-    returns-5)
+    returns-4)

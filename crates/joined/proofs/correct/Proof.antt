@@ -2,9 +2,9 @@
 use mathlib.Core.Path.{_∙_}
 use lib.ListN.{length-set}
 use borrow.Author.Needs.{needs}
-use Rattle.joining.proofs.Correcting.{header-stored}
-use Rattle.joining.proofs.message.correct.Statement.{statement}
-use Rattle.joining.proofs.message.correct.Tie as tie
+use Rattle.joined.proofs.Correcting.{header-stored}
+use Rattle.joined.proofs.correct.Statement.{statement}
+use Rattle.joined.proofs.correct.Tie as tie
 
 slice-read-flags : tie.Need-slice-read-flags
 slice-read-flags c = search needs

@@ -2,9 +2,10 @@
 --   idEnd          the octets of the header and the request id
 --   bodyAfterId    a fragment's body after the id
 --   moreCleared    flags with the more flag cleared
---   flagsPlace     where the flags stand in a message,
---   sizePlace      and the size
+--   flagsOffset     where the flags stand in a message,
+--   sizeOffset      and the size
 --   corrected      octets with the more flag cleared, and the size corrected in their own byte order
+--   bodies         "each fragment's body after the id", one behind the other
 --   parts          "the first one's octets and each fragment's body after the id"
 --   joinedOf       the joined message of a first one and its fragments
 use Prim.Native.Nat.{ℕ, _-_}
@@ -24,14 +25,14 @@ bodyAfterId fragment = drop idEnd fragment
 abbrev pub moreCleared : ℕ → ℕ
 moreCleared flags = cond (moreFlag flags) (flags - 2) flags
 
-abbrev pub flagsPlace : ℕ
-flagsPlace = 6
+abbrev pub flagsOffset : ℕ
+flagsOffset = 6
 
-abbrev pub sizePlace : ℕ
-sizePlace = 8
+abbrev pub sizeOffset : ℕ
+sizeOffset = 8
 
 unfoldable pub corrected : List ℕ → List ℕ
-corrected m = sets (set m flagsPlace (moreCleared (flagsAt m))) sizePlace (octetsOf (orderAt m) 4 (length m - headerSize))
+corrected m = sets (set m flagsOffset (moreCleared (flagsAt m))) sizeOffset (octetsOf (orderAt m) 4 (length m - headerSize))
 
 unfoldable pub bodies : List (List ℕ) → List ℕ
 bodies [] = []

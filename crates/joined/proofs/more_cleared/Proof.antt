@@ -6,8 +6,8 @@ use Prim.Native.Nat.{ℕ, _/_, _%_, _≤_}
 use mathlib.Core.Bool.{true}
 use borrow.Author.Needs.{needs}
 use Rattle.frame.specs.Header.{moreFlag}
-use Rattle.joining.proofs.message.more_cleared.Statement.{statement}
-use Rattle.joining.proofs.message.more_cleared.Tie as tie
+use Rattle.joined.proofs.more_cleared.Statement.{statement}
+use Rattle.joined.proofs.more_cleared.Tie as tie
 
 -- flags with the more flag are at least 2
 flags-two : (flags : ℕ) → moreFlag flags ≡ true → 2 ≤ flags

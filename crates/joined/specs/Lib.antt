@@ -1,0 +1,3 @@
+-- The joined message, and what writing it gives.
+pub mod Message
+pub mod Written

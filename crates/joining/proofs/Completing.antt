@@ -1,0 +1,98 @@
+-- The last fragment of a message: what writing the joined message answers, as the ways of the step.
+use mathlib.Core.Path.{_≡_, refl, sym, ap, subst, _∙_}
+use mathlib.Core.List.{List, _++_}
+use mathlib.Core.Bool.{Bool, true, false, cond}
+use Prim.Native.Nat.{ℕ, _+_, _-_, _≤_, _<_}
+use native.Mathlib.Omega.{arith}
+use lib.Dec.{ltb}
+use borrow.Author.Tests.{ltb-true, ltb-false, le-ltb}
+use lib.ListN.{length, take, drop, length-append, length-drop}
+use lib.Seq.{length-take-le}
+use Rattle.frame.specs.Header.{headerSize}
+use Rattle.places.specs.declared.Record.{Record}
+use Rattle.places.specs.Places.{placeStart, lengthOf, heldIn, closed}
+use Rattle.joined.specs.declared.Assembled.{Assembled}
+use Rattle.joined.specs.declared.Assembled.the-variants.{Message, NoRoom, NoHeader}
+use Rattle.joined.specs.Message.{idEnd, bodyAfterId}
+use Rattle.joined.specs.Written.{assembledOf, assembledIn, Assembles}
+use Rattle.joining.specs.declared.Refusal.the-variants.{NoRoom as RefusedRoom}
+use Rattle.joining.specs.declared.Answer.the-variants.{Joined}
+use Rattle.joining.specs.declared.Outcome.{Outcome}
+use Rattle.joining.specs.Steps.{Completes, written, lengthAfter}
+use Rattle.joining.specs.Answers.{refusedWith, Does}
+use Rattle.joining.specs.Inner.{Continues}
+use Rattle.joining.proofs.Doing.{body-rest, part-of, refuses, completes}
+use Rattle.joining.proofs.Deciding.{no-room}
+
+-- the octets that a place has of its open message
+held-length : (v : List ℕ) (r : Record) (places : List ℕ) (i : ℕ) → Continues v r places i → length (heldIn r places i) ≡ lengthOf r i
+held-length v r places i c =
+    let e = length-drop (placeStart i) places in
+    let p = c .place in
+    let l = c .lent in
+    let m = c .most in
+    length-take-le (lengthOf r i) (drop (placeStart i) places) (omega arith)
+
+-- how long the joined message is
+joined-length : (v : List ℕ) (r : Record) (places : List ℕ) (i : ℕ) → Continues v r places i
+    → length (heldIn r places i ++ bodyAfterId v) ≡ lengthAfter r i (length v)
+joined-length v r places i c =
+    let n = held-length v r places i c in
+    let b = length-drop idEnd v in
+    let l = length-append (heldIn r places i) (bodyAfterId v) in
+    omega arith
+
+-- the parts that are read are what is held, and the fragment's body
+parts-read : (v : List ℕ) (r : Record) (places : List ℕ) (i : ℕ) (out : List ℕ) (a : Assembled) (last : List ℕ)
+    → Assembles (take (placeStart i + lengthOf r i - placeStart i) (drop (placeStart i) places)) (take (length v - idEnd) (drop idEnd v)) out a last
+    → Assembles (heldIn r places i) (bodyAfterId v) out a last
+parts-read v r places i out a last s =
+    subst (λ (b : List ℕ). Assembles (heldIn r places i) b out a last) (body-rest v)
+    (subst (λ (h : List ℕ). Assembles h (take (length v - idEnd) (drop idEnd v)) out a last) (part-of (placeStart i) (lengthOf r i) places) s)
+
+-- the answers of the writer, where there is a header
+abbrev Answers : ℕ → ℕ → Assembled → Type 0
+Answers n room (Message m) = (m ≡ n) × (n ≤ room)
+Answers n room NoRoom = room < n
+Answers n room NoHeader = ⊥
+
+answered : (held body : List ℕ) (room : ℕ) → headerSize ≤ length held → Answers (length (held ++ body)) room (assembledOf held body room)
+unfolding assembledOf
+answered held body room h = rw (le-ltb (length held) headerSize h) (by-room (length (held ++ body)) room (ltb room (length (held ++ body))) refl)
+  where
+    by-room : (n room : ℕ) (t : Bool) → t ≡ ltb room n → Answers n room (cond t NoRoom (Message n))
+    by-room n room true e = ltb-true room n (sym e)
+    by-room n room false e = (refl, ltb-false room n (sym e))
+
+module _ (v : List ℕ) (r : Record) (places : List ℕ) (i : ℕ) (c : Continues v r places i) (out : List ℕ) (a : Assembled) (last : List ℕ)
+    (s : Assembles (take (placeStart i + lengthOf r i - placeStart i) (drop (placeStart i) places)) (take (length v - idEnd) (drop idEnd v)) out a last) where
+  answers : Answers (length (heldIn r places i ++ bodyAfterId v)) (length out) a
+  answers =
+      let h = held-length v r places i c in
+      let l = c .least in
+      subst (Answers (length (heldIn r places i ++ bodyAfterId v)) (length out)) (sym (parts-read v r places i out a last s .answer))
+      (answered (heldIn r places i) (bodyAfterId v) (length out) (omega arith))
+
+  pub written-whole : (n : ℕ) → a ≡ Message n → (after : Record) → after ≡ closed r i
+      → Does (written (length out) (lengthAfter r i (length v)) (Completes i)) v r places out (record { answer = Joined n; after = after }) places last
+  written-whole n e after f =
+      let g = subst (Answers (length (heldIn r places i ++ bodyAfterId v)) (length out)) e answers in
+      let l = joined-length v r places i c in
+      let k = g .1 in
+      subst (λ (m : ℕ). Does (written (length out) (lengthAfter r i (length v)) (Completes i)) v r places out (record { answer = Joined m; after = after }) places last)
+      (sym (g .0))
+      (completes v r places out i after last f (omega arith)
+      (parts-read v r places i out a last s .contents ∙ ap (λ (x : Assembled). assembledIn x (heldIn r places i) (bodyAfterId v) out) e))
+
+  pub written-not : (o : Outcome) → a ≡ NoRoom → o ≡ refusedWith r RefusedRoom
+      → Does (written (length out) (lengthAfter r i (length v)) (Completes i)) v r places out o places last
+  written-not o e f =
+      let g = subst (Answers (length (heldIn r places i ++ bodyAfterId v)) (length out)) e answers in
+      let l = joined-length v r places i c in
+      let k : last ≡ out = parts-read v r places i out a last s .contents ∙ ap (λ (x : Assembled). assembledIn x (heldIn r places i) (bodyAfterId v) out) e in
+      subst (λ (x : List ℕ). Does (written (length out) (lengthAfter r i (length v)) (Completes i)) v r places out o places x) (sym k)
+      (refuses v r places out (written (length out) (lengthAfter r i (length v)) (Completes i)) RefusedRoom o
+      (no-room (length out) (lengthAfter r i (length v)) (Completes i) (omega arith)) f)
+
+  pub has-header : a ≡ NoHeader → ⊥
+  has-header e = subst (Answers (length (heldIn r places i ++ bodyAfterId v)) (length out)) e answers
