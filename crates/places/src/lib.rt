@@ -86,13 +86,14 @@ pub fn all_open(r: Record) -> bool
 pub fn lowest_free(r: Record) -> usize
     ensures { λ i. ⌜ i ≡ lowestFree r ⌝ }
 {
-    if !r.opened[0] {
+    let opened = r.opened;
+    if !opened[0] {
         return 0;
     }
-    if !r.opened[1] {
+    if !opened[1] {
         return 1;
     }
-    if !r.opened[2] {
+    if !opened[2] {
         return 2;
     }
     3

@@ -17,7 +17,7 @@ more-flag-requires : tie.Need-more-flag-requires
 more-flag-requires c κs = search needs
 
 sub-result : tie.Need-sub-result
-sub-result c = flags-two _ (sym (c .before .more-flag .ensures) ∙ c .if1 .taken)
+sub-result c = omega (arith, flags-two (c .before .before .args .flags) (sym (c .before .more-flag .ensures) ∙ c .if1 .taken))
 
 returns : tie.Need-returns
 returns c = rw (sym (c .before .more-flag .ensures) ∙ c .if1 .taken)

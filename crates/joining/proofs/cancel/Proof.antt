@@ -1,7 +1,9 @@
 -- Freed where the id was open; a message as it is where not.
 use mathlib.Core.Path.{ap, subst, _∙_}
 use lib.ListN.{length}
+use native.Mathlib.Omega.{arith}
 use borrow.Author.Needs.{needs}
+use Rattle.places.specs.declared.Found.the-variants.{At}
 use Rattle.joining.specs.declared.Refusal.the-variants.{NoRoom}
 use Rattle.joining.specs.Steps.{Passes, Frees, written, cancelled}
 use Rattle.joining.specs.Inner.{Within}
@@ -51,7 +53,8 @@ closed-requires : tie.Need-closed-requires
 closed-requires c κs =
     let at-found = c .before .before .before .before .before .before in
     let start = at-found .before .before .before .before in
-    subst Within (at-found .found .given .1) (start .pre)
+    let within : Within (At (at-found .found .given .0 .0)) = subst Within (at-found .found .given .1) (start .pre) in
+    omega arith
 
 same-length-2 : tie.Need-same-length-2
 same-length-2 c = search needs

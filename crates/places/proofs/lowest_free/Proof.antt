@@ -5,50 +5,41 @@ use Rattle.places.specs.Places.{isOpen, lowestFree}
 use Rattle.places.proofs.lowest_free.Statement.{statement}
 use Rattle.places.proofs.lowest_free.Tie as tie
 
-element-copy-out-if1 : tie.Need-element-copy-out-if1
-element-copy-out-if1 c = search needs
+array-read-if1 : tie.Need-array-read-if1
+array-read-if1 c = search needs
 
 returns : tie.Need-returns
 unfolding lowestFree
-returns c = rw (not-true (isOpen (c .before .before .args .t1) 0) (c .if1 .taken))
+returns c = rw (not-true (isOpen (c .before .before .args .r) 0) (c .if1 .taken))
 
-element-copy-out-if2 : tie.Need-element-copy-out-if2
-element-copy-out-if2 c = search needs
+array-read-if2 : tie.Need-array-read-if2
+array-read-if2 c = search needs
 
 returns-2 : tie.Need-returns-2
 unfolding lowestFree
 returns-2 c =
-    let start = c .before .before .before .before in
-    let r = start .args .t1 in
-    rw (not-false (isOpen r 0) (c .before .before .if1 .left), not-true (isOpen r 1) (c .if2 .taken))
+    let start = c .before .before .before in
+    let r = start .args .r in
+    rw (not-false (isOpen r 0) (c .before .if1 .left), not-true (isOpen r 1) (c .if2 .taken))
 
-element-copy-out-if3 : tie.Need-element-copy-out-if3
-element-copy-out-if3 c = search needs
+array-read-if3 : tie.Need-array-read-if3
+array-read-if3 c = search needs
 
 returns-3 : tie.Need-returns-3
 unfolding lowestFree
 returns-3 c =
-    let at-if1 = c .before .before .before .before in
-    let start = at-if1 .before .before in
-    let r = start .args .t1 in
-    rw (not-false (isOpen r 0) (at-if1 .if1 .left), not-false (isOpen r 1) (c .before .before .if2 .left), not-true (isOpen r 2) (c .if3 .taken))
+    let start = c .before .before .before .before in
+    let r = start .args .r in
+    rw (not-false (isOpen r 0) (c .before .before .if1 .left), not-false (isOpen r 1) (c .before .if2 .left), not-true (isOpen r 2) (c .if3 .taken))
 
 returns-4 : tie.Need-returns-4
 unfolding lowestFree
 returns-4 c =
-    let at-if1 = c .before .before .before .before in
-    let start = at-if1 .before .before in
-    let r = start .args .t1 in
-    rw (not-false (isOpen r 0) (at-if1 .if1 .left), not-false (isOpen r 1) (c .before .before .if2 .left), not-false (isOpen r 2) (c .if3 .left))
+    let start = c .before .before .before .before in
+    let r = start .args .r in
+    rw (not-false (isOpen r 0) (c .before .before .if1 .left), not-false (isOpen r 1) (c .before .if2 .left), not-false (isOpen r 2) (c .if3 .left))
 
 pub lowest-free-spec : {M : Type 1} → statement M
 lowest-free-spec =
     tie.close
-    (tie.spec
-    element-copy-out-if1
-    returns
-    element-copy-out-if2
-    returns-2
-    element-copy-out-if3
-    returns-3
-    returns-4)
+    (tie.spec array-read-if1 returns array-read-if2 returns-2 array-read-if3 returns-3 returns-4)
