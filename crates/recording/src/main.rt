@@ -1,75 +1,54 @@
-// Judges a recording: standard input is lines of hexadecimal, one message each. Each line's answer goes to standard output as
-// `LINE ANSWER` and, of an accepted message, `1.MINOR ORDER TYPE SIZE MORE ID`, or `-` where it is refused; last `end LINES`.
-// A read or a write that fails is said on standard error, and no `end` is written.
-ghost use mathlib.Core.Path.{_≡_};
+// Reads a recording: standard input is lines of hexadecimal, one message each. The listing goes to standard output: each line's
+// number, answer and message, or `-` where it gives none; last `end LINES OPEN`. A read or a write that fails is said on standard error,
+// and no `end` is written.
 ghost use Prim.Native.Nat.{_≤_};
 ghost use lib.ListN.{length};
+use cdr::Written;
+use libc::STDERR_FILENO;
 use libc::STDIN_FILENO;
 use libc::STDOUT_FILENO;
-use lines::Taken;
+use listing::State;
 
-mod text;
-
-// Where the program stands: the characters kept of the line that was begun, the lines answered, the characters of answers that
-// wait to be written, and whether every read and write has gone well.
-struct State {
-    kept: usize,
-    lines: u64,
-    filled: usize,
+// Where the recording stands, and whether every read and write has gone well.
+struct Reading {
+    state: State,
     ok: bool,
 }
 
 fn main() {
     let mut block = io::large_buffer();
-    // One character more than a line may have tells an over-long one.
     let mut line = [0u8; 8193];
-    let mut octets = [0u8; 4096];
-    let mut out = io::large_buffer();
-    let fresh = State {
-        kept: 0,
-        lines: 0,
-        filled: 0,
-        ok: true,
-    };
-    let read = read_all(&mut block, &mut line, &mut octets, &mut out, fresh);
+    let mut places = [0u8; 65536];
+    let mut out = [0u8; 131072];
+    let read = read_all(&mut block, &mut line, &mut places, &mut out);
     if !read.ok {
         return;
     }
-    let answered = last_line(&line, &mut octets, &mut out, read);
-    if answered.ok {
-        close(&mut out, answered);
-    }
+    let state = read.state;
+    close(&mut line, &mut places, &mut out, state);
 }
 
-// Reads standard input to its end and answers every line that ends in an LF.
-fn read_all(
-    block: &mut [u8],
-    line: &mut [u8],
-    octets: &mut [u8],
-    out: &mut [u8],
-    fresh: State,
-) -> State
-    requires { ⌜ fresh .kept ≤ length (now line) ⌝ }
-    ensures { λ r. ⌜ r .kept ≤ length (now (line .entry)) ⌝ }
-{
-    let mut state = fresh;
+// Reads standard input to its end, and writes the answer of every line that ends in an LF.
+fn read_all(block: &mut [u8], line: &mut [u8], places: &mut [u8], out: &mut [u8]) -> Reading {
+    let mut state = State::fresh();
     // A proved loop has to end, and nothing says that the input does: no run uses up so many turns.
     let mut turns = u64::MAX;
     while turns > 0 {
         let n = read_block(block);
         if n == 0 {
-            return state;
+            return Reading { state, ok: true };
         }
         if block.len() < n {
-            return stopped(out, state);
+            return Reading { state, ok: false };
         }
-        state = take_block(&block[..n], line, octets, out, state);
-        if !state.ok {
-            return state;
+        let taken = take_block(&block[..n], line, places, out, state);
+        if !taken.ok {
+            return taken;
         }
+        state = taken.state;
         turns -= 1;
     }
-    endless(out, state)
+    endless(state)
 }
 
 // Reads once: the characters read, 0 at the end of the input, and more than the block has where the read fails.
@@ -82,136 +61,77 @@ fn read_block(block: &mut [u8]) -> usize {
     io::count(got, block)
 }
 
-// Takes a block of the input, and answers each line that ends in it.
+// Writes the answers of a block, as many at a time as there is memory for.
 fn take_block(
     block: &[u8],
     line: &mut [u8],
-    octets: &mut [u8],
+    places: &mut [u8],
     out: &mut [u8],
     before: State,
-) -> State
-    requires { ⌜ before .kept ≤ length (now line) ⌝ }
-    ensures { λ r. ⌜ r .kept ≤ length (now (line .entry)) ⌝ }
-{
+) -> Reading {
     let mut state = before;
     let mut from = 0;
     while from < block.len() {
-        let taken = lines::take_line(block, from, line, state.kept);
-        from = taken.next;
-        state = after_piece(line, octets, out, state, taken);
-        if !state.ok {
-            return state;
+        let done = listing::answer_block(block, from, line, places, out, state);
+        state = done.state;
+        let next = done.next;
+        if next <= from {
+            return stuck(state);
+        }
+        from = next;
+        if !write_text(out, done.filled) {
+            return Reading { state, ok: false };
         }
     }
-    state
+    Reading { state, ok: true }
 }
 
-// Answers a line whose LF was met; of any other, notes what is kept.
-fn after_piece(line: &[u8], octets: &mut [u8], out: &mut [u8], state: State, taken: Taken) -> State
-    requires { ⌜ taken .kept ≤ length (now line) ⌝ }
-    ensures { λ r. ⌜ r .kept ≤ length (now (line .entry)) ⌝ }
-{
-    let kept = taken.kept;
-    if taken.ended {
-        return answer(&line[..kept], octets, out, state);
-    }
-    State {
-        kept,
-        lines: state.lines,
-        filled: state.filled,
-        ok: state.ok,
-    }
-}
-
-// Answers a line, and writes the answers out where half of their memory is filled.
-fn answer(line: &[u8], octets: &mut [u8], out: &mut [u8], state: State) -> State
-    ensures { λ r. ⌜ r .kept ≡ 0 ⌝ }
-{
-    let number = std::num::wrapping_add_u64(state.lines, 1);
-    let filled = text::answer(out, state.filled, number, line, octets);
-    let next = State {
-        kept: 0,
-        lines: number,
-        filled,
-        ok: true,
-    };
-    if out.len() / 2 < filled {
-        return written_out(out, next);
-    }
-    next
-}
-
-// Answers a last line that no LF ended.
-fn last_line(line: &[u8], octets: &mut [u8], out: &mut [u8], state: State) -> State
-    requires { ⌜ state .kept ≤ length (now line) ⌝ }
-{
-    let kept = state.kept;
-    if kept == 0 {
-        return state;
-    }
-    answer(&line[..kept], octets, out, state)
-}
-
-// Writes the answers that wait, and then the closing line by itself: it is begun only where all before it was written.
-fn close(out: &mut [u8], state: State) {
-    let answered = written_out(out, state);
-    if !answered.ok {
+// Answers a last line that no LF ended, and then writes the closing line by itself: it is begun only where all before it was written.
+fn close(line: &mut [u8], places: &mut [u8], out: &mut [u8], state: State) {
+    let ended = end_line(line, places, out, state);
+    if !ended.ok {
         return;
     }
-    let filled = text::end(out, 0, answered.lines);
-    let last = State {
-        kept: 0,
-        lines: answered.lines,
-        filled,
-        ok: true,
-    };
-    written_out(out, last);
+    let last = ended.state;
+    match listing::answer_end(line, places, out, last) {
+        Written::Upto(end) => {
+            write_text(out, end);
+        }
+        Written::NoRoom => {
+            stuck(last);
+        }
+    }
 }
 
-// Writes the answers that wait.
-fn written_out(out: &[u8], state: State) -> State
-    ensures { λ r. ⌜ r .kept ≡ state .kept ⌝ }
-{
-    let filled = state.filled;
+// Answers the line that was begun, if one was, as an LF would end it.
+fn end_line(line: &mut [u8], places: &mut [u8], out: &mut [u8], state: State) -> Reading {
+    if state.kept == 0 {
+        return Reading { state, ok: true };
+    }
+    take_block(b"\n", line, places, out, state)
+}
+
+// Writes the first characters of the output's memory; says whether that went well.
+fn write_text(out: &[u8], filled: usize) -> bool {
     if out.len() < filled {
-        io::write_all(libc::STDERR_FILENO, b"write: answers too long\n");
-        return failed(state);
+        io::write_all(STDERR_FILENO, b"write: no memory for the answers\n");
+        return false;
     }
     if io::write_all(STDOUT_FILENO, &out[..filled]) {
-        return State {
-            kept: state.kept,
-            lines: state.lines,
-            filled: 0,
-            ok: true,
-        };
+        return true;
     }
     os::fail(b"write");
-    failed(state)
+    false
 }
 
-// The state after an input that outlasts the turns.
-fn endless(out: &[u8], state: State) -> State
-    ensures { λ r. ⌜ r .kept ≡ state .kept ⌝ }
-{
-    io::write_all(libc::STDERR_FILENO, b"read: the input does not end\n");
-    stopped(out, state)
+// The reading of a block that is not gone on with: the output's memory has no room for an answer.
+fn stuck(state: State) -> Reading {
+    io::write_all(STDERR_FILENO, b"write: no memory for an answer\n");
+    Reading { state, ok: false }
 }
 
-// Writes the answers that wait where the input cannot be read to its end.
-fn stopped(out: &[u8], state: State) -> State
-    ensures { λ r. ⌜ r .kept ≡ state .kept ⌝ }
-{
-    failed(written_out(out, state))
-}
-
-// The state after a read or a write that failed.
-fn failed(state: State) -> State
-    ensures { λ r. ⌜ r .kept ≡ state .kept ⌝ }
-{
-    State {
-        kept: state.kept,
-        lines: state.lines,
-        filled: state.filled,
-        ok: false,
-    }
+// The reading of an input that outlasts the turns.
+fn endless(state: State) -> Reading {
+    io::write_all(STDERR_FILENO, b"read: the input does not end\n");
+    Reading { state, ok: false }
 }

@@ -1,19 +1,20 @@
--- What is kept fits the line's memory; the turns are counted down.
-use borrow.Author.Needs.{needs}
-use Prim.Native.Nat.{_≤_}
+-- The turns fall.
 use mathlib.Core.Path.{_≡_, sym}
-use native.Mathlib.Omega.{arith}
 use lib.ListN.{length}
 use lib.Seq.{length-take-le}
+use native.Mathlib.Omega.{arith}
+use borrow.Author.Needs.{needs}
 use Rattle.recording.proofs.read_all.Statement.{statement}
 use Rattle.recording.proofs.read_all.Tie as tie
 
 abbrev Inv-loop : tie.InvT-loop
-Inv-loop block₀ line₀ octets₀ out₀ state₀ turns₀ block line octets out state turns =
-    (length block ≡ length block₀) × (length line ≡ length line₀) × (length octets ≡ length octets₀) × (length out ≡ length out₀) × (state .kept ≤ length line₀)
+Inv-loop block₀ line₀ places₀ out₀ state₀ turns₀ block line places out state turns = (length block ≡ length block₀) × (length line ≡ length line₀) × (length places ≡ length places₀) × (length out ≡ length out₀)
 
 abbrev μ-loop : tie.MeasureT-loop
-μ-loop block₀ line₀ octets₀ out₀ state₀ turns₀ block line octets out state turns = turns
+μ-loop block₀ line₀ places₀ out₀ state₀ turns₀ block line places out state turns = turns
+
+fresh-requires : tie.Need-fresh-requires Inv-loop μ-loop
+fresh-requires c κs = search needs
 
 loop-holds : tie.Need-loop-holds Inv-loop μ-loop
 loop-holds c = search needs
@@ -35,9 +36,6 @@ same-length-4 c = search needs
 
 returns : tie.Need-returns Inv-loop μ-loop
 returns c = search needs
-
-stopped-requires : tie.Need-stopped-requires Inv-loop μ-loop
-stopped-requires c κs = search needs
 
 same-length-5 : tie.Need-same-length-5 Inv-loop μ-loop
 same-length-5 c = search needs
@@ -111,6 +109,7 @@ read-all-spec =
     (tie.spec
     Inv-loop
     μ-loop
+    fresh-requires
     loop-holds
     read-block-requires
     same-length
@@ -118,7 +117,6 @@ read-all-spec =
     same-length-3
     same-length-4
     returns
-    stopped-requires
     same-length-5
     same-length-6
     same-length-7

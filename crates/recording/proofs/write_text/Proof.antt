@@ -1,19 +1,16 @@
--- The part written is what waits.
-use borrow.Author.Needs.{needs}
+-- What is written is within the memory.
 use mathlib.Core.Path.{sym}
 use native.Mathlib.Omega.{arith}
 use lib.Seq.{length-take-le}
-use Rattle.recording.proofs.written_out.Statement.{statement}
-use Rattle.recording.proofs.written_out.Tie as tie
+use borrow.Author.Needs.{needs}
+use Rattle.recording.proofs.write_text.Statement.{statement}
+use Rattle.recording.proofs.write_text.Tie as tie
 
 slice-aggregate-write-all : tie.Need-slice-aggregate-write-all
 slice-aggregate-write-all c = search needs
 
 write-all-requires : tie.Need-write-all-requires
 write-all-requires c κs = search needs
-
-failed-requires : tie.Need-failed-requires
-failed-requires c κs = search needs
 
 returns : tie.Need-returns
 returns c = search needs
@@ -33,24 +30,19 @@ slice-aggregate-fail c = search needs
 fail-requires : tie.Need-fail-requires
 fail-requires c κs = search needs
 
-failed-requires-2 : tie.Need-failed-requires-2
-failed-requires-2 c κs = search needs
-
 returns-3 : tie.Need-returns-3
 returns-3 c = search needs
 
-pub written-out-spec : {M : Type 1} → statement M
-written-out-spec =
+pub write-text-spec : {M : Type 1} → statement M
+write-text-spec =
     tie.close
     (tie.spec
     slice-aggregate-write-all
     write-all-requires
-    failed-requires
     returns
     slice-aggregate-write-all-2
     write-all-requires-2
     returns-2
     slice-aggregate-fail
     fail-requires
-    failed-requires-2
     returns-3)

@@ -1,0 +1,193 @@
+-- What the steps of answering one line amount to.
+use mathlib.Core.Path.{_≡_, refl, sym, ap, subst, _∙_}
+use mathlib.Core.Bool.{true, false}
+use mathlib.Core.List.{List, [], _∷_, _++_, append-assoc}
+use Prim.Native.Nat.{ℕ, _+_, _-_, _<_, _≤_}
+use native.Mathlib.Omega.{arith}
+use types.Run.{OneOf, miss}
+use denote.Enum.Declared.{tagOf}
+use lib.Dec.{leb}
+use lib.ListN.{length, take, drop}
+use lib.Seq.{sets, sets-eq, take-at}
+use borrow.Author.Tests.{le-leb, lt-leb, leb-true, leb-false}
+use Rattle.cdr.specs.declared.Written.the-variants.{Upto, NoRoom as NoPlace}
+use Rattle.hexline.specs.declared.Decoded.{Decoded}
+use Rattle.hexline.specs.declared.Decoded.the-variants.{Octets, TooLong, NotDigits, NoRoom}
+use Rattle.hexline.specs.Decoding.{lineOctets, decodedOf, decodedNumber, Decodes}
+use Rattle.hexline.specs.Encoding.{octetDigits}
+use Rattle.hexline.proofs.Laws.{octets-length, clash}
+use Rattle.hexline.proofs.Answers.{accepted}
+use Rattle.hexline.proofs.Decoded.{the-type}
+use Rattle.lines.specs.Lines.{lf}
+use Rattle.lines.proofs.Laws.{by-test}
+use Rattle.places.specs.declared.Record.{Record}
+use Rattle.joining.specs.declared.Answer.{Answer}
+use Rattle.joining.specs.declared.Answer.the-variants.{Whole, Held, Joined, Cancelled, Refused}
+use Rattle.joining.specs.declared.Outcome.{Outcome}
+use Rattle.joining.specs.Steps.{Step, Passes, Opens, Extends, Completes, Frees, Refuses, stepOf}
+use Rattle.joining.specs.Answers.{messageOf, answerOf, answerNumber, Does, Joins}
+use Rattle.sequence.proofs.Fits.{message-fits}
+use Rattle.listing.specs.declared.line.Shown.the-variants.{Message, Nothing}
+use Rattle.listing.specs.declared.line.Listed.{Listed}
+use Rattle.listing.specs.Text.{decimal, space, dash, lineText}
+use Rattle.listing.specs.Listing.{octetsMost, messageMost, shownOf, Entry, refusedEntry, answeredWith, joinedEntry, entryFrom, entryOf}
+use Rattle.listing.specs.Answers.{longest, hasRoom, LineAnswered}
+use Rattle.listing.specs.Inner.{Put, shownAs, Lists}
+use Rattle.listing.proofs.Puts.{number-most}
+
+-- the numbers of a line's answer, then what is shown
+pub line-text : (line answer : ℕ) (shown : List ℕ)
+    → (decimal line ++ (space ∷ (decimal answer ++ (space ∷ [])))) ++ (shown ++ (lf ∷ [])) ≡ lineText line answer shown
+unfolding lineText
+line-text line answer shown = simp append-assoc
+
+pub numbers-most : (line answer : ℕ) → length (decimal line ++ (space ∷ (decimal answer ++ (space ∷ [])))) ≤ 42
+numbers-most line answer =
+    omega (arith, number-most line (space ∷ (decimal answer ++ (space ∷ []))), number-most answer (space ∷ []))
+
+-- what was written from the start of a memory
+pub take-written : (out xs : List ℕ) (n : ℕ) → n ≡ length xs → n ≤ length out → take n (sets out 0 xs) ≡ xs
+take-written out xs n e h = rw (sets-eq xs out 0 (omega arith)) (take-at xs (drop (0 + length xs) out) n (sym e))
+
+-- what an answer shows
+shown-some : (a : Answer) (n : ℕ) (message : List ℕ) → shownAs a ≡ Message n → shownOf a message ≡ octetDigits message
+shown-some (Whole m) n message e = refl
+shown-some Held n message e = clash (cc)
+shown-some (Joined m) n message e = refl
+shown-some (Cancelled m) n message e = refl
+shown-some (Refused why) n message e = clash (cc)
+
+shown-none : (a : Answer) (message : List ℕ) → shownAs a ≡ Nothing → shownOf a message ≡ dash
+shown-none (Whole m) message e = clash (cc)
+shown-none Held message e = refl
+shown-none (Joined m) message e = clash (cc)
+shown-none (Cancelled m) message e = clash (cc)
+shown-none (Refused why) message e = refl
+
+shown-count : (step : Step) (m n : ℕ) → shownAs (answerOf step m) ≡ Message n → n ≡ m
+shown-count Passes m n e = cc
+shown-count (Opens i id) m n e = clash (cc)
+shown-count (Extends i) m n e = clash (cc)
+shown-count (Completes i) m n e = cc
+shown-count (Frees i) m n e = cc
+shown-count (Refuses why) m n e = clash (cc)
+
+-- a line's octets, joined
+module _ (v : List ℕ) (before : Record) (places message : List ℕ) (r : Outcome) (placesLast messageLast : List ℕ)
+    (room : length message ≡ messageMost) (j : Joins v before places message r placesLast messageLast)
+  where
+    abbrev step : Step
+    step = stepOf v before places messageMost
+
+    abbrev shown : List ℕ
+    shown = messageOf step before v places
+
+    does : Does step v before places message r placesLast messageLast
+    does = rw room at j
+
+    -- the message fits the memory, and stands at its start
+    module _ (n : ℕ) (s : shownAs (r .answer) ≡ Message n) where
+      count-is : n ≡ length shown
+      count-is = shown-count step (length shown) n (sym (ap shownAs (does .answer)) ∙ s)
+
+      pub count-most : n ≤ messageMost
+      count-most = omega (arith, count-is, message-fits v before places messageMost)
+
+      pub message-is : take n messageLast ≡ shown
+      message-is =
+          rw (does .output) (take-written message shown n count-is (omega (arith, count-most)))
+
+    module _ (number code : ℕ) (out : List ℕ) (at end : ℕ) (outLast : List ℕ) (c : code ≡ answerNumber (r .answer)) where
+      entry-number : code ≡ answerNumber (answeredWith step v before places)
+      entry-number = c ∙ ap answerNumber (does .answer)
+
+      pub lists-shown : (n : ℕ) → shownAs (r .answer) ≡ Message n → Put out at (lineText number code (octetDigits (take n messageLast))) end outLast
+          → Lists (joinedEntry step v before places) number out at (record { after = r .after; end = end }) placesLast outLast
+      lists-shown n s p =
+          let t : shownOf (answeredWith step v before places) shown ≡ octetDigits (take n messageLast) =
+          shown-some (answeredWith step v before places) n shown (sym (ap shownAs (does .answer)) ∙ s)
+          ∙ ap octetDigits (sym (message-is n s))
+          in
+          record {
+            after = does .after;
+            stored = does .stored;
+            text = subst (λ (x : List ℕ). Put out at x end outLast) (ap (λ (k : ℕ). lineText number k (octetDigits (take n messageLast))) entry-number ∙ ap (lineText number (answerNumber (answeredWith step v before places))) (sym t)) p;
+          }
+
+      pub lists-unshown : shownAs (r .answer) ≡ Nothing → Put out at (lineText number code dash) end outLast
+          → Lists (joinedEntry step v before places) number out at (record { after = r .after; end = end }) placesLast outLast
+      lists-unshown s p =
+          let t : shownOf (answeredWith step v before places) shown ≡ dash =
+          shown-none (answeredWith step v before places) shown (sym (ap shownAs (does .answer)) ∙ s)
+          in
+          record {
+            after = does .after;
+            stored = does .stored;
+            text = subst (λ (x : List ℕ). Put out at x end outLast) (ap (λ (k : ℕ). lineText number k dash) entry-number ∙ ap (lineText number (answerNumber (answeredWith step v before places))) (sym t)) p;
+          }
+
+-- a line's characters, decoded
+module _ (line octets : List ℕ) (d : Decoded) (last : List ℕ) (room : length octets ≡ octetsMost) (s : Decodes decodedOf line octets d last) where
+  decoded-is : d ≡ decodedOf line octetsMost
+  decoded-is = s .answer ∙ ap (decodedOf line) room
+
+  pub decoded-count : (n : ℕ) → d ≡ Octets n → (n ≤ octetsMost) × (n ≡ length (lineOctets line))
+  decoded-count n e =
+      let a = accepted line octetsMost n (sym decoded-is ∙ e) .1 in
+      (a .fits, a .count ∙ sym (octets-length line))
+
+  pub decoded-octets : (n : ℕ) → d ≡ Octets n → take n last ≡ lineOctets line
+  decoded-octets n e =
+      let k = decoded-count n e in
+      rw (s .output, e) (take-written octets (lineOctets line) n (k .1) (omega arith))
+
+  pub entry-accepted : (n : ℕ) (before : Record) (places : List ℕ) → d ≡ Octets n
+      → joinedEntry (stepOf (take n last) before places messageMost) (take n last) before places ≡ entryOf line before places
+  unfolding entryOf
+  entry-accepted n before places e =
+      rw (decoded-octets n e) (ap (λ (x : Decoded). entryFrom x (lineOctets line) before places) (sym e ∙ decoded-is))
+
+  entry-refused-by : (x : Decoded) (v : List ℕ) (before : Record) (places : List ℕ) → OneOf (1 ∷ 2 ∷ 3 ∷ []) (tagOf the-type x)
+      → entryFrom x v before places ≡ refusedEntry (decodedNumber x) before places
+  entry-refused-by (Octets n) v before places k = absurd (miss (1 ∷ 2 ∷ 3 ∷ []) 0 tt k)
+  entry-refused-by TooLong v before places k = refl
+  entry-refused-by NotDigits v before places k = refl
+  entry-refused-by NoRoom v before places k = refl
+
+  pub entry-refused : (before : Record) (places : List ℕ) → OneOf (1 ∷ 2 ∷ 3 ∷ []) (tagOf the-type d)
+      → entryOf line before places ≡ refusedEntry (decodedNumber d) before places
+  unfolding entryOf
+  entry-refused before places k =
+      ap (λ (x : Decoded). entryFrom x (lineOctets line) before places) (sym decoded-is) ∙ entry-refused-by d (lineOctets line) before places k
+
+-- the room for the longest answer
+pub no-room : (size at : ℕ) → size < longest → false ≡ leb (at + longest) size
+no-room size at h = sym (lt-leb (at + longest) size (omega arith))
+
+pub room-by : (size at : ℕ) → longest ≤ size → leb at (size - longest) ≡ leb (at + longest) size
+room-by size at h =
+    by-test (leb at (size - longest))
+    (λ t. t ∙ sym (le-leb (at + longest) size (omega (arith, leb-true at (size - longest) t))))
+    (λ t. t ∙ sym (lt-leb (at + longest) size (omega (arith, leb-false at (size - longest) t))))
+
+-- a line that is no message
+pub lists-refused : (e : Entry) (before : Record) (places : List ℕ) (number code x : ℕ) (out : List ℕ) (at end : ℕ) (outLast : List ℕ) → code ≡ x
+    → e ≡ refusedEntry x before places → Put out at (lineText number code dash) end outLast
+    → Lists e number out at (record { after = before; end = end }) places outLast
+lists-refused e before places number code x out at end outLast c q p =
+    rw q (record { after = refl; stored = refl; text = rw (← c) p })
+
+-- the two answers: where there is no room, and where there is
+module _ (line : List ℕ) (number : ℕ) (before : Record) (places out : List ℕ) (at : ℕ) where
+  pub answered-none : hasRoom out at ≡ false → LineAnswered line number before places out at (record { after = before; written = NoPlace }) places out
+  answered-none h = record { written = rw h; after = rw h; stored = rw h; output = rw h }
+
+  pub answered-room : hasRoom out at ≡ true → (r : Listed) (placesLast outLast : List ℕ) → Lists (entryOf line before places) number out at r placesLast outLast
+      → LineAnswered line number before places out at (record { after = r .after; written = Upto (r .end) }) placesLast outLast
+  answered-room h r placesLast outLast l =
+      record {
+        written = rw h (ap Upto (l .text .end));
+        after = rw h (l .after);
+        stored = rw h (l .stored);
+        output = rw h (l .text .contents);
+      }

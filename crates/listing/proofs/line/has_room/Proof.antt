@@ -1,0 +1,13 @@
+-- The room is found without a sum that could wrap.
+use Rattle.listing.proofs.Entries.{no-room, room-by}
+use Rattle.listing.proofs.line.has_room.Statement.{statement}
+use Rattle.listing.proofs.line.has_room.Tie as tie
+
+returns : tie.Need-returns
+returns c = no-room (c .before .args .size) (c .before .args .at) (c .if1 .taken)
+
+returns-2 : tie.Need-returns-2
+returns-2 c = room-by (c .before .args .size) (c .before .args .at) (c .if1 .left)
+
+pub has-room-spec : {M : Type 1} → statement M
+has-room-spec = tie.close (tie.spec returns returns-2)

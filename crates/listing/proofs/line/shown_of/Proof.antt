@@ -1,0 +1,51 @@
+-- By each answer.
+use mathlib.Core.Path.{sym, ap}
+use Rattle.listing.specs.Inner.{shownAs}
+use borrow.Author.Needs.{needs}
+use Rattle.listing.proofs.line.shown_of.Statement.{statement}
+use Rattle.listing.proofs.line.shown_of.Tie as tie
+
+enum-known-answer : tie.Need-enum-known-answer
+enum-known-answer c = search needs
+
+enum-told : tie.Need-enum-told
+enum-told c = search needs
+
+enum-known-answer-2 : tie.Need-enum-known-answer-2
+enum-known-answer-2 c = search needs
+
+enum-known-answer-3 : tie.Need-enum-known-answer-3
+enum-known-answer-3 c = search needs
+
+enum-told-2 : tie.Need-enum-told-2
+enum-told-2 c = search needs
+
+returns : tie.Need-returns
+returns c = ap shownAs (sym (c .before .answer .given .1))
+
+returns-2 : tie.Need-returns-2
+returns-2 c = search needs
+
+returns-3 : tie.Need-returns-3
+returns-3 c = ap shownAs (sym (c .before .answer2 .given .1))
+
+returns-4 : tie.Need-returns-4
+returns-4 c = ap shownAs (sym (c .before .answer3 .given .1))
+
+returns-5 : tie.Need-returns-5
+returns-5 c = search needs
+
+pub shown-of-spec : {M : Type 1} → statement M
+shown-of-spec =
+    tie.close
+    (tie.spec
+    enum-known-answer
+    enum-told
+    enum-known-answer-2
+    enum-known-answer-3
+    enum-told-2
+    returns
+    returns-2
+    returns-3
+    returns-4
+    returns-5)
