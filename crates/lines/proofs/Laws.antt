@@ -85,6 +85,13 @@ up-all (c ∷ rest) h =
     (λ e. absurd (true≢false (sym (has-lf c rest e) ∙ h)))
     (λ e. up-other c rest e ∙ ap (λ (l : List ℕ). c ∷ l) (up-all rest (sym (has-other c rest e) ∙ h)))
 
+pub up-append : (s more : List ℕ) → hasLF s ≡ false → upToLF (s ++ more) ≡ s ++ upToLF more
+up-append [] more h = refl
+up-append (c ∷ rest) more h =
+    by-test (eqb c lf)
+    (λ e. absurd (true≢false (sym (has-lf c rest e) ∙ h)))
+    (λ e. up-other c (rest ++ more) e ∙ ap (λ (l : List ℕ). c ∷ l) (up-append rest more (sym (has-other c rest e) ∙ h)))
+
 pub after-drop : (s : List ℕ) → afterLF s ≡ drop (suc (length (upToLF s))) s
 unfolding afterLF
 after-drop [] = refl

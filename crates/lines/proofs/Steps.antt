@@ -1,20 +1,22 @@
--- What the steps of `find_lf` and `take_line` amount to.
-use mathlib.Core.Path.{_≡_, sym, ap, _∙_}
-use mathlib.Core.List.{List}
+-- What the steps of the search for the LF and of `take_line` amount to.
+use mathlib.Core.Path.{_≡_, refl, sym, ap, _∙_}
+use mathlib.Core.List.{List, _∷_}
+use mathlib.Core.Bool.{Bool, true, false, _||_}
 use Prim.Native.Nat.{ℕ, suc, _+_, _-_, _<_, _≤_, min}
 use native.Mathlib.Nat.{min-le-right, sub-eq-zero-of-le}
 use native.Mathlib.Numerals.{add-one}
 use native.Mathlib.Omega.{arith, min-cases}
-use lib.Dec.{ltb}
-use lib.ListN.{getD, length, take, drop, length-drop, drop-of-length-le}
-use lib.Seq.{sets, length-take-le, drop-cons, take-all, take-take}
+use lib.Dec.{ltb, eqb}
+use lib.ListN.{getD, length, take, drop, length-drop, drop-of-length-le, length-append, take-append-drop}
+use lib.Seq.{sets, length-take-le, drop-cons, drop-drop, take-all, take-take}
 use borrow.Author.Tests.{eq-eqb, ne-eqb, lt-ltb, le-ltb, ltb-true, ltb-false}
+use Rattle.cdr.specs.Branch.{choose}
 use Rattle.cdr.specs.declared.Written.{Written}
 use Rattle.cdr.specs.Write.{Stored}
 use Rattle.cdr.proofs.Stores.{stored-fits}
 use Rattle.lines.specs.Lines.{lf, upToLF, hasLF, takenOf, keptInto, LineTaken}
 use Rattle.lines.specs.declared.Taken.{Taken}
-use Rattle.lines.proofs.Laws.{by-test, up-lf, up-other, up-prefix, up-length, has-by-length, drop-within}
+use Rattle.lines.proofs.Laws.{by-test, up-append, up-lf, up-other, up-prefix, up-length, has-by-length, drop-within}
 
 module _ (block : List ℕ) (i : ℕ) where
   -- the search has met an LF
@@ -30,6 +32,47 @@ module _ (block : List ℕ) (i : ℕ) where
   pub at-end : length block ≤ i → i + length (upToLF (drop i block)) ≡ i
   unfolding upToLF
   at-end h = rw (drop-of-length-le block h) (omega arith)
+
+-- an LF among characters: the first is one, or there is one among the others
+has-cons : (c : ℕ) (rest : List ℕ) → hasLF (c ∷ rest) ≡ (eqb c lf || hasLF rest)
+unfolding hasLF choose
+has-cons c rest = by-test (eqb c lf) (λ e. rw e) (λ e. rw e)
+
+or-or : (a b c : Bool) → ((a || b) || c) ≡ (a || (b || c))
+or-or true b c = refl
+or-or false b c = refl
+
+or-none : (a : Bool) → (a || false) ≡ a
+or-none true = refl
+or-none false = refl
+
+-- what has been judged, with what is left, gives the answer for all
+pub met-turn : (l : List ℕ) (met : Bool) (k : ℕ) → k < length l → ((met || eqb (getD l k 0) lf) || hasLF (drop (k + 1) l)) ≡ (met || hasLF (drop k l))
+met-turn l met k h =
+    or-or met (eqb (getD l k 0) lf) (hasLF (drop (k + 1) l))
+    ∙ ap (λ (i : ℕ). met || (eqb (getD l k 0) lf || hasLF (drop i l))) (add-one k)
+    ∙ ap (λ (b : Bool). met || b) (sym (has-cons (getD l k 0) (drop (suc k) l)))
+    ∙ ap (λ (r : List ℕ). met || hasLF r) (sym (drop-cons l k 0 h))
+
+pub met-done : (l : List ℕ) (met : Bool) (k : ℕ) → length l ≤ k → met ≡ (met || hasLF (drop k l))
+unfolding hasLF
+met-done l met k h = sym (ap (λ (r : List ℕ). met || hasLF r) (drop-of-length-le l h) ∙ or-none met)
+
+-- a run without an LF is passed over
+pub run-passed : (block : List ℕ) (i n : ℕ) → i + n ≤ length block → hasLF (take (i + n - i) (drop i block)) ≡ false
+    → i + n + length (upToLF (drop (i + n) block)) ≡ i + length (upToLF (drop i block))
+run-passed block i n h e =
+    let f : i + n - i ≡ n = omega arith in
+    let d = length-drop i block in
+    let l : length (take n (drop i block)) ≡ n = length-take-le n (drop i block) (omega arith) in
+    let u = take n (drop i block) in
+    let v = drop n (drop i block) in
+    let g : length (upToLF (drop i block)) ≡ length u + length (upToLF v) =
+    ap (λ (s : List ℕ). length (upToLF s)) (sym (take-append-drop n (drop i block)))
+    ∙ ap length (up-append u v (ap (λ (k : ℕ). hasLF (take k (drop i block))) (sym f) ∙ e))
+    ∙ length-append u (upToLF v) in
+    let w : length (upToLF v) ≡ length (upToLF (drop (i + n) block)) = ap (λ (s : List ℕ). length (upToLF s)) (drop-drop n i block) in
+    omega arith
 
 -- as many of the line's characters as there is room for, counted in the block
 pub up-take : (room : ℕ) (s : List ℕ) → take room (upToLF s) ≡ take (min (length (upToLF s)) room) s

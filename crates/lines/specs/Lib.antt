@@ -1,2 +1,3 @@
 -- The lines of a recording that is read in blocks.
 pub mod Lines
+pub mod Inner

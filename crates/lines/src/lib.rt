@@ -2,9 +2,13 @@
 ghost use mathlib.Core.Path.{_≡_};
 ghost use Prim.Native.Nat.{_+_, _≤_, min};
 ghost use lib.ListN.{length, drop};
-ghost use Rattle.lines.specs.Lines.{upToLF, LineTaken};
+ghost use Rattle.lines.specs.Lines.{upToLF, hasLF, LineTaken};
+ghost use Rattle.lines.specs.Inner.{SameLF};
 
 const LF: u8 = 10;
+
+// The characters that are judged together while the LF is sought.
+const RUN: usize = 64;
 
 // Where reading a line stands: the next character of the block, the characters of the line kept so far, and whether the
 // line's LF was met.
@@ -40,7 +44,7 @@ fn find_lf(block: &[u8], from: usize) -> usize
     requires { ⌜ from ≤ length (now block) ⌝ }
     ensures { λ r. ⌜ r ≡ from + length (upToLF (drop from (now (block .entry)))) ⌝ }
 {
-    let mut i = from;
+    let mut i = past_runs(block, from);
     while i < block.len() {
         if block[i] == LF {
             return i;
@@ -48,6 +52,34 @@ fn find_lf(block: &[u8], from: usize) -> usize
         i += 1;
     }
     i
+}
+
+// Passes over runs of characters that have no LF among them: from there on, the search comes to the same place.
+fn past_runs(block: &[u8], from: usize) -> usize
+    requires { ⌜ from ≤ length (now block) ⌝ }
+    ensures { λ r. ⌜ SameLF (now (block .entry)) from r ⌝ }
+{
+    let mut i = from;
+    while RUN <= block.len() - i {
+        if has_lf(&block[i..i + RUN]) {
+            return i;
+        }
+        i += RUN;
+    }
+    i
+}
+
+// Whether there is an LF. No early end.
+fn has_lf(characters: &[u8]) -> bool
+    ensures { λ r. ⌜ r ≡ hasLF (now (characters .entry)) ⌝ }
+{
+    let mut met = false;
+    let mut k = 0;
+    while k < characters.len() {
+        met = met | (characters[k] == LF);
+        k += 1;
+    }
+    met
 }
 
 // The lesser of two numbers.
