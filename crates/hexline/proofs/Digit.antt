@@ -1,35 +1,22 @@
--- What the function `value` gives for a character, and that an upper-case digit has the value that it was made from.
-use mathlib.Core.Path.{_≡_, refl}
-use mathlib.Core.Bool.{Bool, true, false}
-use Prim.Native.Nat.{ℕ, _+_, _-_, _<_, _≤_}
+-- Which characters are digits, their values, and that an upper-case digit has the value that it was made from.
+use mathlib.Core.Path.{_≡_, refl, sym, _∙_}
+use mathlib.Core.Bool.{Bool, true, false, true≢false}
+use Prim.Native.Nat.{ℕ, _+_, _-_, _%_, _<_, _≤_}
 use native.Mathlib.Omega.{arith}
 use lib.Dec.{leb, ltb}
-use borrow.Author.Tests.{leb-true, leb-false, ltb-true, ltb-false, lt-leb, le-leb, lt-ltb}
-use Rattle.hexline.specs.Digit.{isDigit, digitValue, digitOrNone, upperDigit}
+use borrow.Author.Tests.{leb-true, leb-false, ltb-true, ltb-false, lt-leb, le-leb}
+use Rattle.hexline.specs.Digit.{isDigit, digitValue, upperDigit}
 
-pub numeral : (c : ℕ) → 48 ≤ c → c ≤ 57 → c - 48 ≡ digitOrNone c
-unfolding isDigit digitValue
-numeral c l h = simp (le-leb 48 c l, le-leb c 57 h)
-
-pub upper : (c : ℕ) → 65 ≤ c → c ≤ 70 → c - 65 + 10 ≡ digitOrNone c
-unfolding isDigit digitValue
-upper c l h = simp (le-leb 48 c (omega arith), lt-leb c 57 (omega arith), le-leb 65 c l, le-leb c 70 h)
-
-pub lower : (c : ℕ) → 97 ≤ c → c ≤ 102 → c - 97 + 10 ≡ digitOrNone c
-unfolding isDigit digitValue
-lower c l h =
-    simp
-    (le-leb 48 c (omega arith), lt-leb c 57 (omega arith), le-leb 65 c (omega arith), lt-leb c 70 (omega arith), le-leb 97 c l, le-leb c 102 h)
-
-pub before-numerals : (c : ℕ) → c < 48 → 16 ≡ digitOrNone c
+-- between and behind the ranges of digits there is none
+pub before-numerals : (c : ℕ) → c < 48 → isDigit c ≡ false
 unfolding isDigit
 before-numerals c h = simp (lt-leb 48 c h, lt-leb 65 c (omega arith), lt-leb 97 c (omega arith))
 
-pub before-upper : (c : ℕ) → 57 < c → c < 65 → 16 ≡ digitOrNone c
+pub before-upper : (c : ℕ) → 57 < c → c < 65 → isDigit c ≡ false
 unfolding isDigit
 before-upper c l h = simp (le-leb 48 c (omega arith), lt-leb c 57 l, lt-leb 65 c h, lt-leb 97 c (omega arith))
 
-pub before-lower : (c : ℕ) → 70 < c → c < 97 → 16 ≡ digitOrNone c
+pub before-lower : (c : ℕ) → 70 < c → c < 97 → isDigit c ≡ false
 unfolding isDigit
 before-lower c l h =
     simp (le-leb 48 c (omega arith), lt-leb c 57 (omega arith), le-leb 65 c (omega arith), lt-leb c 70 l, lt-leb 97 c h)
@@ -39,9 +26,6 @@ unfolding isDigit
 above c h =
     simp
     (le-leb 48 c (omega arith), lt-leb c 57 (omega arith), le-leb 65 c (omega arith), lt-leb c 70 (omega arith), le-leb 97 c (omega arith), lt-leb c 102 h)
-
-pub after-lower : (c : ℕ) → 102 < c → 16 ≡ digitOrNone c
-after-lower c h = rw (above c h)
 
 below-by : (c : ℕ) (a b d : Bool) → leb c 57 ≡ a → leb c 70 ≡ b → leb c 102 ≡ d → isDigit c ≡ true → digitValue c < 16
 unfolding digitValue
@@ -55,13 +39,35 @@ below-by c false false false e f g h =
 pub value-below : (c : ℕ) → isDigit c ≡ true → digitValue c < 16
 value-below c h = below-by c _ _ _ refl refl refl h
 
-judged-by : (c : ℕ) (b : Bool) → isDigit c ≡ b → ltb (digitOrNone c) 16 ≡ b
-judged-by c true e = rw e (lt-ltb (digitValue c) 16 (value-below c e))
-judged-by c false e = rw e
+-- a digit up to 9 is at least 0
+pub numeral-least : (c : ℕ) → isDigit c ≡ true → 48 ≤ c
+numeral-least c d = by-below (ltb c 48) refl
+  where
+    by-below : (t : Bool) → t ≡ ltb c 48 → 48 ≤ c
+    by-below true e = absurd (true≢false (sym d ∙ before-numerals c (ltb-true c 48 (sym e))))
+    by-below false e = ltb-false c 48 (sym e)
 
--- a character is a digit exactly where it has a value below 16
-pub judged : (c : ℕ) → ltb (digitOrNone c) 16 ≡ isDigit c
-judged c = judged-by c _ refl
+pub numeral-value : (c : ℕ) → c ≤ 57 → c - 48 ≡ digitValue c
+unfolding digitValue
+numeral-value c h = simp (le-leb c 57 h)
+
+-- a letter's last four bits count from 1
+pub letter-value : (c : ℕ) → isDigit c ≡ true → 57 < c → c % 16 + 9 ≡ digitValue c
+unfolding digitValue
+letter-value c d h = by-case (leb c 70) (ltb c 65) (ltb c 97) (leb c 102) refl refl refl refl
+  where
+    by-case : (a b e f : Bool) → a ≡ leb c 70 → b ≡ ltb c 65 → e ≡ ltb c 97 → f ≡ leb c 102 → c % 16 + 9 ≡ digitValue c
+    by-case true true e f p q r s = absurd (true≢false (sym d ∙ before-upper c h (ltb-true c 65 (sym q))))
+    by-case true false e f p q r s =
+        let l = ltb-false c 65 (sym q) in
+        let m = leb-true c 70 (sym p) in
+        simp (lt-leb c 57 h, sym p) (omega arith)
+    by-case false b true f p q r s = absurd (true≢false (sym d ∙ before-lower c (leb-false c 70 (sym p)) (ltb-true c 97 (sym r))))
+    by-case false b false true p q r s =
+        let l = ltb-false c 97 (sym r) in
+        let m = leb-true c 102 (sym s) in
+        simp (lt-leb c 57 h, sym p) (omega arith)
+    by-case false b false false p q r s = absurd (true≢false (sym d ∙ above c (leb-false c 102 (sym s))))
 
 upper-by : (v : ℕ) (a : Bool) → ltb v 10 ≡ a → v < 16 → (isDigit (upperDigit v) ≡ true) × (digitValue (upperDigit v) ≡ v)
 unfolding isDigit digitValue upperDigit

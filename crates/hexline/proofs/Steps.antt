@@ -5,14 +5,12 @@ use mathlib.Core.List.{List, [], _∷_}
 use Prim.Native.Nat.{ℕ, suc, _+_, _*_, _/_, _%_, _<_, _≤_}
 use native.Mathlib.Numerals.{add-one}
 use native.Mathlib.Omega.{arith}
-use lib.Dec.{ltb}
 use lib.ListN.{length, getD, drop, set, length-drop, drop-of-length-le}
 use lib.Seq.{sets, drop-cons}
-use Rattle.hexline.specs.Digit.{isDigit, digitValue, digitOrNone, upperDigit}
+use Rattle.hexline.specs.Digit.{isDigit, digitValue, upperDigit}
 use Rattle.hexline.specs.Decoding.{allDigits, octetOf, lineOctets}
 use Rattle.hexline.specs.Encoding.{octetDigits}
-use Rattle.hexline.proofs.Digit.{value-below, judged}
-use Rattle.hexline.proofs.Laws.{digit-at, octets-length}
+use Rattle.hexline.proofs.Laws.{octets-length}
 
 none : (xs : List ℕ) → length xs ≡ 0 → xs ≡ []
 none [] e = refl
@@ -23,24 +21,15 @@ module _ (line : List ℕ) where
   unfolding allDigits
   judge-next k h = rw (add-one, drop-cons line k 0)
 
-  pub judge-turn : (all : Bool) (k v : ℕ) → k < length line → v ≡ digitOrNone (getD line k 0)
-      → (all && ltb v 16 && allDigits (drop (k + 1) line)) ≡ (all && allDigits (drop k line))
-  judge-turn true k v h e = rw (e, judged) (sym (judge-next k h))
-  judge-turn false k v h e = refl
+  pub judge-turn : (all : Bool) (k : ℕ) (b : Bool) → k < length line → b ≡ isDigit (getD line k 0)
+      → (all && b && allDigits (drop (k + 1) line)) ≡ (all && allDigits (drop k line))
+  judge-turn true k b h e = rw e (sym (judge-next k h))
+  judge-turn false k b h e = refl
 
   pub judge-done : (all : Bool) (k : ℕ) → length line ≤ k → all ≡ (all && allDigits (drop k line))
   unfolding allDigits
   judge-done true k h = sym (ap allDigits (drop-of-length-le line h))
   judge-done false k h = refl
-
-  -- what `value` gives at a place of a line of digits
-  pub digit-value : allDigits line ≡ true → (k v : ℕ) → k < length line → v ≡ digitOrNone (getD line k 0)
-      → (v ≡ digitValue (getD line k 0)) × (v < 16)
-  digit-value a k v h e =
-      let d = digit-at line a k h in
-      let g : v ≡ digitValue (getD line k 0) = rw d at e in
-      let b = value-below (getD line k 0) d in
-      (g, omega arith)
 
   octets-next : (k : ℕ) → k < length line / 2
       → lineOctets (drop (k * 2) line) ≡ octetOf (getD line (k * 2) 0) (getD line (k * 2 + 1) 0) ∷ lineOctets (drop ((k + 1) * 2) line)

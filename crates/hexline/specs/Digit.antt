@@ -2,7 +2,6 @@
 --   within       whether a character stands between two others, both included
 --   isDigit      whether a character is a digit
 --   digitValue   the number that a digit stands for
---   digitOrNone  the value of a digit, or 16 for a character that is none
 --   upperDigit   the upper-case digit that stands for a number below 16
 use Prim.Native.Nat.{ℕ, _+_, _-_}
 use mathlib.Core.Bool.{Bool, cond, _&&_, _||_}
@@ -18,10 +17,6 @@ isDigit c = within 48 57 c || within 65 70 c || within 97 102 c
 -- 0 to 9 stand for themselves, A to F and a to f for 10 to 15
 unfoldable pub digitValue : ℕ → ℕ
 digitValue c = cond (leb c 57) (c - 48) (cond (leb c 70) (c - 65 + 10) (c - 97 + 10))
-
--- 16 is no digit's value
-abbrev pub digitOrNone : ℕ → ℕ
-digitOrNone c = cond (isDigit c) (digitValue c) 16
 
 -- "in upper case": 0 to 9, A to F
 unfoldable pub upperDigit : ℕ → ℕ

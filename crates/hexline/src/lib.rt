@@ -4,16 +4,12 @@ ghost use mathlib.Core.Path.{_≡_};
 ghost use Prim.Native.Nat.{_*_, _/_, _≤_, _<_};
 ghost use lib.ListN.{length};
 ghost use lib.Seq.{sets};
-ghost use Rattle.hexline.specs.Digit.{digitOrNone, upperDigit};
+ghost use Rattle.hexline.specs.Digit.{isDigit, digitValue, upperDigit};
 ghost use Rattle.hexline.specs.Decoding.{allDigits, lineOctets, digitsDecoded, decodedOf, decodedNumber, Decodes};
 ghost use Rattle.hexline.specs.Encoding.{octetDigits, encodedNumber, Encodes};
 
 // The most characters of a line.
 const LINE_LIMIT: usize = 8192;
-
-// What `value` gives for a character that is no digit: 16 is no digit's value, so one number
-// carries both, and the loop that judges compares once.
-const NO_DIGIT: u8 = 16;
 
 // What decoding gives: the number of octets written, or why nothing was.
 pub enum Decoded {
@@ -103,7 +99,7 @@ fn all_digits(characters: &[u8]) -> bool
     let mut all = true;
     let mut i = 0;
     while i < characters.len() {
-        all = all & (value(characters[i]) < NO_DIGIT);
+        all = all & is_digit(characters[i]);
         i += 1;
     }
     all
@@ -118,8 +114,8 @@ fn write_octets(digits: &[u8], out: &mut [u8])
     let mut k = 0;
     while k < n {
         let j = k * 2;
-        let high = value(digits[j]);
-        let low = value(digits[j + 1]);
+        let high = digit_value(digits[j]);
+        let low = digit_value(digits[j + 1]);
         out[k] = high * 16 + low;
         k += 1;
     }
@@ -140,19 +136,22 @@ fn write_digits(octets: &[u8], out: &mut [u8])
     }
 }
 
-// The value of a digit of either case, or NO_DIGIT.
-fn value(c: u8) -> u8
-    ensures { λ r. ⌜ r ≡ digitOrNone c ⌝ }
+// Whether a character is a digit of either case.
+fn is_digit(c: u8) -> bool
+    ensures { λ r. ⌜ r ≡ isDigit c ⌝ }
 {
-    if c <= b'9' {
-        if b'0' <= c { c - b'0' } else { NO_DIGIT }
-    } else if c <= b'F' {
-        if b'A' <= c { c - b'A' + 10 } else { NO_DIGIT }
-    } else if c <= b'f' {
-        if b'a' <= c { c - b'a' + 10 } else { NO_DIGIT }
-    } else {
-        NO_DIGIT
-    }
+    let numeral = (b'0' <= c) & (c <= b'9');
+    let upper = (b'A' <= c) & (c <= b'F');
+    let lower = (b'a' <= c) & (c <= b'f');
+    numeral | upper | lower
+}
+
+// The value of a digit. The last four bits of A and of a are 1.
+fn digit_value(c: u8) -> u8
+    requires { ⌜ isDigit c ≡ true ⌝ }
+    ensures { λ r. ⌜ r ≡ digitValue c ⌝ }
+{
+    if c <= b'9' { c - b'0' } else { c % 16 + 9 }
 }
 
 // The upper-case digit of a number below 16.

@@ -2,21 +2,21 @@
 use mathlib.Core.Path.{_≡_, refl, sym, ap, subst, _∙_}
 use mathlib.Core.Bool.{true, false}
 use mathlib.Core.List.{List, [], _∷_, _++_, append-assoc}
-use Prim.Native.Nat.{ℕ, _+_, _-_, _<_, _≤_}
+use Prim.Native.Nat.{ℕ, _+_, _-_, _%_, _<_, _≤_}
 use native.Mathlib.Omega.{arith}
 use types.Run.{OneOf, miss}
 use denote.Enum.Declared.{tagOf}
-use lib.Dec.{leb}
+use lib.Dec.{leb, ltb, eqb}
 use lib.ListN.{length, take, drop}
 use lib.Seq.{sets, sets-eq, take-at}
-use borrow.Author.Tests.{le-leb, lt-leb, leb-true, leb-false}
+use borrow.Author.Tests.{le-leb, lt-leb, leb-true, leb-false, ltb-true, ltb-false, eqb-true, eqb-false}
 use Rattle.cdr.specs.declared.Written.the-variants.{Upto, NoRoom as NoPlace}
 use Rattle.hexline.specs.declared.Decoded.{Decoded}
 use Rattle.hexline.specs.declared.Decoded.the-variants.{Octets, TooLong, NotDigits, NoRoom}
-use Rattle.hexline.specs.Decoding.{lineOctets, decodedOf, decodedNumber, Decodes}
+use Rattle.hexline.specs.Decoding.{lineLimit, allDigits, lineOctets, decodedOf, decodedNumber, Decodes}
 use Rattle.hexline.specs.Encoding.{octetDigits}
 use Rattle.hexline.proofs.Laws.{octets-length, clash}
-use Rattle.hexline.proofs.Answers.{accepted}
+use Rattle.hexline.proofs.Answers.{odd-count, no-digit, taken, too-long, within-limit, accepted}
 use Rattle.hexline.proofs.Decoded.{the-type}
 use Rattle.lines.specs.Lines.{lf}
 use Rattle.lines.proofs.Laws.{by-test}
@@ -159,6 +159,22 @@ module _ (line octets : List ℕ) (d : Decoded) (last : List ℕ) (room : length
   unfolding entryOf
   entry-refused before places k =
       ap (λ (x : Decoded). entryFrom x (lineOctets line) before places) (sym decoded-is) ∙ entry-refused-by d (lineOctets line) before places k
+
+-- a line's octets always have room
+pub never-no-room : (line : List ℕ) → decodedOf line octetsMost ≡ NoRoom → ⊥
+never-no-room line e =
+    by-test (ltb lineLimit (length line))
+    (λ t. let q = too-long line octetsMost (ltb-true lineLimit (length line) t) in clash (cc))
+    (λ t.
+    let h = ltb-false lineLimit (length line) t in
+    let w = within-limit line octetsMost h in
+    by-test (eqb (length line % 2) 1)
+    (λ o. let q = odd-count line octetsMost (eqb-true (length line % 2) 1 o) in clash (cc))
+    (λ o.
+    let even = eqb-false (length line % 2) 1 o in
+    by-test (allDigits line)
+    (λ a. let q = taken line octetsMost even a (omega arith) in clash (cc))
+    (λ a. let q = no-digit line octetsMost even a in clash (cc))))
 
 -- the room for the longest answer
 pub no-room : (size at : ℕ) → size < longest → false ≡ leb (at + longest) size

@@ -1,4 +1,4 @@
--- What callers may use.
+-- Digits and text put, one line's answer, the turns of a block, what need not be kept, the listing of a block, the end, and of a recording.
 pub mod Decimal
 pub mod Puts
 pub mod Entries

@@ -1,9 +1,11 @@
 -- Whatever way a recording is cut into blocks and calls, the texts one after the other are its listing.
 use mathlib.Core.Path.{_≡_, sym, ap, _∙_}
-use mathlib.Core.List.{List, [], _++_}
+use mathlib.Core.List.{List, [], _∷_, _++_}
 use Prim.Native.Nat.{ℕ}
 use lib.ListN.{take, drop}
+use Rattle.cdr.specs.Branch.{choose}
 use Rattle.cdr.specs.declared.Written.the-variants.{Upto}
+use Rattle.lines.specs.Lines.{lf, linesFrom}
 use Rattle.listing.specs.declared.State.{State}
 use Rattle.listing.specs.declared.Progress.{Progress}
 use Rattle.listing.specs.Listing.{listingOf}
@@ -31,3 +33,9 @@ calls-text (next state line places out input block from rest r lineLast placesLa
 pub recording-text : (line places input text : List ℕ) → Calls freshState line places input text → text ≡ listingOf places input
 unfolding listingOf
 recording-text line places input text c = calls-text c
+
+-- a last line is listed the same with an LF behind it
+pub ended-by-lf : (state : State) (line places : List ℕ) (c : ℕ) (rest : List ℕ) → take (state .kept) line ≡ c ∷ rest
+    → listingAfter state line places (lf ∷ []) ≡ listingAfter state line places []
+unfolding linesFrom choose
+ended-by-lf state line places c rest e = rw e

@@ -1,21 +1,24 @@
 -- What answering a block of a recording gives, and its end.
---   lineRoom         the characters that are kept of a line: one more than a line may have tells an over-long one
+--   lineRoom         the characters that are kept of a line: one more than "at most 8,192 digits" tells an over-long one
 --   closing          the characters of the longest closing line: two numbers of at most 20 digits, `end`, two spaces and an LF
 --   Work             where a call stands in the block and the output, and the lent memory as it is then
 --   goesOn           whether characters are left in the block, and room is left for the longest answer
+--   answering        a line's answer is written behind those before it, and the next line is begun
 --   ended            a line whose LF was met is answered,
 --   begun            and any other goes on in the next block
+--   byTaken          by whether the LF was met
 --   turnOf           the characters up to the next LF are taken
 --   blockFrom        turn by turn, as long as it goes on
 --   workOf           where a call stands
---   blockOf          a whole call; a `from` beyond the block counts as its end
+--   startOf          and where it starts; a `from` beyond the block counts as its end
+--   blockOf          a whole call: each turn takes a character, so that as many turns as the block has are enough
 --   freshState       the start of a recording
---   listingAfter     the text that is owed from there on, by the input behind the block
+--   listingAfter     the text that is owed from a state on, by the input that is left
 --   BlockAnswered    what a call ensures
 --   storedFrom       the octets of the places after lines
 --   endOf            the text of the line that no LF ended, and the closing line
---   endRoom          whether there is room for both
---   EndAnswered      what the last call ensures
+--   endRoom          whether there is room for the longest of both
+--   EndAnswered      what the last call ensures: the text is written from the start on, or everything is as it was
 use mathlib.Core.Path.{_≡_}
 use mathlib.Core.List.{List, [], _∷_, _++_}
 use mathlib.Core.Bool.{Bool, cond, _&&_}
@@ -99,19 +102,18 @@ startOf block from state = record { state = state; next = min from (length block
 unfoldable pub blockOf : List ℕ → ℕ → List ℕ → List ℕ → List ℕ → State → Work
 blockOf block from line places out state = blockFrom (length block) block (workOf (startOf block from state) line places out)
 
--- "one recording": nothing is open, and nothing was read
 abbrev pub freshState : State
 freshState = record { messages = freshRecord; lines = 0; kept = 0 }
 
 abbrev pub listingAfter : State → List ℕ → List ℕ → List ℕ → List ℕ
 listingAfter state line places input = listingFrom (state .lines) (state .messages) places (linesFrom (take (state .kept) line) input)
 
--- How far a call goes is the program's choice, `decided` says which; every choice has the rest in common.
+-- how far a call goes is the program's choice, which `decided` says; every choice has the others in common:
 --   listed      the text, and what is owed after it, are what was owed, whatever follows the block
 --   within      the text fits,
 --   unfilled    and the output behind it is as it was
---   reached     the block's end is reached where room is left for one more answer,
---   onward      and a call with room for one goes on
+--   reached     where room is left for one more answer, the whole block was taken,
+--   onward      and a call that has room for one takes some of it
 pub record BlockAnswered (block : List ℕ) (from : ℕ) (line places out : List ℕ) (state : State) (r : Progress) (lineLast placesLast outLast : List ℕ) : Type 0 where
   pub listed : (rest : List ℕ) → listingAfter state line places (drop from block ++ rest)
       ≡ take (r .filled) outLast ++ listingAfter (r .state) lineLast placesLast (drop (r .next) block ++ rest)

@@ -3,7 +3,7 @@
 --   shownAs        whether an answer has a message to show, and of how many octets
 --   Memory         memory for a line's octets and for the message that they are joined to
 --   Room           room for the longest answer, and that memory
---   Listed         a line's text put, and what the line leaves
+--   Lists          a line's text put, and what the line leaves
 use mathlib.Core.Path.{_≡_}
 use mathlib.Core.List.{List}
 use Prim.Native.Nat.{ℕ, _+_, _≤_}

@@ -1,15 +1,16 @@
 -- The listing of a recording: what the program writes for its lines.
---   octetsMost, messageMost    "at most 4,096 octets" of a line's message, and 16,384 of a joined one
---   shownOf                    "answers 0, 2 and 3 write a message", which is shown "in upper case"; of any other, `-`
+--   octetsMost, messageMost    "at most 4,096 octets" of a line, and the 16,384 octets of the longest message
+--   shownOf                    "the message, in upper case, or `-`": "answers 0, 2 and 3 write a message"
 --   Entry                      what a line is answered: its number, what is shown, and the record and its places afterwards
---   refusedEntry               a line that is no message: its number, and "lent memory .. keeps its contents"
---   joinedEntry                a line's octets by what they do
+--   refusedEntry               a line that is no message changes nothing
+--   answeredWith               the answer of a step, with the octets of the message that it writes
+--   joinedEntry                a line's octets by the step that they take
 --   entryFrom                  a line by what decoding it gives
 --   entryOf                    a line of characters
---   numberAfter                the next line's number, in a machine word
+--   numberAfter                the next "line number", in a machine word
 --   entryText                  the text of a line's answer
---   openCount                  "messages open"
---   listingFrom                the text of the lines behind those that were read, and the closing line
+--   openAt, openCount          "messages open"
+--   listingFrom                the text of the lines behind those that were read, then the closing line
 --   freshRecord                a record that has nothing open
 --   listingOf                  the text of a whole recording
 use mathlib.Core.List.{List, [], _∷_, _++_}
@@ -67,7 +68,7 @@ abbrev pub entryFrom : Decoded → List ℕ → Record → List ℕ → Entry
 entryFrom (Octets n) v r places = joinedEntry (stepOf v r places messageMost) v r places
 entryFrom TooLong v r places = refusedEntry (decodedNumber TooLong) r places
 entryFrom NotDigits v r places = refusedEntry (decodedNumber NotDigits) r places
--- no line of at most 8,192 digits has more octets
+-- never given: at most 8,192 digits have at most 4,096 octets
 entryFrom NoRoom v r places = refusedEntry (decodedNumber NoRoom) r places
 
 unfoldable pub entryOf : List ℕ → Record → List ℕ → Entry

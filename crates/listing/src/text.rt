@@ -8,7 +8,7 @@ ghost use Rattle.lines.specs.Lines.{lf};
 ghost use Rattle.listing.specs.Text.{decimal, space, dash, lineText, endText};
 ghost use Rattle.listing.specs.Inner.{Put};
 
-// The decimal digits of any machine word fit.
+// The most decimal digits of a machine word.
 const DIGITS: usize = 20;
 
 const SPACE: u8 = b' ';
@@ -34,7 +34,7 @@ fn last_digits(x: u64, digits: &mut [u8]) -> usize
     at
 }
 
-// Puts a number and the character behind it.
+// Puts a number and the character behind it, which the digits are stored before.
 fn put_number(out: &mut [u8], at: usize, x: u64, behind: u8) -> usize
     requires { ⌜ at + 21 ≤ length (now out) ⌝ }
     ensures { λ r. ⌜ Put (now (out .entry)) at (decimal x ++ (behind ∷ [])) r (now (out .exit)) ⌝ }
