@@ -2,5 +2,4 @@
 pub mod Alignment
 pub mod Fields
 pub mod Numbers
-pub mod Stores
 pub mod Texts

@@ -1,16 +1,13 @@
-// CDR, the encoding of GIOP: alignment, numbers of 1, 2, 4 and 8 octets in either byte order, texts and counted octets, read and
-// written. Every function answers for any slice, index and length.
+// CDR, the encoding of GIOP: alignment, numbers of 1, 2, 4 and 8 octets in either byte order, texts and counted octets, as they are
+// read. Every function answers for any slice, index and length.
 ghost use mathlib.Core.Path.{_≡_};
-ghost use lib.ListN.{replicate};
 ghost use Rattle.cdr.specs.Align.{octets, gap, alignedOf};
 ghost use Rattle.cdr.specs.Orders.{orderOctet, orderOf};
 ghost use Rattle.cdr.specs.Encapsulation.{fieldOf, stringOf, countedOf};
-ghost use Rattle.cdr.specs.Number.{octetsOf, readOf, signExtended};
+ghost use Rattle.cdr.specs.Number.{readOf, signExtended};
 ghost use Rattle.cdr.specs.Text.{overBound, textOf, runOf};
-ghost use Rattle.cdr.specs.Write.{Stored};
 
 mod load;
-mod store;
 
 // A byte order.
 pub enum Order {
@@ -269,43 +266,4 @@ pub enum Str {
 pub enum Counted {
     Octets { from: Index, count: usize },
     NoOctets,
-}
-
-// What writing gives: where what was written ends, or that it does not fit and nothing was written.
-pub enum Written {
-    Upto(usize),
-    NoRoom,
-}
-
-// Writes a number of the size from `at` on; of a larger number, the least significant octets.
-pub fn write_number(out: &mut [u8], at: usize, size: Size, order: Order, x: u64) -> Written
-    ensures { λ r. ⌜ Stored (now (out .entry)) at (octetsOf order (octets size) x) r (now (out .exit)) ⌝ }
-{
-    let Run::To(end) = read_run(out, at, size.octets()) else {
-        return Written::NoRoom;
-    };
-    store::number(out, at, size, order, x);
-    Written::Upto(end)
-}
-
-// Writes zeros from `at` on, as a gap holds them.
-pub fn write_zeros(out: &mut [u8], at: usize, count: usize) -> Written
-    ensures { λ r. ⌜ Stored (now (out .entry)) at (replicate count 0) r (now (out .exit)) ⌝ }
-{
-    let Run::To(end) = read_run(out, at, count) else {
-        return Written::NoRoom;
-    };
-    store::zeros(out, at, count);
-    Written::Upto(end)
-}
-
-// Writes octets from `at` on, as they are.
-pub fn write_octets(out: &mut [u8], at: usize, octets: &[u8]) -> Written
-    ensures { λ r. ⌜ Stored (now (out .entry)) at (now («octets» .entry)) r (now (out .exit)) ⌝ }
-{
-    let Run::To(end) = read_run(out, at, octets.len()) else {
-        return Written::NoRoom;
-    };
-    store::copy(out, at, octets);
-    Written::Upto(end)
 }

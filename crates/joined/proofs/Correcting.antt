@@ -8,10 +8,10 @@ use borrow.Author.Tests.{lt-ltb, le-ltb}
 use lib.ListN.{length, drop, set, length-append, length-set, List·getD-append}
 use lib.Seq.{sets, sets-eq, length-sets, set-append-left}
 use Rattle.cdr.specs.declared.Order.{Order}
-use Rattle.cdr.specs.declared.Written.{Written}
+use Rattle.writing.specs.declared.Written.{Written}
 use Rattle.cdr.specs.Number.{octetsOf}
-use Rattle.cdr.specs.Write.{Stored}
-use Rattle.cdr.proofs.Stores.{stored-fits, sets-append}
+use Rattle.writing.specs.Write.{Stored}
+use Rattle.writing.proofs.Stores.{stored-fits, sets-append}
 use Rattle.cdr.proofs.Numbers.{octets-length}
 use Rattle.frame.specs.Header.{headerSize, flagsAt, orderAt, orderFlag}
 use Rattle.joined.specs.declared.Assembled.the-variants.{Message, NoRoom, NoHeader}

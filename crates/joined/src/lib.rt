@@ -31,8 +31,8 @@ pub fn write_joined(held: &[u8], body: &[u8], out: &mut [u8]) -> Assembled
     if out.len() < total {
         return Assembled::NoRoom;
     }
-    cdr::write_octets(out, 0, held);
-    cdr::write_octets(out, held.len(), body);
+    writing::write_octets(out, 0, held);
+    writing::write_octets(out, held.len(), body);
     correct(out, total);
     Assembled::Message(total)
 }
@@ -56,5 +56,5 @@ fn correct(out: &mut [u8], total: usize)
     let flags = out[6];
     out[6] = more_cleared(flags);
     let size = (total - 12) as u64;
-    cdr::write_number(out, 8, Size::Four, frame::order_flag(flags), size);
+    writing::write_number(out, 8, Size::Four, frame::order_flag(flags), size);
 }

@@ -6,9 +6,9 @@ use native.Mathlib.Omega.{arith}
 use borrow.Author.Tests.{le-ltb}
 use lib.ListN.{length, take, drop, length-drop}
 use lib.Seq.{sets, take-all}
-use Rattle.cdr.specs.declared.Written.{Written}
-use Rattle.cdr.specs.Write.{Stored}
-use Rattle.cdr.proofs.Stores.{stored-fits}
+use Rattle.writing.specs.declared.Written.{Written}
+use Rattle.writing.specs.Write.{Stored}
+use Rattle.writing.proofs.Stores.{stored-fits}
 use Rattle.places.specs.declared.Record.{Record}
 use Rattle.joined.proofs.Correcting.{corrected-length}
 use Rattle.joining.specs.declared.Refusal.{Refusal}

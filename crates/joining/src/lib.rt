@@ -146,7 +146,7 @@ fn whole(octets: &[u8], before: Record, out: &mut [u8]) -> Outcome
     if out.len() < octets.len() {
         return refused(before, Refusal::NoRoom);
     }
-    cdr::write_octets(out, 0, octets);
+    writing::write_octets(out, 0, octets);
     Outcome {
         answer: Answer::Whole(octets.len()),
         after: before,
@@ -164,7 +164,7 @@ fn cancel(octets: &[u8], found: Found, before: Record, out: &mut [u8]) -> Outcom
     if out.len() < octets.len() {
         return refused(before, Refusal::NoRoom);
     }
-    cdr::write_octets(out, 0, octets);
+    writing::write_octets(out, 0, octets);
     Outcome {
         answer: Answer::Cancelled(octets.len()),
         after: change::closed(before, i),
@@ -203,7 +203,7 @@ fn first(octets: &[u8], id: u32, i: usize, before: Record, places: &mut [u8]) ->
     requires { ⌜ Opening (now octets) (now places) i ⌝ }
     ensures { λ r. ⌜ ((out : List ℕ) → Does (Opens i id) (now (octets .entry)) before (now (places .entry)) out r (now (places .exit)) out) ⌝ }
 {
-    cdr::write_octets(places, i * places::PLACE_SIZE, octets);
+    writing::write_octets(places, i * places::PLACE_SIZE, octets);
     Outcome {
         answer: Answer::Held,
         after: change::opened(before, i, id, octets.len()),
@@ -244,7 +244,7 @@ fn extend(octets: &[u8], i: usize, before: Record, places: &mut [u8]) -> Outcome
 {
     let held = before.lengths[i];
     let at = i * places::PLACE_SIZE + held;
-    cdr::write_octets(places, at, &octets[message::ID_END..]);
+    writing::write_octets(places, at, &octets[message::ID_END..]);
     Outcome {
         answer: Answer::Held,
         after: change::lengthened(before, i, held + (octets.len() - message::ID_END)),

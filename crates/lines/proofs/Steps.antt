@@ -11,9 +11,9 @@ use lib.ListN.{getD, length, take, drop, length-drop, drop-of-length-le, length-
 use lib.Seq.{sets, length-take-le, drop-cons, drop-drop, take-all, take-take}
 use borrow.Author.Tests.{eq-eqb, ne-eqb, lt-ltb, le-ltb, ltb-true, ltb-false}
 use Rattle.cdr.specs.Branch.{choose}
-use Rattle.cdr.specs.declared.Written.{Written}
-use Rattle.cdr.specs.Write.{Stored}
-use Rattle.cdr.proofs.Stores.{stored-fits}
+use Rattle.writing.specs.declared.Written.{Written}
+use Rattle.writing.specs.Write.{Stored}
+use Rattle.writing.proofs.Stores.{stored-fits}
 use Rattle.lines.specs.Lines.{lf, upToLF, hasLF, takenOf, keptInto, LineTaken}
 use Rattle.lines.specs.declared.Taken.{Taken}
 use Rattle.lines.proofs.Laws.{by-test, up-append, up-lf, up-other, up-prefix, up-length, has-by-length, drop-within}

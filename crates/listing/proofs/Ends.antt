@@ -8,7 +8,7 @@ use lib.ListN.{length, take, length-append}
 use lib.Seq.{length-sets, take-all, length-take-le}
 use mir.Val.{boolByte}
 use borrow.Author.Tests.{le-leb, lt-leb, leb-true}
-use Rattle.cdr.specs.declared.Written.the-variants.{Upto, NoRoom}
+use Rattle.writing.specs.declared.Written.the-variants.{Upto, NoRoom}
 use Rattle.hexline.proofs.Laws.{clash}
 use Rattle.lines.specs.Lines.{lf, lastLine, linesFrom}
 use Rattle.lines.proofs.Laws.{by-test, lines-end}

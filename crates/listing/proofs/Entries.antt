@@ -10,7 +10,7 @@ use lib.Dec.{leb, ltb, eqb}
 use lib.ListN.{length, take, drop}
 use lib.Seq.{sets, sets-eq, take-at}
 use borrow.Author.Tests.{le-leb, lt-leb, leb-true, leb-false, ltb-true, ltb-false, eqb-true, eqb-false}
-use Rattle.cdr.specs.declared.Written.the-variants.{Upto, NoRoom as NoPlace}
+use Rattle.writing.specs.declared.Written.the-variants.{Upto, NoRoom as NoPlace}
 use Rattle.hexline.specs.declared.Decoded.{Decoded}
 use Rattle.hexline.specs.declared.Decoded.the-variants.{Octets, TooLong, NotDigits, NoRoom}
 use Rattle.hexline.specs.Decoding.{lineLimit, allDigits, lineOctets, decodedOf, decodedNumber, Decodes}

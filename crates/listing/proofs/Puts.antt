@@ -5,9 +5,9 @@ use Prim.Native.Nat.{ℕ, _+_, _-_, _*_, _<_, _≤_}
 use native.Mathlib.Omega.{arith}
 use lib.ListN.{length, take, drop, set, length-append, length-drop, drop-of-length-le}
 use lib.Seq.{sets, sets-eq, take-all, drop-drop}
-use Rattle.cdr.specs.declared.Written.{Written}
-use Rattle.cdr.specs.Write.{Stored}
-use Rattle.cdr.proofs.Stores.{sets-append, stored-fits}
+use Rattle.writing.specs.declared.Written.{Written}
+use Rattle.writing.specs.Write.{Stored}
+use Rattle.writing.proofs.Stores.{sets-append, stored-fits}
 use Rattle.hexline.specs.declared.Encoded.{Encoded}
 use Rattle.hexline.specs.Encoding.{octetDigits, encodedInto, Encodes}
 use Rattle.hexline.proofs.Laws.{digits-length}

@@ -4,7 +4,7 @@ use mathlib.Core.List.{List, [], _∷_, _++_}
 use Prim.Native.Nat.{ℕ}
 use lib.ListN.{take, drop}
 use Rattle.cdr.specs.Branch.{choose}
-use Rattle.cdr.specs.declared.Written.the-variants.{Upto}
+use Rattle.writing.specs.declared.Written.the-variants.{Upto}
 use Rattle.lines.specs.Lines.{lf, linesFrom}
 use Rattle.listing.specs.declared.State.{State}
 use Rattle.listing.specs.declared.Progress.{Progress}

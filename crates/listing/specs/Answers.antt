@@ -10,7 +10,7 @@ use Prim.Native.Nat.{ℕ, _+_}
 use lib.Dec.{leb}
 use lib.ListN.{length}
 use lib.Seq.{sets}
-use Rattle.cdr.specs.declared.Written.the-variants.{Upto, NoRoom}
+use Rattle.writing.specs.declared.Written.the-variants.{Upto, NoRoom}
 use Rattle.places.specs.declared.Record.{Record}
 use Rattle.listing.specs.declared.Answered.{Answered}
 use Rattle.listing.specs.Listing.{entryOf, entryText}

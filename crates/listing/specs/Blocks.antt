@@ -27,8 +27,8 @@ use lib.Dec.{leb, ltb}
 use lib.ListN.{length, take, drop}
 use lib.Seq.{sets}
 use Rattle.cdr.specs.Branch.{choose}
-use Rattle.cdr.specs.declared.Written.{Written}
-use Rattle.cdr.specs.declared.Written.the-variants.{Upto, NoRoom}
+use Rattle.writing.specs.declared.Written.{Written}
+use Rattle.writing.specs.declared.Written.the-variants.{Upto, NoRoom}
 use Rattle.lines.specs.declared.Taken.{Taken}
 use Rattle.lines.specs.Lines.{linesFrom, takenOf, keptInto}
 use Rattle.places.specs.declared.Record.{Record}

@@ -2,8 +2,8 @@
 ghost use mathlib.Core.Path.{_≡_};
 ghost use Rattle.listing.specs.Answers.{LineAnswered};
 ghost use Rattle.listing.specs.Blocks.{freshState, BlockAnswered, EndAnswered};
-use cdr::Written;
 use places::Record;
+use writing::Written;
 
 mod block;
 mod line;

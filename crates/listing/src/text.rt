@@ -41,7 +41,7 @@ fn put_number(out: &mut [u8], at: usize, x: u64, behind: u8) -> usize
 {
     let mut digits = [behind; DIGITS + 1];
     let start = last_digits(x, &mut digits);
-    cdr::write_octets(out, at, &digits[start..]);
+    writing::write_octets(out, at, &digits[start..]);
     at + (DIGITS + 1 - start)
 }
 
@@ -98,7 +98,7 @@ pub(crate) fn put_end(out: &mut [u8], at: usize, lines: u64, count: u64) -> usiz
     requires { ⌜ at + 46 ≤ length (now out) ⌝ }
     ensures { λ r. ⌜ Put (now (out .entry)) at (endText lines count) r (now (out .exit)) ⌝ }
 {
-    cdr::write_octets(out, at, b"end ");
+    writing::write_octets(out, at, b"end ");
     let counted = put_number(out, at + 4, lines, SPACE);
     put_number(out, counted, count, LF)
 }

@@ -3,11 +3,11 @@
 // and no `end` is written.
 ghost use Prim.Native.Nat.{_≤_};
 ghost use lib.ListN.{length};
-use cdr::Written;
 use libc::STDERR_FILENO;
 use libc::STDIN_FILENO;
 use libc::STDOUT_FILENO;
 use listing::State;
+use writing::Written;
 
 // Where the recording stands, and whether every read and write has gone well.
 struct Reading {

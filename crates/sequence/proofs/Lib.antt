@@ -4,3 +4,4 @@ pub mod Inversion
 pub mod Fits
 pub mod Places
 pub mod Sequence
+pub mod Samples

@@ -1,0 +1,2 @@
+-- Runs of stores.
+pub mod Stores

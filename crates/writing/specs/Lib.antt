@@ -1,0 +1,2 @@
+-- Octets stored in lent memory.
+pub mod Write
