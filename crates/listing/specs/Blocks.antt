@@ -2,7 +2,7 @@
 --   lineRoom         the characters that are kept of a line: one more than "at most 8,192 digits" tells an over-long one
 --   closing          the characters of the longest closing line: two numbers of at most 20 digits, `end`, two spaces and an LF
 --   Work             where a call stands in the block and the output, and the lent memory as it is then
---   goesOn           whether characters are left in the block, and room is left for the longest answer
+--   goesOn           whether characters are left in the block, and the line's memory and the output have room for any line and its answer
 --   answering        a line's answer is written behind those before it, and the next line is begun
 --   ended            a line whose LF was met is answered,
 --   begun            and any other goes on in the next block

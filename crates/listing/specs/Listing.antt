@@ -1,13 +1,13 @@
 -- The listing of a recording: what the program writes for its lines.
 --   octetsMost, messageMost    "at most 4,096 octets" of a line, and the 16,384 octets of the longest message
 --   shownOf                    "the message, in upper case, or `-`": "answers 0, 2 and 3 write a message"
---   Entry                      what a line is answered: its number, what is shown, and the record and its places afterwards
+--   Entry                      what a line is answered: the answer's number, what is shown, and the record and its places afterwards
 --   refusedEntry               a line that is no message changes nothing
 --   answeredWith               the answer of a step, with the octets of the message that it writes
 --   joinedEntry                a line's octets by the step that they take
 --   entryFrom                  a line by what decoding it gives
 --   entryOf                    a line of characters
---   numberAfter                the next "line number", in a machine word
+--   numberAfter                the next "line number", in a machine word: after 2^64 - 1 comes 0
 --   entryText                  the text of a line's answer
 --   openAt, openCount          "messages open"
 --   listingFrom                the text of the lines behind those that were read, then the closing line

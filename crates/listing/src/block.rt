@@ -34,7 +34,7 @@ pub(crate) fn answer_lines(
     at
 }
 
-// Whether characters are left in the block, and room for the longest answer.
+// Whether characters are left in the block, and there is room for any line and its answer.
 fn goes_on(block: usize, line: usize, out: usize, next: usize, filled: usize) -> bool
     ensures { λ r. ⌜ r ≡ (ltb next block && (leb lineRoom line && leb (filled + longest) out)) ⌝ }
 {

@@ -9,7 +9,7 @@ mod block;
 mod line;
 mod text;
 
-// The characters of the longest answer: two numbers of at most 20 digits, the digits of 16,384 octets, two spaces and an LF.
+// The most characters of an answer: two numbers of at most 20 digits, the digits of 16,384 octets, two spaces and an LF.
 pub const LONGEST: usize = 32811;
 
 // The characters that are kept of a line: one more than a line may have tells an over-long one.
@@ -115,7 +115,7 @@ pub fn answer_block(
     block::answer_lines(block, line, places, out, start, &mut octets, &mut message)
 }
 
-// Answers the line that no LF ended, if one was begun, and writes the closing line; nothing where there is no room for both.
+// Answers the line that no LF ended, if one was begun, and writes the closing line; nothing where there is no room for the longest of both.
 pub fn answer_end(line: &[u8], places: &mut [u8], out: &mut [u8], state: State) -> Written
     ensures { λ r. ⌜ EndAnswered (now (line .entry)) (now (places .entry)) (now (out .entry)) state r (now (places .exit)) (now (out .exit)) ⌝ }
 {
