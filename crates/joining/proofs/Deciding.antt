@@ -92,9 +92,6 @@ last-one r places room n h i e l m = rw (e, le-ltb placeSize (lengthAfter r i n)
 pub no-room : (room n : ℕ) (s : Step) → room < n → written room n s ≡ Refuses NoRoom
 no-room room n s l = rw (lt-ltb room n l)
 
-pub in-room : (room n : ℕ) (s : Step) → n ≤ room → written room n s ≡ s
-in-room room n s l = rw (le-ltb room n l)
-
 -- the ways of a message that starts
 pub id-open : (r : Record) (room n : ℕ) (h : Header) (id : ℕ) (f : Found) → isAt f ≡ true → startOf r room n h id f ≡ Refuses IdOpen
 id-open r room n h id (At i) e = refl

@@ -1,7 +1,7 @@
 // Joining of 1.2 fragments: what each line of a recording is answered, by the record of the messages that are open.
 ghost use mathlib.Core.Path.{_≡_};
 ghost use mathlib.Core.List.{List};
-ghost use Prim.Native.Nat.{ℕ, _≤_, _<_};
+ghost use Prim.Native.Nat.{ℕ, _≤_};
 ghost use lib.ListN.{length};
 ghost use Rattle.frame.specs.declared.Frame.the-variants.{Accepted};
 ghost use Rattle.frame.specs.Frames.{frameOf};
