@@ -7,4 +7,5 @@ pub mod Cuts
 pub mod Listings
 pub mod Ends
 pub mod Recordings
+pub mod Determined
 pub mod Samples

@@ -4,4 +4,5 @@ pub mod Inversion
 pub mod Fits
 pub mod Places
 pub mod Sequence
+pub mod Alike
 pub mod Samples

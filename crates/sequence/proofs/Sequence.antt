@@ -187,7 +187,7 @@ module _ (r : Record) (places : List ℕ) (now : ℕ → List (List ℕ)) (k : K
           none = λ id w. left-none id w (ℕ-discrete (idOf r i) id);
         }
 
-step-keeps : (r : Record) (places : List ℕ) (now : ℕ → List (List ℕ)) → Keeps (record { kept = r; places = places }) now
+pub step-keeps : (r : Record) (places : List ℕ) (now : ℕ → List (List ℕ)) → Keeps (record { kept = r; places = places }) now
     → (v : List ℕ) (room : ℕ) (step : Step) → Facts v r (length places) room step
     → Keeps (record { kept = recordAfter step r v; places = placesAfter step r v places }) (λ id. partsFrom id (now id) (acceptedLine step v))
 unfolding partsFrom
@@ -214,7 +214,7 @@ all-keeps (c ∷ calls) s now k =
     (step-keeps (s .kept) (s .places) now k (c .octets) (length (c .out)) (stepIn s c)
     (step-says (c .octets) (s .kept) (s .places) (length (c .out)))))
 
-fresh-keeps : (s : State) → Fresh s → Keeps s (λ _. [])
+pub fresh-keeps : (s : State) → Fresh s → Keeps s (λ _. [])
 fresh-keeps s f =
     record {
       ids = f .ids;
