@@ -6,7 +6,6 @@ ghost use lib.Dec.{ltb};
 ghost use lib.ListN.{length};
 ghost use Rattle.cdr.specs.Align.{octets};
 ghost use Rattle.cdr.specs.Inner.{Loaded};
-ghost use Rattle.cdr.specs.Text.{endsText};
 use crate::Order;
 use crate::Size;
 
@@ -89,18 +88,4 @@ pub(crate) fn extended(x: u64, range: u64) -> u64
     } else {
         x + (18446744073709551615 - (range - 1))
     }
-}
-
-// Whether the last octet is zero, and no earlier one.
-pub(crate) fn ends_text(s: &[u8]) -> bool
-    ensures { λ r. ⌜ r ≡ endsText (now (s .entry)) ⌝ }
-{
-    let mut i = 0;
-    while i < s.len() {
-        if s[i] == 0 {
-            return i + 1 == s.len();
-        }
-        i += 1;
-    }
-    false
 }

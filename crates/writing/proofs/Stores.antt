@@ -9,14 +9,14 @@ use lib.ListN.{getD, length, drop, set, replicate, length-replicate, getD-replic
 use lib.Seq.{sets, drop-cons}
 use Rattle.cdr.specs.declared.Order.{Order}
 use Rattle.cdr.specs.declared.Order.the-variants.{Big, Little}
-use Rattle.cdr.specs.declared.Run.the-variants.{To, Past}
+use Rattle.texts.specs.declared.Run.the-variants.{To, Past}
 use Rattle.writing.specs.declared.Written.{Written}
 use Rattle.writing.specs.declared.Written.the-variants.{Upto, NoRoom}
 use Rattle.cdr.specs.Number.{octetsOf, littleOctets}
 use Rattle.cdr.specs.Inner.{firstHalf, secondHalf}
 use Rattle.writing.specs.Write.{Stored, holding}
-use Rattle.cdr.specs.Text.{runOf}
-use Rattle.cdr.proofs.Texts.{run-to}
+use Rattle.texts.specs.Text.{runOf}
+use Rattle.texts.proofs.Texts.{run-to}
 use Rattle.cdr.proofs.Numbers.{octets-halves, octets-length}
 
 pub sets-append : (l : List ℕ) (i : ℕ) (xs ys : List ℕ) → sets l i (xs ++ ys) ≡ sets (sets l i xs) (i + length xs) ys

@@ -8,11 +8,11 @@ use mathlib.Core.List.{List}
 use lib.ListN.{length}
 use lib.Seq.{sets}
 use mathlib.Core.Path.{_≡_}
-use Rattle.cdr.specs.declared.Run.{Run}
-use Rattle.cdr.specs.declared.Run.the-variants.{To, Past}
+use Rattle.texts.specs.declared.Run.{Run}
+use Rattle.texts.specs.declared.Run.the-variants.{To, Past}
 use Rattle.writing.specs.declared.Written.{Written}
 use Rattle.writing.specs.declared.Written.the-variants.{Upto, NoRoom}
-use Rattle.cdr.specs.Text.{runOf}
+use Rattle.texts.specs.Text.{runOf}
 
 abbrev pub writtenFrom : Run → Written
 writtenFrom (To end) = Upto end

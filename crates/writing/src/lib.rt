@@ -4,8 +4,8 @@ ghost use Rattle.cdr.specs.Align.{octets};
 ghost use Rattle.cdr.specs.Number.{octetsOf};
 ghost use Rattle.writing.specs.Write.{Stored};
 use cdr::Order;
-use cdr::Run;
 use cdr::Size;
+use texts::Run;
 
 mod store;
 
@@ -19,7 +19,7 @@ pub enum Written {
 pub fn write_number(out: &mut [u8], at: usize, size: Size, order: Order, x: u64) -> Written
     ensures { λ r. ⌜ Stored (now (out .entry)) at (octetsOf order (octets size) x) r (now (out .exit)) ⌝ }
 {
-    let Run::To(end) = cdr::read_run(out, at, size.octets()) else {
+    let Run::To(end) = texts::read_run(out, at, size.octets()) else {
         return Written::NoRoom;
     };
     store::number(out, at, size, order, x);
@@ -30,7 +30,7 @@ pub fn write_number(out: &mut [u8], at: usize, size: Size, order: Order, x: u64)
 pub fn write_zeros(out: &mut [u8], at: usize, count: usize) -> Written
     ensures { λ r. ⌜ Stored (now (out .entry)) at (replicate count 0) r (now (out .exit)) ⌝ }
 {
-    let Run::To(end) = cdr::read_run(out, at, count) else {
+    let Run::To(end) = texts::read_run(out, at, count) else {
         return Written::NoRoom;
     };
     store::zeros(out, at, count);
@@ -41,7 +41,7 @@ pub fn write_zeros(out: &mut [u8], at: usize, count: usize) -> Written
 pub fn write_octets(out: &mut [u8], at: usize, octets: &[u8]) -> Written
     ensures { λ r. ⌜ Stored (now (out .entry)) at (now («octets» .entry)) r (now (out .exit)) ⌝ }
 {
-    let Run::To(end) = cdr::read_run(out, at, octets.len()) else {
+    let Run::To(end) = texts::read_run(out, at, octets.len()) else {
         return Written::NoRoom;
     };
     store::copy(out, at, octets);

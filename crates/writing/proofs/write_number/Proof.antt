@@ -8,7 +8,7 @@ use Rattle.writing.proofs.write_number.Tie as tie
 use Rattle.cdr.specs.Align.{octets}
 use Rattle.cdr.specs.Number.{octetsOf}
 use Rattle.cdr.proofs.Numbers.{octets-length}
-use Rattle.cdr.proofs.Texts.{run-facts}
+use Rattle.texts.proofs.Texts.{run-facts}
 use Rattle.writing.proofs.Stores.{no-room, written}
 
 -- the number of octets that are written

@@ -4,7 +4,7 @@ use mathlib.Core.Path.{refl, sym, _∙_}
 use native.Mathlib.Omega.{arith}
 use Rattle.writing.proofs.write_octets.Statement.{statement}
 use Rattle.writing.proofs.write_octets.Tie as tie
-use Rattle.cdr.proofs.Texts.{run-facts}
+use Rattle.texts.proofs.Texts.{run-facts}
 use Rattle.writing.proofs.Stores.{no-room, written}
 
 read-run-requires : tie.Need-read-run-requires

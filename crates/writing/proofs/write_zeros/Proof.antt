@@ -6,7 +6,7 @@ use lib.ListN.{length-replicate}
 use native.Mathlib.Omega.{arith}
 use Rattle.writing.proofs.write_zeros.Statement.{statement}
 use Rattle.writing.proofs.write_zeros.Tie as tie
-use Rattle.cdr.proofs.Texts.{run-facts}
+use Rattle.texts.proofs.Texts.{run-facts}
 use Rattle.writing.proofs.Stores.{no-room, written}
 
 read-run-requires : tie.Need-read-run-requires

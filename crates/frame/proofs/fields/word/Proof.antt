@@ -16,10 +16,10 @@ value-is c =
     let at-there = c .before .before .before in
     let at-number = at-there in
     let at-start = at-number .before .before in
-    let o = at-start .args in word-value (o .octets .now) (o .at) (o .order) (at-start .pre .0) _ _ (sym (at-number .number .ensures) ∙ c .before .value .given .1)
+    let o = at-start .args in word-value (o .octets .now) (o .at) (o .order) (at-start .pre .0) _ _ (sym (at-number .read-field .ensures) ∙ c .before .value .given .1)
 
-number-requires : tie.Need-number-requires
-number-requires c κs = search needs
+read-field-requires : tie.Need-read-field-requires
+read-field-requires c κs = search needs
 
 enum-known-value : tie.Need-enum-known-value
 enum-known-value c = search needs
@@ -45,8 +45,8 @@ returns-2 c =
     let at-there = c .before .before .before .before in
     let at-start = at-there in
     let o = at-start .args in
-    absurd (word-there (o .octets .now) (o .at) (o .order) (at-start .pre .0) (at-start .pre .1) (sym (c .before .before .number .ensures) ∙ c .enum-told .given .1))
+    absurd (word-there (o .octets .now) (o .at) (o .order) (at-start .pre .0) (at-start .pre .1) (sym (c .before .before .read-field .ensures) ∙ c .enum-told .given .1))
 
 pub word-spec : {M : Type 1} → statement M
 word-spec =
-    tie.close (tie.spec number-requires enum-known-value cast-result enum-told returns returns-2)
+    tie.close (tie.spec read-field-requires enum-known-value cast-result enum-told returns returns-2)

@@ -2,9 +2,9 @@
 use borrow.Author.Needs.{needs}
 use mathlib.Core.Path.{sym}
 use native.Mathlib.Omega.{arith}
-use Rattle.cdr.proofs.read_run.Statement.{statement}
-use Rattle.cdr.proofs.read_run.Tie as tie
-use Rattle.cdr.proofs.Texts.{run-past, run-to}
+use Rattle.texts.proofs.read_run.Statement.{statement}
+use Rattle.texts.proofs.read_run.Tie as tie
+use Rattle.texts.proofs.Texts.{run-past, run-to}
 
 returns : tie.Need-returns
 returns c = let o = c .before .args in sym (run-past (o .s .now) (o .at) (o .count) (omega arith))

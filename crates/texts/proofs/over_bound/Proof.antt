@@ -1,8 +1,8 @@
 -- The definition's test.
 use borrow.Author.Tests.{eq-eqb, ne-eqb}
-use Rattle.cdr.proofs.over_bound.Statement.{statement}
-use Rattle.cdr.proofs.over_bound.Tie as tie
-use Rattle.cdr.specs.Text.{overBound}
+use Rattle.texts.proofs.over_bound.Statement.{statement}
+use Rattle.texts.proofs.over_bound.Tie as tie
+use Rattle.texts.specs.Text.{overBound}
 
 returns : tie.Need-returns
 unfolding overBound

@@ -10,25 +10,25 @@
 --   countedOf       a count and so many octets; `from` and `count` tell them
 use Prim.Native.Nat.{ℕ, _+_}
 use mathlib.Core.List.{List}
 use Rattle.cdr.specs.declared.Index.{Index}
 use Rattle.cdr.specs.declared.Order.{Order}
 use Rattle.cdr.specs.declared.Size.{Size}
 use Rattle.cdr.specs.declared.Size.the-variants.{Four}
 use Rattle.cdr.specs.declared.Read.{Read}
 use Rattle.cdr.specs.declared.Read.the-variants.{Number, Ends}
-use Rattle.cdr.specs.declared.Text.{Text}
-use Rattle.cdr.specs.declared.Text.the-variants.{Chars, Empty, Over, Short, Zeros}
-use Rattle.cdr.specs.declared.Run.{Run}
-use Rattle.cdr.specs.declared.Run.the-variants.{To, Past}
-use Rattle.cdr.specs.declared.Field.{Field}
-use Rattle.cdr.specs.declared.Field.the-variants.{Value, NoField}
-use Rattle.cdr.specs.declared.Str.{Str}
-use Rattle.cdr.specs.declared.Str.the-variants.{Characters, BadText, NoText}
-use Rattle.cdr.specs.declared.Counted.{Counted}
-use Rattle.cdr.specs.declared.Counted.the-variants.{Octets, NoOctets}
+use Rattle.texts.specs.declared.Text.{Text}
+use Rattle.texts.specs.declared.Text.the-variants.{Chars, Empty, Over, Short, Zeros}
+use Rattle.texts.specs.declared.Run.{Run}
+use Rattle.texts.specs.declared.Run.the-variants.{To, Past}
+use Rattle.encapsulation.specs.declared.Field.{Field}
+use Rattle.encapsulation.specs.declared.Field.the-variants.{Value, NoField}
+use Rattle.encapsulation.specs.declared.Str.{Str}
+use Rattle.encapsulation.specs.declared.Str.the-variants.{Characters, BadText, NoText}
+use Rattle.encapsulation.specs.declared.Counted.{Counted}
+use Rattle.encapsulation.specs.declared.Counted.the-variants.{Octets, NoOctets}
 use Rattle.cdr.specs.Align.{octets, indexOf}
 use Rattle.cdr.specs.Number.{readOf}
-use Rattle.cdr.specs.Text.{textOf, runOf}
+use Rattle.texts.specs.Text.{textOf, runOf}
 
 abbrev pub start : Index
 start = indexOf 0

@@ -9,9 +9,9 @@ use lib.Dec.{eqb, ltb}
 use lib.ListN.{getD, length, take, drop, length-drop, drop-of-length-le}
 use lib.Seq.{drop-cons}
 use borrow.Author.Tests.{lt-ltb, le-ltb, ltb-true, ltb-false, eq-eqb, ne-eqb}
-use Rattle.cdr.specs.declared.Text.the-variants.{Chars, Empty, Over, Short, Zeros}
-use Rattle.cdr.specs.declared.Run.the-variants.{To, Past}
-use Rattle.cdr.specs.Text.{overBound, isNil, endsText, textOf, runOf}
+use Rattle.texts.specs.declared.Text.the-variants.{Chars, Empty, Over, Short, Zeros}
+use Rattle.texts.specs.declared.Run.the-variants.{To, Past}
+use Rattle.texts.specs.Text.{overBound, isNil, endsText, textOf, runOf}
 
 module _ (v : List ℕ) (at n bound : ℕ) where
   pub text-empty : n ≡ 0 → textOf v at n bound ≡ Empty

@@ -9,10 +9,10 @@ use mathlib.Core.List.{List, [], _∷_}
 use mathlib.Core.Bool.{Bool, true, false, cond}
 use lib.Dec.{ltb, eqb}
 use lib.ListN.{length, take, drop}
-use Rattle.cdr.specs.declared.Text.{Text}
-use Rattle.cdr.specs.declared.Text.the-variants.{Chars, Empty, Over, Short, Zeros}
-use Rattle.cdr.specs.declared.Run.{Run}
-use Rattle.cdr.specs.declared.Run.the-variants.{To, Past}
+use Rattle.texts.specs.declared.Text.{Text}
+use Rattle.texts.specs.declared.Text.the-variants.{Chars, Empty, Over, Short, Zeros}
+use Rattle.texts.specs.declared.Run.{Run}
+use Rattle.texts.specs.declared.Run.the-variants.{To, Past}
 
 unfoldable pub overBound : ℕ → ℕ → Bool
 overBound count bound = cond (eqb bound 0) false (ltb bound count)

@@ -4,22 +4,22 @@ use mathlib.Core.List.{List}
 use Prim.Native.Nat.{ℕ, _+_, _≤_}
 use native.Mathlib.Omega.{arith}
 use lib.ListN.{length}
 use Rattle.cdr.specs.declared.Index.{Index}
 use Rattle.cdr.specs.declared.Order.{Order}
 use Rattle.cdr.specs.declared.Size.{Size}
 use Rattle.cdr.specs.declared.Size.the-variants.{Four}
 use Rattle.cdr.specs.declared.Read.{Read}
 use Rattle.cdr.specs.declared.Read.the-variants.{Number, Ends}
-use Rattle.cdr.specs.declared.Text.{Text}
-use Rattle.cdr.specs.declared.Run.{Run}
-use Rattle.cdr.specs.declared.Field.the-variants.{Value, NoField}
-use Rattle.cdr.specs.declared.Str.the-variants.{NoText}
-use Rattle.cdr.specs.declared.Counted.the-variants.{NoOctets}
+use Rattle.texts.specs.declared.Text.{Text}
+use Rattle.texts.specs.declared.Run.{Run}
+use Rattle.encapsulation.specs.declared.Field.the-variants.{Value, NoField}
+use Rattle.encapsulation.specs.declared.Str.the-variants.{NoText}
+use Rattle.encapsulation.specs.declared.Counted.the-variants.{NoOctets}
 use Rattle.cdr.specs.Align.{octets, behindGap, indexOf}
 use Rattle.cdr.specs.Number.{numberAt, readOf}
-use Rattle.cdr.specs.Text.{textOf, runOf}
-use Rattle.cdr.specs.Encapsulation.{start, fieldOf, fieldFrom, stringOf, stringFrom, stringAfter, countedOf, countedFrom, countedAfter}
+use Rattle.texts.specs.Text.{textOf, runOf}
+use Rattle.encapsulation.specs.Encapsulation.{start, fieldOf, fieldFrom, stringOf, stringFrom, stringAfter, countedOf, countedFrom, countedAfter}
 use Rattle.cdr.proofs.Alignment.{read-facts}
 
 -- where a field stands, behind its gap and before the next, and what it is
 pub record FieldRead (v : List ℕ) (i : Index) (size : Size) (order : Order) (x : ℕ) (next : Index) : Type 0 where

@@ -4,10 +4,10 @@ use mathlib.Core.Path.{_≡_, refl, sym, _∙_}
 use Prim.Native.Nat.{_≤_, _-_}
 use native.Mathlib.Omega.{arith}
 use lib.ListN.{length, drop}
-use Rattle.cdr.proofs.load.ends_text.Statement.{statement}
-use Rattle.cdr.proofs.load.ends_text.Tie as tie
-use Rattle.cdr.specs.Text.{endsText}
-use Rattle.cdr.proofs.Texts.{ends-at-zero, ends-later, ends-never}
+use Rattle.texts.proofs.ends_text.Statement.{statement}
+use Rattle.texts.proofs.ends_text.Tie as tie
+use Rattle.texts.specs.Text.{endsText}
+use Rattle.texts.proofs.Texts.{ends-at-zero, ends-later, ends-never}
 
 abbrev Inv-loop : tie.InvT-loop
 Inv-loop s i₀ i = (i ≤ length s) × (endsText (drop i s) ≡ endsText s)

@@ -5,10 +5,10 @@ use mathlib.Core.Bool.{true, false}
 use Prim.Native.Nat.{ℕ, _+_, _-_, _≤_}
 use native.Mathlib.Omega.{arith}
 use lib.ListN.{length, take, drop}
-use Rattle.cdr.proofs.read_text.Statement.{statement}
-use Rattle.cdr.proofs.read_text.Tie as tie
-use Rattle.cdr.specs.Text.{endsText}
-use Rattle.cdr.proofs.Texts.{text-empty, text-over, text-short, text-zeros, run-facts, run-short}
+use Rattle.texts.proofs.read_text.Statement.{statement}
+use Rattle.texts.proofs.read_text.Tie as tie
+use Rattle.texts.specs.Text.{endsText}
+use Rattle.texts.proofs.Texts.{text-empty, text-over, text-short, text-zeros, run-facts, run-short}
 
 -- where the text ends, and that it does so inside
 end-is : (c : tie.After-known-told) →

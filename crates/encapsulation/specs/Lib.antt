@@ -1,0 +1,2 @@
+-- The fields of an encapsulation.
+pub mod Encapsulation

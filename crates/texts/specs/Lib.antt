@@ -1,0 +1,2 @@
+-- Texts, counted octets and bounds.
+pub mod Text
