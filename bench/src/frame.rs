@@ -1,6 +1,6 @@
 //! Frames and their lines.
 
-use crate::chance::Chance;
+use chance::Chance;
 
 /// The flag of little-endian messages.
 pub const LITTLE: u8 = 1;

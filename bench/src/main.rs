@@ -3,7 +3,6 @@
 //! The recording has about BYTES characters. The same BYTES and SEED always
 //! give the same recording.
 
-mod chance;
 mod frame;
 mod night;
 

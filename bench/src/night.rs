@@ -1,6 +1,7 @@
 //! The lines of a night.
 
-use crate::chance::Chance;
+use chance::Chance;
+
 use crate::frame::{
     add_digits, Frame, CANCEL_REQUEST, FRAGMENT, LEAST, LITTLE, LOCATE_REPLY, LOCATE_REQUEST,
     LONGEST, MORE, REPLY, REQUEST,

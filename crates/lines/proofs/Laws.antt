@@ -7,7 +7,7 @@ use native.Mathlib.Nat.{zero-sub, suc-sub-suc, sub-zero}
 use native.Mathlib.Omega.{arith, min-cases}
 use lib.Dec.{eqb, ltb, leb·suc-suc}
 use lib.ListN.{length, take, drop, length-append, length-take, length-drop, drop-of-length-le}
-use lib.Seq.{sets, length-sets, sets-eq, drop-length, drop-drop, take-at, length-take-le, take-nil, take-all}
+use lib.Seq.{sets, length-sets, sets-eq, drop-length, drop-drop, take-at, length-take-le}
 use borrow.Author.Tests.{lt-ltb}
 use Rattle.cdr.specs.Branch.{choose}
 use Rattle.lines.specs.Lines.{lf, upToLF, hasLF, afterLF, lastLine, linesFrom, linesOf, takenOf, keptInto}
@@ -125,20 +125,9 @@ lines-ended begun (c ∷ rest) more h =
     ∙ lines-ended (begun ++ (c ∷ [])) rest more (sym (has-other c rest e) ∙ h)
     ∙ ap (λ (l : List ℕ). l ∷ linesOf (afterLF rest ++ more)) (append-assoc begun (c ∷ []) (upToLF rest))))
 
--- characters without an LF lengthen the first line of what follows
-pub lines-lengthened : (u v : List ℕ) → hasLF u ≡ false → linesOf (u ++ v) ≡ linesFrom u v
-lines-lengthened u v h = lines-open [] u v h
-
-pub lines-lf : (l rest : List ℕ) → hasLF l ≡ false → linesOf (l ++ (lf ∷ rest)) ≡ l ∷ linesOf rest
-lines-lf l rest h = lines-lengthened l (lf ∷ rest) h ∙ from-lf lf rest refl l
-
 last-long : (l : List ℕ) → 0 < length l → lastLine l ≡ l ∷ []
 last-long [] h = absurd (omega arith)
 last-long (c ∷ l) h = refl
-
-last-short : (l : List ℕ) → length l ≤ 0 → lastLine l ≡ []
-last-short [] h = refl
-last-short (c ∷ l) h = absurd (omega arith)
 
 -- the last line, which has no LF
 pub lines-last : (begun : List ℕ) (c : ℕ) (rest : List ℕ) → hasLF (c ∷ rest) ≡ false
@@ -212,9 +201,6 @@ pub record Keeps (line : List ℕ) (kept : ℕ) (l : List ℕ) : Type 0 where
   pub count : kept ≡ length (take (length line) l)
   pub chars : take kept line ≡ take (length line) l
 
-pub keeps-none : (line : List ℕ) → Keeps line 0 []
-keeps-none line = record { count = ap length (sym (take-nil (length line))); chars = sym (take-nil (length line)) }
-
 take-append : (n : ℕ) (xs ys : List ℕ) → take n (xs ++ ys) ≡ take n xs ++ take (n - length xs) ys
 take-append zero xs ys = rw zero-sub
 take-append (suc n) [] ys = rw sub-zero
@@ -246,22 +232,3 @@ keeps-more block from line kept l k =
           ∙ ap (λ (x : List ℕ). x ++ vs) (k .chars)
           ∙ sym (take-append room l u ∙ ap (λ (m : ℕ). take room l ++ take m u) d));
     }
-
-module _ {line : List ℕ} {kept : ℕ} {l : List ℕ} (k : Keeps line kept l) where
-  kept-count : kept ≡ min (length line) (length l)
-  kept-count = k .count ∙ length-take (length line) l
-
-  -- where room is left, the whole line is kept
-  pub keeps-whole : kept < length line → take kept line ≡ l
-  keeps-whole h = k .chars ∙ take-all (length line) l (omega (arith, kept-count))
-
-  -- where none is, the line is at least as long as the buffer
-  pub keeps-long : length line ≤ kept → length line ≤ length l
-  keeps-long h = omega (arith, kept-count)
-
-  -- the end of input ends a line just where a character is kept
-  pub keeps-begun : 0 < kept → lastLine l ≡ l ∷ []
-  keeps-begun h = last-long l (omega (arith, kept-count))
-
-  pub keeps-unbegun : kept ≡ 0 → 0 < length line → lastLine l ≡ []
-  keeps-unbegun e h = last-short l (omega (arith, kept-count))

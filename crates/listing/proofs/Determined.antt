@@ -10,10 +10,10 @@ use Rattle.lines.specs.Lines.{linesOf}
 use Rattle.places.specs.declared.Record.{Record}
 use Rattle.places.specs.Places.{placesSize}
 use Rattle.joining.specs.Steps.{Step, stepOf}
-use Rattle.joining.specs.Answers.{messageOf, answerOf, answerNumber}
+use Rattle.joining.specs.Answers.{answerOf, answerNumber}
 use Rattle.sequence.proofs.Sequence.{fresh-start}
 use Rattle.sequence.proofs.Alike.{Alike, fresh-alike, alike-step, alike-message, alike-after}
-use Rattle.listing.specs.Listing.{octetsMost, messageMost, shownOf, Entry, joinedEntry, entryFrom, entryOf, numberAfter, entryText, openCount, listingFrom, freshRecord, listingOf}
+use Rattle.listing.specs.Listing.{octetsMost, messageMost, shownOf, Entry, joinedEntry, entryFrom, entryOf, numberAfter, entryText, listingFrom, freshRecord, listingOf}
 use Rattle.listing.specs.Blocks.{freshState}
 use Rattle.listing.proofs.Recordings.{Calls, recording-text}
 

@@ -1,8 +1,6 @@
 // Reads a recording: standard input is lines of hexadecimal, one message each. The listing goes to standard output: each line's
 // number, answer and message, or `-` where it gives none; last `end LINES OPEN`. A read or a write that fails is said on standard error,
 // and no `end` is written.
-ghost use Prim.Native.Nat.{_≤_};
-ghost use lib.ListN.{length};
 use libc::STDERR_FILENO;
 use libc::STDIN_FILENO;
 use libc::STDOUT_FILENO;

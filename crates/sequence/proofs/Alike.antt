@@ -20,7 +20,7 @@ use Rattle.places.specs.Places.{placeSize, isOpen, heldIn, placeOf, badRecord}
 use Rattle.joined.specs.Message.{bodyAfterId, corrected}
 use Rattle.joining.specs.Steps.{Step, Passes, Opens, Extends, Completes, Frees, Refuses, written, cancelled, differs, lengthAfter, continued, fragmentOf, startOf, withId, byId, messageStep, judged, stepOf}
 use Rattle.joining.specs.Answers.{messageOf, recordAfter, placesAfter}
-use Rattle.sequence.specs.Sequence.{State, acceptedLine, partsFrom, Fresh}
+use Rattle.sequence.specs.Sequence.{acceptedLine, partsFrom, Fresh}
 use Rattle.places.proofs.Finding.{Placed, place-is}
 use Rattle.sequence.proofs.Inversion.{Facts, step-says}
 use Rattle.sequence.proofs.Places.{not-bad}

@@ -1,5 +1,6 @@
 //! Frames before they are octets, so that faults can be planted in them.
 
+use chance::Chance;
 use second::frame::{
     CANCEL_REQUEST, CLOSE_CONNECTION, FRAGMENT, HEADER_LENGTH, LOCATE_REPLY, LOCATE_REQUEST,
     MESSAGE_ERROR, REPLY, REQUEST,
@@ -7,8 +8,6 @@ use second::frame::{
 use second::primitive::ulong_octets;
 
 pub use second::frame::{LITTLE, MORE};
-
-use crate::chance::Chance;
 
 /// What a frame says of its body's length.
 #[derive(Clone, Copy)]

@@ -2,9 +2,9 @@
 
 use std::collections::VecDeque;
 
+use chance::Chance;
 use second::frame::{CANCEL_REQUEST, FRAGMENT, LOCATE_REPLY, LOCATE_REQUEST, REPLY, REQUEST};
 
-use crate::chance::Chance;
 use crate::draft::{Draft, LITTLE, MORE};
 
 /// The octets of a request id.

@@ -1,10 +1,11 @@
 //! Inputs of the frame header's section.
 
+use chance::Chance;
 use second::frame::HEADER_LENGTH;
 
-use crate::chance::Chance;
 use crate::draft::{Draft, Fault, Size, FAULTS, LITTLE, MORE, OPEN_KINDS};
 use crate::judge::Judge;
+use crate::lines::digits_of;
 
 /// The flags of every byte order and more flag.
 const FLAGS: [u8; 4] = [0, LITTLE, MORE, LITTLE | MORE];
@@ -86,7 +87,7 @@ fn fault_pair(judge: &mut Judge, chance: &mut Chance, mut draft: Draft, faults: 
     let octets = draft.octets(chance);
     judge.frame(&octets);
     if chance.once_in(4) {
-        judge.line(&chance.digits(&octets));
+        judge.line(&digits_of(chance, &octets));
     }
 }
 
@@ -231,11 +232,11 @@ fn mutated_frames(judge: &mut Judge, chance: &mut Chance) {
     for _ in 0..10_000 {
         let sound = Draft::valid(chance).octets(chance);
         judge.frame(&sound);
-        judge.line(&chance.digits(&sound));
+        judge.line(&digits_of(chance, &sound));
         for _ in 0..4 {
             let octets = mutated(chance, sound.clone());
             judge.frame(&octets);
-            judge.line(&chance.digits(&octets));
+            judge.line(&digits_of(chance, &octets));
         }
     }
 }

@@ -1,9 +1,9 @@
 //! Inputs of the section on joining: the lines of recordings.
 
+use chance::Chance;
 use second::frame::{CLOSE_CONNECTION, FRAGMENT, MESSAGE_ERROR};
 use second::joining::{PLACES, PLACE_OCTETS};
 
-use crate::chance::Chance;
 use crate::draft::{Draft, FAULTS, LITTLE, MORE};
 use crate::fragments::{aligned_part, cancel, ids, interleaved, put, Message, LONGEST_PART};
 use crate::frames::mutated;

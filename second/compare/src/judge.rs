@@ -1,12 +1,12 @@
 //! Holds the archive's answers and lent memory to the second program's.
 
+use chance::Chance;
 use second::hexline::LONGEST_MESSAGE;
 use second::joining::{Answer, CANCELLED, JOINED, PLACE_OCTETS, WHOLE};
 use second::refusal::{LINE_TOO_LONG, OUTPUT_TOO_SHORT};
 use second::Header;
 
 use crate::archive::{self, HeaderNumbers};
-use crate::chance::Chance;
 use crate::joinings::Recording;
 use crate::lent::{LentHeader, LentJoining, LentOutput, Noise};
 use crate::tally::{Held, Section, Tally};

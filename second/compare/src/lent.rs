@@ -1,10 +1,10 @@
 //! Memory to lend, filled with a pattern so that every write to it shows.
 
+use chance::Chance;
 use second::frame::MINOR_AT;
 use second::joining::{Record, PLACE_OCTETS};
 
 use crate::archive::HeaderNumbers;
-use crate::chance::Chance;
 use crate::start::Start;
 
 /// Octets on either side of the lent ones, which nobody may touch.

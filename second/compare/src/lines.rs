@@ -1,8 +1,8 @@
 //! Inputs of the section on the archive's lines.
 
+use chance::Chance;
 use second::hexline::{LONGEST_LINE, LONGEST_MESSAGE};
 
-use crate::chance::Chance;
 use crate::judge::Judge;
 
 /// Judges all inputs of the section.
@@ -17,10 +17,21 @@ pub fn judge(judge: &mut Judge) {
     encode_runs(judge, chance);
 }
 
+/// The digits of the octets, each letter in either case.
+pub fn digits_of(chance: &mut Chance, octets: &[u8]) -> Vec<u8> {
+    let mut digits = second::encode(octets);
+    for digit in &mut digits {
+        if chance.once_in(2) {
+            digit.make_ascii_lowercase();
+        }
+    }
+    digits
+}
+
 /// So many digits by chance, of either case.
 fn digits(chance: &mut Chance, count: usize) -> Vec<u8> {
     let octets = chance.octets(count.div_ceil(2));
-    let mut digits = chance.digits(&octets);
+    let mut digits = digits_of(chance, &octets);
     digits.truncate(count);
     digits
 }

@@ -3,7 +3,6 @@
 //! an argument, holds that program's output too.
 
 mod archive;
-mod chance;
 mod draft;
 mod fragments;
 mod frames;

@@ -5,14 +5,15 @@ use std::path::Path;
 use std::process::{Command, Stdio};
 use std::thread;
 
+use chance::Chance;
 use second::hexline::LONGEST_LINE;
 use second::recording::answer_lines;
 
-use crate::chance::Chance;
 use crate::draft::{Draft, FAULTS};
 use crate::fragments::{Message, LONGEST_PART};
 use crate::joinings::{self, GENERATORS};
 use crate::judge::Judge;
+use crate::lines::digits_of;
 
 /// The characters that the proved program reads at once.
 const BLOCK: usize = 1 << 16;
@@ -64,7 +65,7 @@ fn generated(judge: &mut Judge, chance: &mut Chance, program: &Path) -> io::Resu
 fn text(chance: &mut Chance, lines: &[Vec<u8>]) -> Vec<u8> {
     let mut text = Vec::new();
     for line in lines {
-        text.extend(chance.digits(line));
+        text.extend(digits_of(chance, line));
         text.push(b'\n');
     }
     if chance.once_in(2) {
@@ -144,7 +145,7 @@ fn line(chance: &mut Chance) -> Vec<u8> {
         chance.pick(&FAULTS).plant(&mut draft);
     }
     let octets = draft.octets(chance);
-    let mut line = chance.digits(&octets);
+    let mut line = digits_of(chance, &octets);
     if chance.once_in(20) {
         line.push(chance.pick(b"\r 0gG\0"));
     }

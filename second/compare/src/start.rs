@@ -1,8 +1,8 @@
 //! What is lent at the start of a recording.
 
+use chance::Chance;
 use second::joining::{Record, PLACES, PLACE_OCTETS};
 
-use crate::chance::Chance;
 use crate::draft::LITTLE;
 
 /// The octets of all places.

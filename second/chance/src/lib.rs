@@ -1,4 +1,4 @@
-//! Numbers that look random and are the same at every run.
+//! Numbers that look random and are the same for the same seed.
 
 /// A generator of the splitmix kind.
 pub struct Chance(u64);
@@ -43,14 +43,12 @@ impl Chance {
         (0..count).map(|_| self.octet()).collect()
     }
 
-    /// The digits of the octets, each letter in either case.
-    pub fn digits(&mut self, octets: &[u8]) -> Vec<u8> {
-        let mut digits = second::encode(octets);
-        for digit in &mut digits {
-            if self.once_in(2) {
-                digit.make_ascii_lowercase();
-            }
+    /// Adds so many octets, eight at a time.
+    pub fn add_octets(&mut self, octets: &mut Vec<u8>, count: usize) {
+        let end = octets.len() + count;
+        while octets.len() < end {
+            octets.extend_from_slice(&self.next().to_le_bytes());
         }
-        digits
+        octets.truncate(end);
     }
 }
