@@ -219,10 +219,10 @@ onto-block block (suc n) w =
 
 -- a whole call
 module _ (block : List ℕ) (from : ℕ) (line places out : List ℕ) (state : State) where
-  abbrev start : Work
+  abbrev pub start : Work
   start = workOf (startOf block from state) line places out
 
-  abbrev done : Work
+  abbrev pub done : Work
   done = blockFrom (length block) block start
 
   onto : Onto block start done
@@ -264,3 +264,6 @@ module _ (block : List ℕ) (from : ℕ) (line places out : List ℕ) (state : S
       → BlockAnswered block from line places out state r lineLast placesLast outLast
   block-answered r lineLast placesLast outLast e =
       subst (λ (w : Work). BlockAnswered block from line places out state (w .at) (w .line) (w .places) (w .out)) (sym e) answered
+
+  pub block-lined : length (done .line) ≡ length line
+  block-lined = onto .lined
