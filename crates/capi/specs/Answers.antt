@@ -3,9 +3,11 @@
 --   decodedCount     the octets that decoding wrote
 --   encodedCount     the digits that encoding wrote
 --   headerAfter      the seven numbers of an accepted header
---   answerTo         the answer to a line
 --   joinedCount      how many octets joining wrote
---   DecodesC .. JoinsC    what a call ensures: the number that it returns, and all that was lent after it
+--   DecodesC         what a call of each function ensures: the number that it returns, and all that was lent after it,
+--   EncodesC         of an encoding,
+--   JudgesC          of a header
+--   JoinsC           and of a line that is joined
 use mathlib.Core.Path.{_≡_}
 use mathlib.Core.List.{List}
 use Prim.Native.Nat.{ℕ}
@@ -21,9 +23,9 @@ use Rattle.frame.specs.declared.Frame.the-variants.{Accepted, Refused as Unacce
 use Rattle.frame.specs.Frames.{frameOf, frameNumber, headerNumbers}
 use Rattle.places.specs.declared.Record.{Record}
 use Rattle.joining.specs.declared.Answer.{Answer}
-use Rattle.joining.specs.declared.Answer.the-variants.{Whole, Held, Joined, Cancelled, Refused}
-use Rattle.joining.specs.Steps.{stepOf}
-use Rattle.joining.specs.Answers.{messageOf, answerOf, recordAfter, placesAfter, outputAfter, answerNumber}
+use Rattle.joining.specs.declared.Output.{Output}
+use Rattle.joining.specs.declared.Output.the-variants.{Message, Nothing}
+use Rattle.joining.specs.Answers.{answerNumber, outputIn, Joins}
 use Rattle.capi.specs.declared.Numbered.{Numbered}
 
 abbrev pub decodedCount : Decoded → ℕ → ℕ
@@ -40,16 +42,9 @@ abbrev pub headerAfter : Frame → List ℕ → List ℕ
 headerAfter (Accepted h) before = headerNumbers h
 headerAfter (Unaccepted r) before = before
 
-abbrev pub answerTo : List ℕ → Record → List ℕ → ℕ → Answer
-answerTo v before places room =
-    answerOf (stepOf v before places room) (length (messageOf (stepOf v before places room) before v places))
-
-abbrev pub joinedCount : Answer → ℕ → ℕ
-joinedCount (Whole n) before = n
-joinedCount Held before = before
-joinedCount (Joined n) before = n
-joinedCount (Cancelled n) before = n
-joinedCount (Refused why) before = before
+abbrev pub joinedCount : Output → ℕ → ℕ
+joinedCount (Message n) before = n
+joinedCount Nothing before = before
 
 pub record DecodesC (line out : List ℕ) (count r : ℕ) (outAfter : List ℕ) (countAfter : ℕ) : Type 0 where
   pub number : r ≡ decodedNumber (decodedOf line (length out))
@@ -66,8 +61,7 @@ pub record JudgesC (octets header : List ℕ) (r : ℕ) (headerLast : List ℕ) 
   pub values : headerLast ≡ headerAfter (frameOf octets) header
 
 pub record JoinsC (v : List ℕ) (before : Record) (places out : List ℕ) (count : ℕ) (r : Numbered) (placesLast outLast : List ℕ) (countLast : ℕ) : Type 0 where
-  pub number : r .number ≡ answerNumber (answerTo v before places (length out))
-  pub after : r .after ≡ recordAfter (stepOf v before places (length out)) before v
-  pub stored : placesLast ≡ placesAfter (stepOf v before places (length out)) before v places
-  pub output : outLast ≡ outputAfter (stepOf v before places (length out)) before v places out
-  pub counted : countLast ≡ joinedCount (answerTo v before places (length out)) count
+  pub answer : Answer
+  pub joins : Joins v before places out (record { answer = answer; after = r .after }) placesLast outLast
+  pub number : r .number ≡ answerNumber answer
+  pub counted : countLast ≡ joinedCount (outputIn answer) count

@@ -1,2 +1,2 @@
--- What the C interface leaves in the numbers that it is lent.
+-- What the C interface answers, and what it leaves in all that it is lent.
 pub mod Answers

@@ -2,6 +2,7 @@
 ghost use mathlib.Core.Path.{_≡_};
 ghost use mathlib.Core.Bool.{cond};
 ghost use Rattle.frame.specs.Frames.{headerNumbers};
+ghost use Rattle.joining.specs.Answers.{outputIn};
 ghost use Rattle.capi.specs.Answers.{joinedCount, DecodesC, EncodesC, JudgesC, JoinsC};
 use frame::Frame;
 use frame::Header;
@@ -9,6 +10,7 @@ use frame::RequestId;
 use hexline::Decoded;
 use hexline::Encoded;
 use joining::Answer;
+use joining::Output;
 use places::Record;
 
 // A line's characters to octets in `out`, and their number in `count`; 10, 11, or 27 where `out` is too short.
@@ -140,13 +142,10 @@ fn joined(
 
 // The number of octets written, or what was there where none are.
 fn joined_count(answer: Answer, before: u64) -> u64
-    ensures { λ r. ⌜ r ≡ joinedCount answer before ⌝ }
+    ensures { λ r. ⌜ r ≡ joinedCount (outputIn answer) before ⌝ }
 {
-    match answer {
-        Answer::Whole(n) => n as u64,
-        Answer::Held => before,
-        Answer::Joined(n) => n as u64,
-        Answer::Cancelled(n) => n as u64,
-        Answer::Refused(_) => before,
+    match answer.output() {
+        Output::Message(n) => n as u64,
+        Output::Nothing => before,
     }
 }

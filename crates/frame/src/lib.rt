@@ -77,7 +77,7 @@ pub const FRAGMENT: u8 = 7;
 const HEADER_SIZE: usize = 12;
 
 // The most octets of a line's message.
-const MESSAGE_LIMIT: usize = 4096;
+pub const MESSAGE_LIMIT: usize = 4096;
 
 // `GIOP`, as a number of four octets.
 const GIOP: u32 = 0x47494F50;

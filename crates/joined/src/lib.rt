@@ -12,6 +12,11 @@ use cdr::Size;
 // The octets of a header.
 const HEADER_SIZE: usize = 12;
 
+// Where a header has its flags and its size.
+const FLAGS_OFFSET: usize = 6;
+
+const SIZE_OFFSET: usize = 8;
+
 // What writing a joined message gives: its octets; or that it does not fit, or that its first octets are no header, and
 // nothing was written.
 pub enum Assembled {
@@ -53,8 +58,8 @@ fn correct(out: &mut [u8], total: usize)
     requires { ⌜ (headerSize ≤ total) × (total ≤ length (now out)) ⌝ }
     ensures { λ _. ⌜ now (out .exit) ≡ sets (set (now (out .entry)) flagsOffset (moreCleared (flagsAt (now (out .entry))))) sizeOffset (octetsOf (orderAt (now (out .entry))) 4 (total - headerSize)) ⌝ }
 {
-    let flags = out[6];
-    out[6] = more_cleared(flags);
-    let size = (total - 12) as u64;
-    writing::write_number(out, 8, Size::Four, frame::order_flag(flags), size);
+    let flags = out[FLAGS_OFFSET];
+    out[FLAGS_OFFSET] = more_cleared(flags);
+    let size = (total - HEADER_SIZE) as u64;
+    writing::write_number(out, SIZE_OFFSET, Size::Four, frame::order_flag(flags), size);
 }

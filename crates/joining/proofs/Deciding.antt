@@ -1,11 +1,11 @@
 -- The ways of a step's definition, and what an accepted message and a record that is not refused say.
 use mathlib.Core.Path.{_≡_, refl, sym, ap, subst, _∙_}
 use mathlib.Core.List.{List}
-use mathlib.Core.Bool.{true, false, cond}
+use mathlib.Core.Bool.{true, false, cond, not}
 use Prim.Native.Nat.{ℕ, _≤_, _<_}
 use native.Mathlib.Omega.{arith}
 use lib.ListN.{length}
-use borrow.Author.Tests.{leb-true, eqb-true, lt-ltb, le-ltb}
+use borrow.Author.Tests.{leb-true, eqb-true, lt-ltb, le-ltb, not-true}
 use Rattle.frame.specs.declared.Header.{Header}
 use Rattle.frame.specs.declared.RequestId.{RequestId}
 use Rattle.frame.specs.declared.Frame.{Frame}
@@ -17,13 +17,14 @@ use Rattle.frame.proofs.Accepts.{frame-accepts}
 use Rattle.places.specs.declared.Record.{Record}
 use Rattle.places.specs.declared.Found.{Found}
 use Rattle.places.specs.declared.Found.the-variants.{At, Nowhere}
-use Rattle.places.specs.Places.{placeSize, heldIn, placeOf, allOpen, lowestFree, badRecord, isAt}
+use Rattle.places.specs.Places.{placesCount, placeSize, heldIn, placeOf, lowestFree, badRecord, isAt}
 use Rattle.joined.specs.Message.{idEnd}
 use Rattle.joining.specs.declared.Refusal.the-variants.{BadRecord, IdOpen, FourOpen, FirstDiffers, TooLong, NoRoom}
-use Rattle.joining.specs.Steps.{Step, Passes, Opens, Extends, Completes, Refuses, written, cancelled, differs, lengthAfter, continued, fragmentOf, startOf, withId, byId, messageStep, judged, stepOf}
-use Rattle.places.proofs.Sound.{is-at, free-within, sound-lent, sound-length}
+use Rattle.joining.specs.Steps.{Step, Passes, Opens, Extends, Completes, Refuses, written, cancelled, differs, lengthAfter, continued, fragmentOf, firstOf, startOf, withId, byId, messageStep, judged, stepOf}
+use Rattle.places.proofs.Choices.{and-true}
+use Rattle.places.proofs.Sound.{is-at, Within as FreeWithin, free-within, sound-lent, sound-length}
 use Rattle.places.proofs.Finding.{Placed, place-is, place-found}
-use Rattle.joining.specs.Inner.{Sound, Within, Opening, Continues}
+use Rattle.joining.specs.Inner.{Sound, Within, lacksPlace, Opening, Continues}
 
 -- a place that is found is one of the four
 within-placed : (r : Record) (id : ℕ) (f : Found) → Placed r id f → Within f
@@ -60,13 +61,8 @@ continues v h r places id i s k e =
     record { place = f .place; lent = sound-lent r (length places) (s .sound); id = n .0; short = n .1; least = l .0; most = l .1 }
 
 -- what a first fragment's function asks
-pub opening : (v : List ℕ) (h : Header) (r : Record) (places : List ℕ) (i : ℕ) → i ≡ lowestFree r → Sound v h r places → Opening v places i
-opening v h r places i e s =
-    record {
-      place = subst (λ (x : ℕ). x < 4) (sym e) (free-within r);
-      lent = sound-lent r (length places) (s .sound);
-      short = frame-accepts v h (s .accepted) .0;
-    }
+pub opening : (v : List ℕ) (h : Header) (r : Record) (places : List ℕ) → Sound v h r places → Opening v places
+opening v h r places s = record { lent = sound-lent r (length places) (s .sound); short = frame-accepts v h (s .accepted) .0 }
 
 -- the ways of a fragment
 pub first-differs : (r : Record) (places : List ℕ) (room n : ℕ) (h : Header) (i : ℕ) → differs (heldIn r places i) h ≡ true
@@ -98,20 +94,32 @@ id-open r room n h id (At i) e = refl
 id-open r room n h id Nowhere e = let z : _≡_ {A = ℕ} 0 1 = cc in absurd (omega arith)
 
 starts : (r : Record) (room n : ℕ) (h : Header) (id : ℕ) (f : Found) → isAt f ≡ false
-    → startOf r room n h id f ≡ cond (h .more) (cond (allOpen r) (Refuses FourOpen) (Opens (lowestFree r) id)) (written room n Passes)
+    → startOf r room n h id f ≡ cond (h .more) (firstOf id (lowestFree r)) (written room n Passes)
 starts r room n h id f e = ap (startOf r room n h id) (is-at f e)
 
 pub starts-whole : (r : Record) (room n : ℕ) (h : Header) (id : ℕ) (f : Found) → isAt f ≡ false → h .more ≡ false
     → startOf r room n h id f ≡ written room n Passes
 starts-whole r room n h id f e m = starts r room n h id f e ∙ rw m
 
-pub four-open : (r : Record) (room n : ℕ) (h : Header) (id : ℕ) (f : Found) → isAt f ≡ false → h .more ≡ true → allOpen r ≡ true
-    → startOf r room n h id f ≡ Refuses FourOpen
-four-open r room n h id f e m a = starts r room n h id f e ∙ rw (m, a)
+pub starts-first : (r : Record) (room n : ℕ) (h : Header) (id : ℕ) (f : Found) → isAt f ≡ false → h .more ≡ true
+    → startOf r room n h id f ≡ firstOf id (lowestFree r)
+starts-first r room n h id f e m = starts r room n h id f e ∙ rw m
 
-pub starts-first : (r : Record) (room n : ℕ) (h : Header) (id : ℕ) (f : Found) (i : ℕ) → isAt f ≡ false → h .more ≡ true → allOpen r ≡ false
-    → i ≡ lowestFree r → startOf r room n h id f ≡ Opens i id
-starts-first r room n h id f i e m a l = starts r room n h id f e ∙ rw (m, a, l)
+pub four-open : (r : Record) (room n : ℕ) (h : Header) (id : ℕ) (f : Found) → isAt f ≡ false → lacksPlace (h .more) r ≡ true
+    → startOf r room n h id f ≡ Refuses FourOpen
+four-open r room n h id f e l =
+    let both = and-true (h .more) (not (isAt (lowestFree r))) l in
+    starts-first r room n h id f e (both .0) ∙ ap (firstOf id) (is-at (lowestFree r) (not-true (isAt (lowestFree r)) (both .1)))
+
+-- the ways of a first fragment
+pub no-place : (r : Record) (id : ℕ) (f : Found) → f ≡ lowestFree r → f ≡ Nowhere → firstOf id (lowestFree r) ≡ Refuses FourOpen
+no-place r id f e n = ap (firstOf id) (sym e ∙ n)
+
+pub free-place : (r : Record) (f : Found) (i : ℕ) → f ≡ lowestFree r → f ≡ At i → i < placesCount
+free-place r f i e a = subst FreeWithin (sym e ∙ a) (free-within r)
+
+pub opens-place : (r : Record) (id : ℕ) (f : Found) (i : ℕ) → f ≡ lowestFree r → f ≡ At i → firstOf id (lowestFree r) ≡ Opens i id
+opens-place r id f i e a = ap (firstOf id) (sym e ∙ a)
 
 -- the ways of a message with a request id
 pub cancels : (r : Record) (places : List ℕ) (room n : ℕ) (h : Header) (id : ℕ) → isCancel (h .kind) ≡ true

@@ -1,13 +1,14 @@
 -- What a step answers, and what it leaves in the record, the places and the output. "Lent memory that an answer doesn't fill keeps its
 -- contents": `sets l at xs` is a run of stores, the octets `xs` from `at` on, the rest as it was.
---   messageOf       the message that is written, or none
+--   messageWritten  the message that is written, or none
 --   answerOf        "0 whole message; 1 held ..; 2 joined; 3 a CancelRequest whose id was open", with how many octets are written
+--   answerTo        the answer to a step, with the octets of the message that it writes
+--   outputIn        the octets that an answer writes: "Answers 0, 2 and 3 write a message"
 --   recordAfter     the record, "which only an accepted line may change"
 --   placesAfter     the octets of the places: a first one's at the start, a fragment's body after the id behind what is held
 --   outputAfter     "Answers 0, 2 and 3 write a message into the lent output, from its start"
 --   refusalNumber   the number of each refusal
 --   answerNumber    the number of each answer
---   answerNumbers   and how many octets are written; "a refusal's other numbers are 0"
 --   refusedWith     a refusal, with the record as it was
 --   Does            what a step ensures: the answer, the record after, and every octet of the places and of the output
 --   Joins           what a call ensures: what the step of its line does
@@ -22,18 +23,20 @@ use Rattle.joining.specs.declared.Refusal.{Refusal}
 use Rattle.joining.specs.declared.Refusal.the-variants.{Frame, BadRecord, IdOpen, FourOpen, IdNotOpen, FirstDiffers, TooLong, NoRoom}
 use Rattle.joining.specs.declared.Answer.{Answer}
 use Rattle.joining.specs.declared.Answer.the-variants.{Whole, Held, Joined, Cancelled, Refused}
+use Rattle.joining.specs.declared.Output.{Output}
+use Rattle.joining.specs.declared.Output.the-variants.{Message, Nothing}
 use Rattle.joining.specs.declared.Outcome.{Outcome}
 use Rattle.places.specs.Places.{placeStart, lengthOf, heldIn, closed, opened, lengthened}
 use Rattle.joined.specs.Message.{bodyAfterId, corrected}
 use Rattle.joining.specs.Steps.{Step, Passes, Opens, Extends, Completes, Frees, Refuses, lengthAfter, stepOf}
 
-abbrev pub messageOf : Step → Record → List ℕ → List ℕ → List ℕ
-messageOf Passes r v places = v
-messageOf (Opens i id) r v places = []
-messageOf (Extends i) r v places = []
-messageOf (Completes i) r v places = corrected (heldIn r places i ++ bodyAfterId v)
-messageOf (Frees i) r v places = v
-messageOf (Refuses why) r v places = []
+abbrev pub messageWritten : Step → Record → List ℕ → List ℕ → List ℕ
+messageWritten Passes r v places = v
+messageWritten (Opens i id) r v places = []
+messageWritten (Extends i) r v places = []
+messageWritten (Completes i) r v places = corrected (heldIn r places i ++ bodyAfterId v)
+messageWritten (Frees i) r v places = v
+messageWritten (Refuses why) r v places = []
 
 abbrev pub answerOf : Step → ℕ → Answer
 answerOf Passes n = Whole n
@@ -42,6 +45,16 @@ answerOf (Extends i) n = Held
 answerOf (Completes i) n = Joined n
 answerOf (Frees i) n = Cancelled n
 answerOf (Refuses why) n = Refused why
+
+abbrev pub answerTo : Step → Record → List ℕ → List ℕ → Answer
+answerTo step r v places = answerOf step (length (messageWritten step r v places))
+
+abbrev pub outputIn : Answer → Output
+outputIn (Whole n) = Message n
+outputIn Held = Nothing
+outputIn (Joined n) = Message n
+outputIn (Cancelled n) = Message n
+outputIn (Refused why) = Nothing
 
 abbrev pub recordAfter : Step → Record → List ℕ → Record
 recordAfter Passes r v = r
@@ -60,7 +73,7 @@ placesAfter (Frees i) r v places = places
 placesAfter (Refuses why) r v places = places
 
 abbrev pub outputAfter : Step → Record → List ℕ → List ℕ → List ℕ → List ℕ
-outputAfter step r v places out = sets out 0 (messageOf step r v places)
+outputAfter step r v places out = sets out 0 (messageWritten step r v places)
 
 abbrev pub refusalNumber : Refusal → ℕ
 refusalNumber (Frame row) = rowNumber row
@@ -79,18 +92,11 @@ answerNumber (Joined n) = 2
 answerNumber (Cancelled n) = 3
 answerNumber (Refused why) = refusalNumber why
 
-abbrev pub answerNumbers : Answer → List ℕ
-answerNumbers (Whole n) = 0 ∷ n ∷ []
-answerNumbers Held = 1 ∷ 0 ∷ []
-answerNumbers (Joined n) = 2 ∷ n ∷ []
-answerNumbers (Cancelled n) = 3 ∷ n ∷ []
-answerNumbers (Refused why) = refusalNumber why ∷ 0 ∷ []
-
 abbrev pub refusedWith : Record → Refusal → Outcome
 refusedWith before why = record { answer = Refused why; after = before }
 
 pub record Does (step : Step) (v : List ℕ) (before : Record) (places out : List ℕ) (r : Outcome) (placesLast outLast : List ℕ) : Type 0 where
-  pub answer : r .answer ≡ answerOf step (length (messageOf step before v places))
+  pub answer : r .answer ≡ answerTo step before v places
   pub after : r .after ≡ recordAfter step before v
   pub stored : placesLast ≡ placesAfter step before v places
   pub output : outLast ≡ outputAfter step before v places out

@@ -1,20 +1,21 @@
 -- What the private functions of the crate ask of each other; nothing that a caller is told rests on these names.
 --   Sound       an accepted message, a record that is not refused, and places that have their octets
 --   Within      a place that was found is one of the four
---   Opening     a first fragment's octets, and a place for them
+--   lacksPlace  whether a message is a first fragment, and no place is free for it
+--   Opening     a first fragment's octets, and places that have theirs
 --   Continues   a fragment's octets, and the place of its open message
 use mathlib.Core.Path.{_≡_}
-use mathlib.Core.Bool.{false}
+use mathlib.Core.Bool.{Bool, false, not, _&&_}
 use mathlib.Core.List.{List}
 use Prim.Native.Nat.{ℕ, _≤_, _<_}
 use lib.ListN.{length}
 use Rattle.frame.specs.declared.Header.{Header}
 use Rattle.frame.specs.declared.Frame.the-variants.{Accepted}
-use Rattle.frame.specs.Frames.{frameOf}
+use Rattle.frame.specs.Frames.{messageLimit, frameOf}
 use Rattle.places.specs.declared.Record.{Record}
 use Rattle.places.specs.declared.Found.{Found}
 use Rattle.places.specs.declared.Found.the-variants.{At, Nowhere}
-use Rattle.places.specs.Places.{placeSize, placesSize, lengthOf, badRecord}
+use Rattle.places.specs.Places.{placesCount, placeSize, placesSize, lengthOf, isAt, lowestFree, badRecord}
 use Rattle.joined.specs.Message.{idEnd}
 
 pub record Sound (v : List ℕ) (h : Header) (r : Record) (places : List ℕ) : Type 0 where
@@ -22,18 +23,20 @@ pub record Sound (v : List ℕ) (h : Header) (r : Record) (places : List ℕ) : 
   pub sound : badRecord r (length places) ≡ false
 
 abbrev pub Within : Found → Type 0
-Within (At i) = i < 4
+Within (At i) = i < placesCount
 Within Nowhere = Unit {0}
 
-pub record Opening (v places : List ℕ) (i : ℕ) : Type 0 where
-  pub place : i < 4
+abbrev pub lacksPlace : Bool → Record → Bool
+lacksPlace more r = more && not (isAt (lowestFree r))
+
+pub record Opening (v places : List ℕ) : Type 0 where
   pub lent : placesSize ≤ length places
-  pub short : length v ≤ 4096
+  pub short : length v ≤ messageLimit
 
 pub record Continues (v : List ℕ) (r : Record) (places : List ℕ) (i : ℕ) : Type 0 where
-  pub place : i < 4
+  pub place : i < placesCount
   pub lent : placesSize ≤ length places
   pub id : idEnd ≤ length v
-  pub short : length v ≤ 4096
+  pub short : length v ≤ messageLimit
   pub least : idEnd ≤ lengthOf r i
   pub most : lengthOf r i ≤ placeSize

@@ -7,7 +7,8 @@
 --   lengthAfter     the length with a fragment's body after the id added
 --   continued       25, 26, then "1 held (a first or middle fragment)" or "2 joined"
 --   fragmentOf      24: "a fragment whose id is not open"
---   startOf         22: "a 1.2 message of types 0, 1, 3, 4 whose id is open"; 23: "a first fragment when four are open"
+--   firstOf         23: "a first fragment when four are open", else its place is opened
+--   startOf         22: "a 1.2 message of types 0, 1, 3, 4 whose id is open"
 --   withId          by the type of a message that has a request id
 --   byId            a message without a request id that counts is "0 whole message"
 --   messageStep     28 comes "after 21 and before these six, for any message"
@@ -32,7 +33,7 @@ use Rattle.places.specs.declared.Found.{Found}
 use Rattle.places.specs.declared.Found.the-variants.{At, Nowhere}
 use Rattle.joining.specs.declared.Refusal.{Refusal}
 use Rattle.joining.specs.declared.Refusal.the-variants.{Frame as InFrame, BadRecord, IdOpen, FourOpen, IdNotOpen, FirstDiffers, TooLong, NoRoom}
-use Rattle.places.specs.Places.{placeSize, lengthOf, heldIn, placeOf, allOpen, lowestFree, badRecord}
+use Rattle.places.specs.Places.{placeSize, lengthOf, heldIn, placeOf, lowestFree, badRecord}
 use Rattle.joined.specs.Message.{idEnd}
 
 pub data Step : Type 0 where
@@ -67,10 +68,13 @@ abbrev pub fragmentOf : Record → List ℕ → ℕ → ℕ → Header → Found
 fragmentOf r places room n h (At i) = continued r places room n h i
 fragmentOf r places room n h Nowhere = Refuses IdNotOpen
 
+abbrev pub firstOf : ℕ → Found → Step
+firstOf id (At i) = Opens i id
+firstOf id Nowhere = Refuses FourOpen
+
 abbrev pub startOf : Record → ℕ → ℕ → Header → ℕ → Found → Step
 startOf r room n h id (At i) = Refuses IdOpen
-startOf r room n h id Nowhere =
-    cond (h .more) (cond (allOpen r) (Refuses FourOpen) (Opens (lowestFree r) id)) (written room n Passes)
+startOf r room n h id Nowhere = cond (h .more) (firstOf id (lowestFree r)) (written room n Passes)
 
 unfoldable pub withId : Record → List ℕ → ℕ → ℕ → Header → ℕ → Step
 withId r places room n h id =

@@ -5,10 +5,10 @@ ghost use Prim.Native.Nat.{ℕ, _≤_};
 ghost use lib.ListN.{length};
 ghost use Rattle.frame.specs.declared.Frame.the-variants.{Accepted};
 ghost use Rattle.frame.specs.Frames.{frameOf};
-ghost use Rattle.places.specs.Places.{placeSize};
-ghost use Rattle.joining.specs.Steps.{Passes, Opens, Extends, Completes, written, cancelled, lengthAfter, continued, startOf, withId, messageStep};
-ghost use Rattle.joining.specs.Answers.{refusalNumber, answerNumber, refusedWith, Does, Joins};
-ghost use Rattle.joining.specs.Inner.{Sound, Within, Opening, Continues};
+ghost use Rattle.places.specs.Places.{placeSize, lowestFree};
+ghost use Rattle.joining.specs.Steps.{Passes, Extends, Completes, written, cancelled, lengthAfter, continued, firstOf, startOf, withId, messageStep};
+ghost use Rattle.joining.specs.Answers.{refusalNumber, answerNumber, outputIn, refusedWith, Does, Joins};
+ghost use Rattle.joining.specs.Inner.{Sound, Within, lacksPlace, Opening, Continues};
 use frame::Frame;
 use frame::Header;
 use frame::RequestId;
@@ -71,6 +71,25 @@ impl Answer {
             Answer::Refused(why) => why.number(),
         }
     }
+
+    // The message that the answer writes.
+    pub fn output(self) -> Output
+        ensures { λ r. ⌜ r ≡ outputIn self ⌝ }
+    {
+        match self {
+            Answer::Whole(n) => Output::Message(n),
+            Answer::Held => Output::Nothing,
+            Answer::Joined(n) => Output::Message(n),
+            Answer::Cancelled(n) => Output::Message(n),
+            Answer::Refused(_) => Output::Nothing,
+        }
+    }
+}
+
+// The octets of the message that an answer writes, if it writes one.
+pub enum Output {
+    Message(usize),
+    Nothing,
 }
 
 // The answer, and the record after the line.
@@ -185,24 +204,38 @@ fn start(
     ensures { λ r. ⌜ Does (startOf before (length (now (out .entry))) (length (now (octets .entry))) h id found) (now (octets .entry)) before (now (places .entry)) (now (out .entry)) r (now (places .exit)) (now (out .exit)) ⌝ }
 {
     let open = places::is_at(found);
-    let full = places::all_open(before);
+    let full = lacks_place(h.more, before);
     if open {
         return refused(before, Refusal::IdOpen);
-    }
-    if !h.more {
-        return whole(octets, before, out);
     }
     if full {
         return refused(before, Refusal::FourOpen);
     }
-    first(octets, id, places::lowest_free(before), before, places)
+    if !h.more {
+        return whole(octets, before, out);
+    }
+    first(octets, id, before, places)
 }
 
-// Opens a place for a first fragment.
-fn first(octets: &[u8], id: u32, i: usize, before: Record, places: &mut [u8]) -> Outcome
-    requires { ⌜ Opening (now octets) (now places) i ⌝ }
-    ensures { λ r. ⌜ ((out : List ℕ) → Does (Opens i id) (now (octets .entry)) before (now (places .entry)) out r (now (places .exit)) out) ⌝ }
+// Whether a message is a first fragment, and no place is free for it.
+fn lacks_place(more: bool, before: Record) -> bool
+    ensures { λ r. ⌜ r ≡ lacksPlace more before ⌝ }
 {
+    if more {
+        !places::is_at(places::lowest_free(before))
+    } else {
+        false
+    }
+}
+
+// Opens the lowest free place for a first fragment.
+fn first(octets: &[u8], id: u32, before: Record, places: &mut [u8]) -> Outcome
+    requires { ⌜ Opening (now octets) (now places) ⌝ }
+    ensures { λ r. ⌜ ((out : List ℕ) → Does (firstOf id (lowestFree before)) (now (octets .entry)) before (now (places .entry)) out r (now (places .exit)) out) ⌝ }
+{
+    let Found::At(i) = places::lowest_free(before) else {
+        return refused(before, Refusal::FourOpen);
+    };
     writing::write_octets(places, i * places::PLACE_SIZE, octets);
     Outcome {
         answer: Answer::Held,
@@ -266,6 +299,7 @@ fn complete(octets: &[u8], i: usize, before: Record, places: &[u8], out: &mut [u
             after: freed,
         },
         Assembled::NoRoom => refused(before, Refusal::NoRoom),
+        // Never: a record that is not refused holds at least a header and a request id of each open message.
         Assembled::NoHeader => refused(before, Refusal::NoRoom),
     }
 }

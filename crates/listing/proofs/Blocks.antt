@@ -13,7 +13,7 @@ use Rattle.lines.specs.Lines.{takenOf, keptInto, LineTaken}
 use Rattle.lines.proofs.Laws.{by-test, next-more}
 use Rattle.listing.specs.declared.line.Listed.{Listed}
 use Rattle.listing.specs.Listing.{entryOf, numberAfter}
-use Rattle.listing.specs.Answers.{longest}
+use Rattle.listing.specs.Listing.{longest}
 use Rattle.listing.specs.Blocks.{lineRoom, Work, goesOn, ended, begun, turnOf, blockFrom, workOf}
 use Rattle.listing.specs.Inner.{Lists}
 

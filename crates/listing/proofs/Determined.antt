@@ -8,14 +8,15 @@ use Rattle.hexline.specs.declared.Decoded.the-variants.{Octets, TooLong, NotDig
 use Rattle.hexline.specs.Decoding.{lineOctets, decodedOf}
 use Rattle.lines.specs.Lines.{linesOf}
 use Rattle.places.specs.declared.Record.{Record}
-use Rattle.places.specs.Places.{placesSize}
+use Rattle.places.specs.Places.{placesSize, freshRecord}
 use Rattle.joining.specs.Steps.{Step, stepOf}
-use Rattle.joining.specs.Answers.{answerOf, answerNumber}
+use Rattle.joining.specs.Answers.{answerOf, outputIn, answerNumber}
 use Rattle.sequence.proofs.Sequence.{fresh-start}
 use Rattle.sequence.proofs.Alike.{Alike, fresh-alike, alike-step, alike-message, alike-after}
-use Rattle.listing.specs.Listing.{octetsMost, messageMost, shownOf, Entry, joinedEntry, entryFrom, entryOf, numberAfter, entryText, listingFrom, freshRecord, listingOf}
+use Rattle.listing.specs.Listing.{octetsMost, messageMost, shownOf, Entry, joinedEntry, entryFrom, entryOf, numberAfter, entryText, listingFrom, listingOf}
 use Rattle.listing.specs.Blocks.{freshState}
-use Rattle.listing.proofs.Recordings.{Calls, recording-text}
+use Rattle.listing.specs.Calls.{Calls}
+use Rattle.listing.proofs.Recordings.{recording-text}
 
 -- two entries that say the same, and leave the same record and places that hold the same
 record Agree (e f : Entry) : Type 0 where
@@ -32,7 +33,7 @@ module _ (r : Record) (p q : List ℕ) (a : Alike r p q) where
       subst (λ (s : Step). Agree (joinedEntry step v r p) (joinedEntry s v r q)) (alike-step r p q a v messageMost)
       (record {
         number = ap (λ (l : List ℕ). answerNumber (answerOf step (length l))) m;
-        shown = ap (λ (l : List ℕ). shownOf (answerOf step (length l)) l) m;
+        shown = ap (λ (l : List ℕ). shownOf (outputIn (answerOf step (length l))) l) m;
         after = refl;
         alike = alike-after r p q a v messageMost;
       })

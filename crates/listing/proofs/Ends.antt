@@ -6,38 +6,23 @@ use Prim.Native.Nat.{ℕ, _+_, _<_, _≤_, min}
 use native.Mathlib.Omega.{arith, min-cases}
 use lib.ListN.{length, take, length-append}
 use lib.Seq.{length-sets, take-all, length-take-le}
-use mir.Val.{boolByte}
 use borrow.Author.Tests.{le-leb, lt-leb, leb-true}
 use Rattle.writing.specs.declared.Written.the-variants.{Upto, NoRoom}
 use Rattle.hexline.proofs.Laws.{clash}
 use Rattle.lines.specs.Lines.{lf, lastLine, linesFrom}
 use Rattle.lines.proofs.Laws.{by-test, lines-end}
 use Rattle.places.specs.declared.Record.{Record}
-use Rattle.places.specs.Places.{isOpen}
+use Rattle.places.specs.Places.{openCount}
 use Rattle.listing.specs.declared.State.{State}
 use Rattle.listing.specs.declared.line.Listed.{Listed}
 use Rattle.listing.specs.Text.{space, decimal, endText}
-use Rattle.listing.specs.Listing.{entryOf, numberAfter, entryText, openCount, listingFrom}
-use Rattle.listing.specs.Answers.{longest}
+use Rattle.listing.specs.Listing.{entryOf, numberAfter, entryText, listingFrom}
+use Rattle.listing.specs.Listing.{longest}
 use Rattle.listing.specs.Blocks.{closing, storedFrom, endOf, endRoom, EndAnswered}
 use Rattle.listing.specs.Inner.{Put, Lists}
 use Rattle.listing.proofs.Puts.{put-then, number-most}
 use Rattle.listing.proofs.Entries.{take-written}
 use Rattle.listing.proofs.Listings.{entry-most}
-
--- a flag as a number
-pub flag-most : (b : Bool) → boolByte b ≤ 1
-flag-most true = omega arith
-flag-most false = omega arith
-
-flag-is : (b : Bool) → boolByte b ≡ cond b 1 0
-flag-is true = refl
-flag-is false = refl
-
-pub count-is : (r : Record) (a b c d : Bool) → a ≡ isOpen r 0 → b ≡ isOpen r 1 → c ≡ isOpen r 2 → d ≡ isOpen r 3
-    → boolByte a + boolByte b + boolByte c + boolByte d ≡ openCount r
-unfolding openCount
-count-is r a b c d e f g h = rw (flag-is a, flag-is b, flag-is c, flag-is d, e, f, g, h)
 
 -- the line that was begun
 module _ (line : List ℕ) (kept n : ℕ) (e : n ≡ min kept (length line)) where

@@ -10,7 +10,6 @@ use lib.Dec.{leb, ltb, eqb}
 use lib.ListN.{length, take, drop}
 use lib.Seq.{sets, sets-eq, take-at}
 use borrow.Author.Tests.{le-leb, lt-leb, leb-true, leb-false, ltb-true, ltb-false, eqb-true, eqb-false}
-use Rattle.writing.specs.declared.Written.the-variants.{Upto, NoRoom as NoPlace}
 use Rattle.hexline.specs.declared.Decoded.{Decoded}
 use Rattle.hexline.specs.declared.Decoded.the-variants.{Octets, TooLong, NotDigits, NoRoom}
 use Rattle.hexline.specs.Decoding.{lineLimit, allDigits, lineOctets, decodedOf, decodedNumber, Decodes}
@@ -21,18 +20,15 @@ use Rattle.hexline.proofs.Decoded.{the-type}
 use Rattle.lines.specs.Lines.{lf}
 use Rattle.lines.proofs.Laws.{by-test}
 use Rattle.places.specs.declared.Record.{Record}
-use Rattle.joining.specs.declared.Answer.{Answer}
-use Rattle.joining.specs.declared.Answer.the-variants.{Whole, Held, Joined, Cancelled, Refused}
+use Rattle.joining.specs.declared.Output.{Output}
+use Rattle.joining.specs.declared.Output.the-variants.{Message, Nothing}
 use Rattle.joining.specs.declared.Outcome.{Outcome}
 use Rattle.joining.specs.Steps.{Step, Passes, Opens, Extends, Completes, Frees, Refuses, stepOf}
-use Rattle.joining.specs.Answers.{messageOf, answerOf, answerNumber, Does, Joins}
+use Rattle.joining.specs.Answers.{messageWritten, answerOf, answerTo, outputIn, answerNumber, Does, Joins}
 use Rattle.sequence.proofs.Fits.{message-fits}
-use Rattle.listing.specs.declared.line.Shown.the-variants.{Message, Nothing}
-use Rattle.listing.specs.declared.line.Listed.{Listed}
 use Rattle.listing.specs.Text.{decimal, space, dash, lineText}
-use Rattle.listing.specs.Listing.{octetsMost, messageMost, shownOf, Entry, refusedEntry, answeredWith, joinedEntry, entryFrom, entryOf}
-use Rattle.listing.specs.Answers.{longest, hasRoom, LineAnswered}
-use Rattle.listing.specs.Inner.{Put, shownAs, Lists}
+use Rattle.listing.specs.Listing.{octetsMost, messageMost, shownOf, Entry, refusedEntry, joinedEntry, entryFrom, entryOf, longest}
+use Rattle.listing.specs.Inner.{Put, Lists}
 use Rattle.listing.proofs.Puts.{number-most}
 
 -- the numbers of a line's answer, then what is shown
@@ -50,21 +46,15 @@ pub take-written : (out xs : List ℕ) (n : ℕ) → n ≡ length xs → n ≤ l
 take-written out xs n e h = rw (sets-eq xs out 0 (omega arith)) (take-at xs (drop (0 + length xs) out) n (sym e))
 
 -- what an answer shows
-shown-some : (a : Answer) (n : ℕ) (message : List ℕ) → shownAs a ≡ Message n → shownOf a message ≡ octetDigits message
-shown-some (Whole m) n message e = refl
-shown-some Held n message e = clash (cc)
-shown-some (Joined m) n message e = refl
-shown-some (Cancelled m) n message e = refl
-shown-some (Refused why) n message e = clash (cc)
+shown-some : (o : Output) (n : ℕ) (message : List ℕ) → o ≡ Message n → shownOf o message ≡ octetDigits message
+shown-some (Message m) n message e = refl
+shown-some Nothing n message e = clash (cc)
 
-shown-none : (a : Answer) (message : List ℕ) → shownAs a ≡ Nothing → shownOf a message ≡ dash
-shown-none (Whole m) message e = clash (cc)
-shown-none Held message e = refl
-shown-none (Joined m) message e = clash (cc)
-shown-none (Cancelled m) message e = clash (cc)
-shown-none (Refused why) message e = refl
+shown-none : (o : Output) (message : List ℕ) → o ≡ Nothing → shownOf o message ≡ dash
+shown-none (Message m) message e = clash (cc)
+shown-none Nothing message e = refl
 
-shown-count : (step : Step) (m n : ℕ) → shownAs (answerOf step m) ≡ Message n → n ≡ m
+shown-count : (step : Step) (m n : ℕ) → outputIn (answerOf step m) ≡ Message n → n ≡ m
 shown-count Passes m n e = cc
 shown-count (Opens i id) m n e = clash (cc)
 shown-count (Extends i) m n e = clash (cc)
@@ -80,15 +70,15 @@ module _ (v : List ℕ) (before : Record) (places message : List ℕ) (r : Outco
     step = stepOf v before places messageMost
 
     abbrev shown : List ℕ
-    shown = messageOf step before v places
+    shown = messageWritten step before v places
 
     does : Does step v before places message r placesLast messageLast
     does = rw room at j
 
     -- the message fits the memory, and stands at its start
-    module _ (n : ℕ) (s : shownAs (r .answer) ≡ Message n) where
+    module _ (n : ℕ) (s : outputIn (r .answer) ≡ Message n) where
       count-is : n ≡ length shown
-      count-is = shown-count step (length shown) n (sym (ap shownAs (does .answer)) ∙ s)
+      count-is = shown-count step (length shown) n (sym (ap outputIn (does .answer)) ∙ s)
 
       pub count-most : n ≤ messageMost
       count-most = omega (arith, count-is, message-fits v before places messageMost)
@@ -98,32 +88,32 @@ module _ (v : List ℕ) (before : Record) (places message : List ℕ) (r : Outco
           rw (does .output) (take-written message shown n count-is (omega (arith, count-most)))
 
     module _ (number code : ℕ) (out : List ℕ) (at end : ℕ) (outLast : List ℕ) (c : code ≡ answerNumber (r .answer)) where
-      entry-number : code ≡ answerNumber (answeredWith step v before places)
+      entry-number : code ≡ answerNumber (answerTo step before v places)
       entry-number = c ∙ ap answerNumber (does .answer)
 
-      pub lists-shown : (n : ℕ) → shownAs (r .answer) ≡ Message n → Put out at (lineText number code (octetDigits (take n messageLast))) end outLast
+      pub lists-shown : (n : ℕ) → outputIn (r .answer) ≡ Message n → Put out at (lineText number code (octetDigits (take n messageLast))) end outLast
           → Lists (joinedEntry step v before places) number out at (record { after = r .after; end = end }) placesLast outLast
       lists-shown n s p =
-          let t : shownOf (answeredWith step v before places) shown ≡ octetDigits (take n messageLast) =
-          shown-some (answeredWith step v before places) n shown (sym (ap shownAs (does .answer)) ∙ s)
+          let t : shownOf (outputIn (answerTo step before v places)) shown ≡ octetDigits (take n messageLast) =
+          shown-some (outputIn (answerTo step before v places)) n shown (sym (ap outputIn (does .answer)) ∙ s)
           ∙ ap octetDigits (sym (message-is n s))
           in
           record {
             after = does .after;
             stored = does .stored;
-            text = subst (λ (x : List ℕ). Put out at x end outLast) (ap (λ (k : ℕ). lineText number k (octetDigits (take n messageLast))) entry-number ∙ ap (lineText number (answerNumber (answeredWith step v before places))) (sym t)) p;
+            text = subst (λ (x : List ℕ). Put out at x end outLast) (ap (λ (k : ℕ). lineText number k (octetDigits (take n messageLast))) entry-number ∙ ap (lineText number (answerNumber (answerTo step before v places))) (sym t)) p;
           }
 
-      pub lists-unshown : shownAs (r .answer) ≡ Nothing → Put out at (lineText number code dash) end outLast
+      pub lists-unshown : outputIn (r .answer) ≡ Nothing → Put out at (lineText number code dash) end outLast
           → Lists (joinedEntry step v before places) number out at (record { after = r .after; end = end }) placesLast outLast
       lists-unshown s p =
-          let t : shownOf (answeredWith step v before places) shown ≡ dash =
-          shown-none (answeredWith step v before places) shown (sym (ap shownAs (does .answer)) ∙ s)
+          let t : shownOf (outputIn (answerTo step before v places)) shown ≡ dash =
+          shown-none (outputIn (answerTo step before v places)) shown (sym (ap outputIn (does .answer)) ∙ s)
           in
           record {
             after = does .after;
             stored = does .stored;
-            text = subst (λ (x : List ℕ). Put out at x end outLast) (ap (λ (k : ℕ). lineText number k dash) entry-number ∙ ap (lineText number (answerNumber (answeredWith step v before places))) (sym t)) p;
+            text = subst (λ (x : List ℕ). Put out at x end outLast) (ap (λ (k : ℕ). lineText number k dash) entry-number ∙ ap (lineText number (answerNumber (answerTo step before v places))) (sym t)) p;
           }
 
 -- a line's characters, decoded
@@ -192,18 +182,3 @@ pub lists-refused : (e : Entry) (before : Record) (places : List ℕ) (number co
     → Lists e number out at (record { after = before; end = end }) places outLast
 lists-refused e before places number code x out at end outLast c q p =
     rw q (record { after = refl; stored = refl; text = rw (← c) p })
-
--- the two answers: where there is no room, and where there is
-module _ (line : List ℕ) (number : ℕ) (before : Record) (places out : List ℕ) (at : ℕ) where
-  pub answered-none : hasRoom out at ≡ false → LineAnswered line number before places out at (record { after = before; written = NoPlace }) places out
-  answered-none h = record { written = rw h; after = rw h; stored = rw h; output = rw h }
-
-  pub answered-room : hasRoom out at ≡ true → (r : Listed) (placesLast outLast : List ℕ) → Lists (entryOf line before places) number out at r placesLast outLast
-      → LineAnswered line number before places out at (record { after = r .after; written = Upto (r .end) }) placesLast outLast
-  answered-room h r placesLast outLast l =
-      record {
-        written = rw h (ap Upto (l .text .end));
-        after = rw h (l .after);
-        stored = rw h (l .stored);
-        output = rw h (l .text .contents);
-      }

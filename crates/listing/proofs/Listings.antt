@@ -15,33 +15,29 @@ use Rattle.hexline.proofs.Laws.{digits-length}
 use Rattle.lines.specs.Lines.{lf, upToLF, linesFrom, linesOf, keptInto}
 use Rattle.lines.proofs.Laws.{by-test, block-ended, block-open, next-open, next-more, next-most, drop-within}
 use Rattle.places.specs.declared.Record.{Record}
-use Rattle.joining.specs.declared.Answer.{Answer}
-use Rattle.joining.specs.declared.Answer.the-variants.{Whole, Held, Joined, Cancelled, Refused}
+use Rattle.joining.specs.declared.Output.{Output}
+use Rattle.joining.specs.declared.Output.the-variants.{Message, Nothing}
 use Rattle.joining.specs.Steps.{stepOf}
-use Rattle.joining.specs.Answers.{messageOf}
+use Rattle.joining.specs.Answers.{messageWritten, answerTo, outputIn}
 use Rattle.sequence.proofs.Fits.{message-fits}
 use Rattle.listing.specs.declared.State.{State}
 use Rattle.listing.specs.declared.Progress.{Progress}
 use Rattle.listing.specs.Text.{decimal, space, lineText}
-use Rattle.listing.specs.Listing.{octetsMost, messageMost, shownOf, Entry, answeredWith, entryFrom, entryOf, numberAfter, entryText, listingFrom}
-use Rattle.listing.specs.Answers.{longest}
-use Rattle.listing.specs.Blocks.{lineRoom, Work, goesOn, ended, begun, turnOf, blockFrom, workOf, startOf, blockOf, listingAfter, BlockAnswered}
+use Rattle.listing.specs.Listing.{octetsMost, messageMost, shownOf, Entry, entryFrom, entryOf, numberAfter, entryText, longest, listingFrom}
+use Rattle.listing.specs.Blocks.{lineRoom, Work, goesOn, ended, begun, turnOf, blockFrom, workOf, blockStart, blockOf, listingAfter, BlockAnswered}
 use Rattle.listing.proofs.Puts.{number-most}
 use Rattle.listing.proofs.Cuts.{entry-same, begun-cut, kept-is}
 use Rattle.listing.proofs.Blocks.{Goes, goes, taken, kept, turn-ended, turn-begun, turn-goes, block-on, block-stops, block-done, on-with}
 
 -- no answer is longer than the longest
-shown-most : (a : Answer) (message : List ℕ) → length message ≤ messageMost → length (shownOf a message) ≤ 32768
-shown-most (Whole n) message h = rw (digits-length message) (omega arith)
-shown-most Held message h = omega arith
-shown-most (Joined n) message h = rw (digits-length message) (omega arith)
-shown-most (Cancelled n) message h = rw (digits-length message) (omega arith)
-shown-most (Refused why) message h = omega arith
+shown-most : (o : Output) (message : List ℕ) → length message ≤ messageMost → length (shownOf o message) ≤ 32768
+shown-most (Message n) message h = rw (digits-length message) (omega arith)
+shown-most Nothing message h = omega arith
 
 entry-shown : (d : Decoded) (v : List ℕ) (r : Record) (places : List ℕ) → length (entryFrom d v r places .shown) ≤ 32768
 entry-shown (Octets n) v r places =
     let step = stepOf v r places messageMost in
-    shown-most (answeredWith step v r places) (messageOf step r v places) (message-fits v r places messageMost)
+    shown-most (outputIn (answerTo step r v places)) (messageWritten step r v places) (message-fits v r places messageMost)
 entry-shown TooLong v r places = omega arith
 entry-shown NotDigits v r places = omega arith
 entry-shown NoRoom v r places = omega arith
@@ -220,7 +216,7 @@ onto-block block (suc n) w =
 -- a whole call
 module _ (block : List ℕ) (from : ℕ) (line places out : List ℕ) (state : State) where
   abbrev pub start : Work
-  start = workOf (startOf block from state) line places out
+  start = workOf (blockStart block from state) line places out
 
   abbrev pub done : Work
   done = blockFrom (length block) block start
@@ -241,7 +237,7 @@ module _ (block : List ℕ) (from : ℕ) (line places out : List ℕ) (state : S
 
   onward-by : (n : ℕ) → length block ≡ suc n → lineRoom ≤ length line → longest ≤ length out → from < length block → from < done .at .next
   onward-by n q h k l =
-      let f : startOf block from state .next ≡ from = omega arith in
+      let f : blockStart block from state .next ≡ from = omega arith in
       let g = on-with block start (omega arith) h (omega arith) in
       let t = turn-goes block start g in
       let o = onto-block block n (turnOf block start) .further in

@@ -6,8 +6,9 @@ use Rattle.cdr.specs.Branch.{choose}
 use Rattle.hexline.specs.Digit.{isDigit}
 use Rattle.hexline.specs.Decoding.{allDigits, digitsDecoded, decodedOf}
 use Rattle.lines.specs.Lines.{linesFrom}
+use Rattle.places.specs.Places.{openCount}
 use Rattle.listing.specs.Text.{decimalWithin, decimal, lineText, endText}
-use Rattle.listing.specs.Listing.{entryOf, openCount, listingFrom, listingOf}
+use Rattle.listing.specs.Listing.{entryOf, listingFrom, listingOf}
 
 -- the numbers 0, 10 and the largest machine word; three places open; no line; a line `G` and one of a single digit, neither with an end
 pub samples :

@@ -1,6 +1,7 @@
 -- What answering a block of a recording gives, and its end.
 --   lineRoom         the characters that are kept of a line: one more than "at most 8,192 digits" tells an over-long one
 --   closing          the characters of the longest closing line: two numbers of at most 20 digits, `end`, two spaces and an LF
+--   hasRoom          whether there is room for the longest answer from `at` on
 --   Work             where a call stands in the block and the output, and the lent memory as it is then
 --   goesOn           whether characters are left in the block, and the line's memory and the output have room for any line and its answer
 --   answering        a line's answer is written behind those before it, and the next line is begun
@@ -10,7 +11,7 @@
 --   turnOf           the characters up to the next LF are taken
 --   blockFrom        turn by turn, as long as it goes on
 --   workOf           where a call stands
---   startOf          and where it starts; a `from` beyond the block counts as its end
+--   blockStart       and where it starts; a `from` beyond the block counts as its end
 --   blockOf          a whole call: each turn takes a character, so that as many turns as the block has are enough
 --   freshState       the start of a recording
 --   listingAfter     the text that is owed from a state on, by the input that is left
@@ -32,16 +33,19 @@ use Rattle.writing.specs.declared.Written.the-variants.{Upto, NoRoom}
 use Rattle.lines.specs.declared.Taken.{Taken}
 use Rattle.lines.specs.Lines.{linesFrom, takenOf, keptInto}
 use Rattle.places.specs.declared.Record.{Record}
+use Rattle.places.specs.Places.{freshRecord}
 use Rattle.listing.specs.declared.State.{State}
 use Rattle.listing.specs.declared.Progress.{Progress}
-use Rattle.listing.specs.Listing.{Entry, entryOf, numberAfter, entryText, listingFrom, freshRecord}
-use Rattle.listing.specs.Answers.{longest, hasRoom}
+use Rattle.listing.specs.Listing.{Entry, entryOf, numberAfter, entryText, longest, listingFrom}
 
 abbrev pub lineRoom : ℕ
 lineRoom = 8193
 
 abbrev pub closing : ℕ
 closing = 46
+
+abbrev pub hasRoom : List ℕ → ℕ → Bool
+hasRoom out at = leb (at + longest) (length out)
 
 pub record Work : Type 0 where
   pub at : Progress
@@ -96,11 +100,11 @@ blockFrom (suc n) block w = choose (goesOn block w) (λ _. blockFrom n block (tu
 abbrev pub workOf : Progress → List ℕ → List ℕ → List ℕ → Work
 workOf at line places out = record { at = at; line = line; places = places; out = out }
 
-abbrev pub startOf : List ℕ → ℕ → State → Progress
-startOf block from state = record { state = state; next = min from (length block); filled = 0 }
+abbrev pub blockStart : List ℕ → ℕ → State → Progress
+blockStart block from state = record { state = state; next = min from (length block); filled = 0 }
 
 unfoldable pub blockOf : List ℕ → ℕ → List ℕ → List ℕ → List ℕ → State → Work
-blockOf block from line places out state = blockFrom (length block) block (workOf (startOf block from state) line places out)
+blockOf block from line places out state = blockFrom (length block) block (workOf (blockStart block from state) line places out)
 
 abbrev pub freshState : State
 freshState = record { messages = freshRecord; lines = 0; kept = 0 }

@@ -1,6 +1,5 @@
 -- What the private functions of the crate promise each other; nothing that a caller is told rests on these names.
 --   Put            characters stored from `at` on, the rest as it was, and where they end
---   shownAs        whether an answer has a message to show, and of how many octets
 --   Memory         memory for a line's octets and for the message that they are joined to
 --   Room           room for the longest answer, and that memory
 --   Lists          a line's text put, and what the line leaves
@@ -9,24 +8,12 @@ use mathlib.Core.List.{List}
 use Prim.Native.Nat.{ℕ, _+_, _≤_}
 use lib.ListN.{length}
 use lib.Seq.{sets}
-use Rattle.joining.specs.declared.Answer.{Answer}
-use Rattle.joining.specs.declared.Answer.the-variants.{Whole, Held, Joined, Cancelled, Refused}
-use Rattle.listing.specs.declared.line.Shown.{Shown}
-use Rattle.listing.specs.declared.line.Shown.the-variants.{Message, Nothing}
 use Rattle.listing.specs.declared.line.Listed.{Listed}
-use Rattle.listing.specs.Listing.{octetsMost, messageMost, Entry, entryText}
-use Rattle.listing.specs.Answers.{longest}
+use Rattle.listing.specs.Listing.{octetsMost, messageMost, Entry, entryText, longest}
 
 pub record Put (out : List ℕ) (at : ℕ) (xs : List ℕ) (r : ℕ) (last : List ℕ) : Type 0 where
   pub end : r ≡ at + length xs
   pub contents : last ≡ sets out at xs
-
-abbrev pub shownAs : Answer → Shown
-shownAs (Whole n) = Message n
-shownAs Held = Nothing
-shownAs (Joined n) = Message n
-shownAs (Cancelled n) = Message n
-shownAs (Refused why) = Nothing
 
 pub record Memory (octets message : List ℕ) : Type 0 where
   pub decoded : length octets ≡ octetsMost

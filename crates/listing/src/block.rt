@@ -4,15 +4,13 @@ ghost use mathlib.Core.Bool.{_&&_};
 ghost use Prim.Native.Nat.{_+_, min};
 ghost use lib.Dec.{leb, ltb};
 ghost use lib.ListN.{length};
-ghost use Rattle.listing.specs.Listing.{openCount};
-ghost use Rattle.listing.specs.Answers.{longest};
+ghost use Rattle.listing.specs.Listing.{longest};
 ghost use Rattle.listing.specs.Blocks.{lineRoom, workOf, turnOf, blockFrom};
 ghost use Rattle.listing.specs.Inner.{Memory, Room};
 use crate::LINE_ROOM;
 use crate::Progress;
 use crate::State;
 use crate::line;
-use places::Record;
 
 // Answers the lines that end in the block, as long as there is room.
 pub(crate) fn answer_lines(
@@ -105,12 +103,4 @@ pub(crate) fn least(a: usize, b: usize) -> usize
     ensures { λ r. ⌜ r ≡ min a b ⌝ }
 {
     if a < b { a } else { b }
-}
-
-// The messages open.
-pub(crate) fn open_count(messages: Record) -> u64
-    ensures { λ r. ⌜ r ≡ openCount messages ⌝ }
-{
-    let opened = messages.opened;
-    opened[0] as u64 + opened[1] as u64 + opened[2] as u64 + opened[3] as u64
 }

@@ -1,6 +1,5 @@
-// The listing of a recording: what the program writes for its lines, answered one by one or by the block.
+// The listing of a recording: what the program writes for its lines, answered block by block.
 ghost use mathlib.Core.Path.{_≡_};
-ghost use Rattle.listing.specs.Answers.{LineAnswered};
 ghost use Rattle.listing.specs.Blocks.{freshState, BlockAnswered, EndAnswered};
 use places::Record;
 use writing::Written;
@@ -18,12 +17,6 @@ pub const LINE_ROOM: usize = 8193;
 // The characters of the longest closing line: two numbers of at most 20 digits, `end`, two spaces and an LF.
 pub const CLOSING: usize = 46;
 
-// The record after a line, and where the line's text ends or that there was no room for it.
-pub struct Answered {
-    pub after: Record,
-    pub written: Written,
-}
-
 // Where a recording stands: the record of its open messages, the lines answered, and the characters kept of the line begun.
 pub struct State {
     pub messages: Record,
@@ -36,13 +29,8 @@ impl State {
     pub fn fresh() -> State
         ensures { λ r. ⌜ r ≡ freshState ⌝ }
     {
-        let messages = Record {
-            ids: [0; 4],
-            lengths: [0; 4],
-            opened: [false; 4],
-        };
         State {
-            messages,
+            messages: Record::fresh(),
             lines: 0,
             kept: 0,
         }
@@ -54,43 +42,6 @@ pub struct Progress {
     pub state: State,
     pub next: usize,
     pub filled: usize,
-}
-
-// Answers a line of characters, and writes its number, answer and message from `at` on. Where the longest answer has no room there,
-// nothing is done.
-pub fn answer_line(
-    characters: &[u8],
-    number: u64,
-    before: Record,
-    places: &mut [u8],
-    out: &mut [u8],
-    at: usize,
-) -> Answered
-    ensures { λ r. ⌜ LineAnswered (now (characters .entry)) number before (now (places .entry)) (now (out .entry)) at r (now (places .exit)) (now (out .exit)) ⌝ }
-{
-    if !line::has_room(out.len(), at) {
-        return Answered {
-            after: before,
-            written: Written::NoRoom,
-        };
-    }
-    let mut octets = line::octets_memory();
-    let mut message = line::message_memory();
-    let listed = line::list_line(
-        characters,
-        number,
-        before,
-        places,
-        out,
-        at,
-        &mut octets,
-        &mut message,
-    );
-    let after = listed.after;
-    Answered {
-        after,
-        written: Written::Upto(listed.end),
-    }
 }
 
 // Takes characters of `block` from `from` on and answers each line that ends in it, from the start of `out`; stops at the block's end, or
@@ -125,7 +76,7 @@ pub fn answer_end(line: &[u8], places: &mut [u8], out: &mut [u8], state: State) 
     let kept = block::least(state.kept, line.len());
     let messages = state.messages;
     if kept == 0 {
-        let none = text::put_end(out, 0, state.lines, block::open_count(messages));
+        let none = text::put_end(out, 0, state.lines, places::open_count(messages));
         return Written::Upto(none);
     }
     let mut octets = line::octets_memory();
@@ -142,6 +93,6 @@ pub fn answer_end(line: &[u8], places: &mut [u8], out: &mut [u8], state: State) 
         &mut message,
     );
     let after = listed.after;
-    let end = text::put_end(out, listed.end, number, block::open_count(after));
+    let end = text::put_end(out, listed.end, number, places::open_count(after));
     Written::Upto(end)
 }

@@ -4,31 +4,24 @@ ghost use Prim.Native.Nat.{_+_, _≤_};
 ghost use lib.Dec.{leb};
 ghost use lib.ListN.{length};
 ghost use Rattle.joining.specs.Steps.{stepOf};
-ghost use Rattle.listing.specs.Listing.{octetsMost, messageMost, entryOf, joinedEntry};
-ghost use Rattle.listing.specs.Answers.{longest};
-ghost use Rattle.listing.specs.Inner.{shownAs, Room, Lists};
+ghost use Rattle.listing.specs.Listing.{octetsMost, messageMost, entryOf, joinedEntry, longest};
+ghost use Rattle.listing.specs.Inner.{Room, Lists};
 use crate::LONGEST;
 use crate::text;
 use hexline::Decoded;
-use joining::Answer;
+use joining::Output;
 use places::Record;
 
 // The most octets of a line.
-const OCTETS: usize = 4096;
+const OCTETS: usize = frame::MESSAGE_LIMIT;
 
 // The most octets of a message.
-const MESSAGE: usize = 16384;
+const MESSAGE: usize = places::PLACE_SIZE;
 
 // The record after a line, and where the line's text ends.
 pub(crate) struct Listed {
     pub(crate) after: Record,
     pub(crate) end: usize,
-}
-
-// The octets of the message that an answer shows, if it shows one.
-enum Shown {
-    Message(usize),
-    Nothing,
 }
 
 // Memory for a line's octets.
@@ -93,23 +86,10 @@ fn list_octets(
     let outcome = joining::join(octets, before, places, message);
     let answer = outcome.answer;
     let after = outcome.after;
-    let Shown::Message(n) = shown_of(answer) else {
+    let Output::Message(n) = answer.output() else {
         let end = text::put_unshown(out, at, number, answer.number());
         return Listed { after, end };
     };
     let end = text::put_shown(out, at, number, answer.number(), &message[..n]);
     Listed { after, end }
-}
-
-// What an answer shows.
-fn shown_of(answer: Answer) -> Shown
-    ensures { λ r. ⌜ r ≡ shownAs answer ⌝ }
-{
-    match answer {
-        Answer::Whole(n) => Shown::Message(n),
-        Answer::Held => Shown::Nothing,
-        Answer::Joined(n) => Shown::Message(n),
-        Answer::Cancelled(n) => Shown::Message(n),
-        Answer::Refused(_) => Shown::Nothing,
-    }
 }

@@ -1,4 +1,5 @@
 -- Choices, the place of a request id, and records that are not refused.
 pub mod Choices
 pub mod Finding
+pub mod Counting
 pub mod Sound

@@ -1,29 +1,32 @@
 -- What holds of a record that is not refused, and of the lowest free place.
 use mathlib.Core.Path.{_≡_, refl}
-use mathlib.Core.Bool.{Bool, true, false, cond, _&&_, _||_}
+use mathlib.Core.Bool.{Bool, true, false, not, _&&_, _||_}
 use Prim.Native.Nat.{ℕ, _≤_, _<_}
 use native.Mathlib.Omega.{arith}
-use lib.Dec.{ltb}
+use lib.Dec.{ltb, lit<}
 use borrow.Author.Tests.{ltb-false}
 use Rattle.places.specs.declared.Record.{Record}
 use Rattle.places.specs.declared.Found.{Found}
 use Rattle.places.specs.declared.Found.the-variants.{At, Nowhere}
-use Rattle.places.specs.Places.{placeSize, placesSize, isOpen, lengthOf, isAt, lowestFree, idOpenTwice, placeShort, lengthWrong, someLengthWrong, badRecord}
-use Rattle.places.proofs.Choices.{neither, of-four}
+use Rattle.places.specs.Places.{placesCount, placeSize, placesSize, isOpen, lengthOf, isAt, lowestFree, idOpenTwice, placeShort, lengthWrong, someLengthWrong, badRecord}
+use Rattle.places.proofs.Choices.{chosen, neither, of-four}
 
 pub is-at : (f : Found) → isAt f ≡ false → f ≡ Nowhere
 is-at (At i) e = let z : _≡_ {A = ℕ} 0 1 = cc in absurd (omega arith)
 is-at Nowhere e = refl
 
-pub free-within : (r : Record) → lowestFree r < 4
+-- a place that is free is one of the four
+abbrev pub Within : Found → Type 0
+Within (At i) = i < placesCount
+Within Nowhere = Unit {0}
+
+pub free-within : (r : Record) → Within (lowestFree r)
 unfolding lowestFree
-free-within r = least (isOpen r 0) (isOpen r 1) (isOpen r 2)
-  where
-    least : (a b c : Bool) → cond a (cond b (cond c 3 2) 1) 0 < 4
-    least true true true = omega arith
-    least true true false = omega arith
-    least true false c = omega arith
-    least false b c = omega arith
+free-within r =
+    chosen Within (not (isOpen r 0)) _ _ (λ _. lit< tt) (λ _.
+    chosen Within (not (isOpen r 1)) _ _ (λ _. lit< tt) (λ _.
+    chosen Within (not (isOpen r 2)) _ _ (λ _. lit< tt) (λ _.
+    chosen Within (not (isOpen r 3)) _ _ (λ _. lit< tt) (λ _. tt))))
 
 -- of a record that is not refused, the places have their octets and the open lengths are in their range
 pub sound-lent : (r : Record) (lent : ℕ) → badRecord r lent ≡ false → placesSize ≤ lent

@@ -1,7 +1,10 @@
 -- "The record of one recording has four places for open messages."
+--   placesCount    how many places there are
 --   placeSize      the octets of a place
---   placeStart     where the octets of a place start in the lent memory of the four
---   placesSize     the octets of the four places
+--   placeStart     where the octets of a place start in the lent memory of them all
+--   placesSize     the octets of all places
+--   leastLength    the least octets of an open message: its header and its request id
+--   freshRecord    a record with nothing open
 --   isOpen         whether a place has an open message,
 --   idOf           and its request id
 --   lengthOf       and length
@@ -9,8 +12,9 @@
 --   isOpenWith     whether a place has the open message of a request id
 --   placeOf        the place of the open message of a request id
 --   isAt           whether there is one
---   allOpen        "when four are open"
---   lowestFree     "the lowest free one first"; where none is free, which 23 refuses, the last
+--   lowestFree     "the lowest free one first"; nowhere "when four are open"
+--   openAt         1 for a place that has an open message, and 0 for one that has none
+--   openCount      "messages open"
 --   bothOpen       whether two places have open messages of the same id
 --   idOpenTwice    28: "one id open twice",
 --   placeShort     "a place of under 16,384 octets",
@@ -20,14 +24,17 @@
 --   closed         the record with a place freed,
 --   opened         with a place opened for a request id,
 --   lengthened     and with the length of its message changed
-use Prim.Native.Nat.{ℕ, _*_}
+use Prim.Native.Nat.{ℕ, _+_, _*_}
 use mathlib.Core.List.{List}
-use mathlib.Core.Bool.{Bool, true, false, cond, _&&_, _||_}
+use mathlib.Core.Bool.{Bool, true, false, cond, not, _&&_, _||_}
 use lib.Dec.{ltb, eqb}
-use lib.ListN.{getD, take, drop, set}
+use lib.ListN.{getD, take, drop, set, replicate}
 use Rattle.places.specs.declared.Record.{Record}
 use Rattle.places.specs.declared.Found.{Found}
 use Rattle.places.specs.declared.Found.the-variants.{At, Nowhere}
+
+abbrev pub placesCount : ℕ
+placesCount = 4
 
 abbrev pub placeSize : ℕ
 placeSize = 16384
@@ -36,7 +43,14 @@ abbrev pub placeStart : ℕ → ℕ
 placeStart i = i * placeSize
 
 abbrev pub placesSize : ℕ
-placesSize = 65536
+placesSize = placesCount * placeSize
+
+abbrev pub leastLength : ℕ
+leastLength = 16
+
+abbrev pub freshRecord : Record
+freshRecord =
+    record { ids = replicate placesCount 0; lengths = replicate placesCount 0; opened = replicate placesCount false }
 
 abbrev pub isOpen : Record → ℕ → Bool
 isOpen r i = getD (r .opened) i false
@@ -65,11 +79,19 @@ abbrev pub isAt : Found → Bool
 isAt (At i) = true
 isAt Nowhere = false
 
-unfoldable pub allOpen : Record → Bool
-allOpen r = isOpen r 0 && isOpen r 1 && isOpen r 2 && isOpen r 3
+unfoldable pub lowestFree : Record → Found
+lowestFree r =
+    cond (not (isOpen r 0)) (At 0)
+    (cond (not (isOpen r 1)) (At 1)
+    (cond (not (isOpen r 2)) (At 2)
+    (cond (not (isOpen r 3)) (At 3)
+    Nowhere)))
 
-unfoldable pub lowestFree : Record → ℕ
-lowestFree r = cond (isOpen r 0) (cond (isOpen r 1) (cond (isOpen r 2) 3 2) 1) 0
+abbrev pub openAt : Record → ℕ → ℕ
+openAt r i = cond (isOpen r i) 1 0
+
+unfoldable pub openCount : Record → ℕ
+openCount r = openAt r 0 + openAt r 1 + openAt r 2 + openAt r 3
 
 unfoldable pub bothOpen : Record → ℕ → ℕ → Bool
 bothOpen r i j = isOpen r i && isOpen r j && eqb (idOf r i) (idOf r j)
@@ -82,7 +104,7 @@ abbrev pub placeShort : ℕ → Bool
 placeShort lent = ltb lent placesSize
 
 unfoldable pub lengthWrong : Record → ℕ → Bool
-lengthWrong r i = isOpen r i && (ltb (lengthOf r i) 16 || ltb placeSize (lengthOf r i))
+lengthWrong r i = isOpen r i && (ltb (lengthOf r i) leastLength || ltb placeSize (lengthOf r i))
 
 unfoldable pub someLengthWrong : Record → Bool
 someLengthWrong r = lengthWrong r 0 || lengthWrong r 1 || lengthWrong r 2 || lengthWrong r 3

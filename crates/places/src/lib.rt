@@ -1,7 +1,7 @@
 // The record of a recording: four places for open messages.
 ghost use mathlib.Core.Path.{_≡_};
 ghost use Prim.Native.Nat.{_<_};
-ghost use Rattle.places.specs.Places.{isAt, isOpenWith, placeOf, allOpen, lowestFree, bothOpen, idOpenTwice, lengthWrong, someLengthWrong, badRecord};
+ghost use Rattle.places.specs.Places.{isAt, isOpenWith, placeOf, lowestFree, openCount, freshRecord, bothOpen, idOpenTwice, lengthWrong, someLengthWrong, badRecord};
 
 // Of each of the four places its open message's request id and length, and whether there is one.
 #[repr(C)]
@@ -9,6 +9,19 @@ pub struct Record {
     pub ids: [u32; 4],
     pub lengths: [usize; 4],
     pub opened: [bool; 4],
+}
+
+impl Record {
+    // The record of a recording that begins: nothing is open.
+    pub fn fresh() -> Record
+        ensures { λ r. ⌜ r ≡ freshRecord ⌝ }
+    {
+        Record {
+            ids: [0; 4],
+            lengths: [0; 4],
+            opened: [false; 4],
+        }
+    }
 }
 
 // One of the four places, or none of them.
@@ -21,7 +34,7 @@ pub enum Found {
 pub const PLACE_SIZE: usize = 16384;
 
 // The octets of the four places.
-const PLACES_SIZE: usize = 65536;
+pub const PLACES_SIZE: usize = 65536;
 
 // The least octets of an open message: its header and its request id.
 const LEAST: usize = 16;
@@ -66,37 +79,30 @@ pub fn place_of(r: Record, id: u32) -> Found
     Found::Nowhere
 }
 
-// Whether every place has an open message.
-pub fn all_open(r: Record) -> bool
-    ensures { λ b. ⌜ b ≡ allOpen r ⌝ }
-{
-    if !r.opened[0] {
-        return false;
-    }
-    if !r.opened[1] {
-        return false;
-    }
-    if !r.opened[2] {
-        return false;
-    }
-    r.opened[3]
-}
-
-// The lowest place that has no open message; where each has one, which 23 refuses, the last.
-pub fn lowest_free(r: Record) -> usize
-    ensures { λ i. ⌜ i ≡ lowestFree r ⌝ }
+// The lowest place that has no open message, if one has none.
+pub fn lowest_free(r: Record) -> Found
+    ensures { λ found. ⌜ found ≡ lowestFree r ⌝ }
 {
     let opened = r.opened;
     if !opened[0] {
-        return 0;
+        Found::At(0)
+    } else if !opened[1] {
+        Found::At(1)
+    } else if !opened[2] {
+        Found::At(2)
+    } else if !opened[3] {
+        Found::At(3)
+    } else {
+        Found::Nowhere
     }
-    if !opened[1] {
-        return 1;
-    }
-    if !opened[2] {
-        return 2;
-    }
-    3
+}
+
+// The messages open.
+pub fn open_count(r: Record) -> u64
+    ensures { λ n. ⌜ n ≡ openCount r ⌝ }
+{
+    let opened = r.opened;
+    opened[0] as u64 + opened[1] as u64 + opened[2] as u64 + opened[3] as u64
 }
 
 // Whether two places have open messages of the same id.

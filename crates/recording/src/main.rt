@@ -4,7 +4,9 @@
 use libc::STDERR_FILENO;
 use libc::STDIN_FILENO;
 use libc::STDOUT_FILENO;
+use listing::LINE_ROOM;
 use listing::State;
+use places::PLACES_SIZE;
 use writing::Written;
 
 // Where the recording stands, and whether every read and write has gone well.
@@ -15,8 +17,8 @@ struct Reading {
 
 fn main() {
     let mut block = io::large_buffer();
-    let mut line = [0u8; 8193];
-    let mut places = [0u8; 65536];
+    let mut line = [0u8; LINE_ROOM];
+    let mut places = [0u8; PLACES_SIZE];
     let mut out = [0u8; 131072];
     let read = read_all(&mut block, &mut line, &mut places, &mut out);
     if !read.ok {
@@ -32,12 +34,13 @@ fn read_all(block: &mut [u8], line: &mut [u8], places: &mut [u8], out: &mut [u8]
     // A proved loop has to end, and nothing says that the input does: no run uses up so many turns.
     let mut turns = u64::MAX;
     while turns > 0 {
-        let n = read_block(block);
+        let got = libc::read(STDIN_FILENO, block);
+        if got < 0 {
+            return unread(state);
+        }
+        let n = io::count(got, block);
         if n == 0 {
             return Reading { state, ok: true };
-        }
-        if block.len() < n {
-            return Reading { state, ok: false };
         }
         let taken = take_block(&block[..n], line, places, out, state);
         if !taken.ok {
@@ -49,14 +52,10 @@ fn read_all(block: &mut [u8], line: &mut [u8], places: &mut [u8], out: &mut [u8]
     endless(state)
 }
 
-// Reads once: the characters read, 0 at the end of the input, and more than the block has where the read fails.
-fn read_block(block: &mut [u8]) -> usize {
-    let got = libc::read(STDIN_FILENO, block);
-    if got < 0 {
-        os::fail(b"read");
-        return usize::MAX;
-    }
-    io::count(got, block)
+// The reading of an input of which a read failed.
+fn unread(state: State) -> Reading {
+    os::fail(b"read");
+    Reading { state, ok: false }
 }
 
 // Writes the answers of a block, as many at a time as there is memory for.

@@ -19,7 +19,7 @@ use Rattle.joining.specs.declared.Refusal.the-variants.{BadRecord, FirstDiffers
 use Rattle.places.specs.Places.{placeSize, isOpen, heldIn, placeOf, badRecord}
 use Rattle.joined.specs.Message.{bodyAfterId, corrected}
 use Rattle.joining.specs.Steps.{Step, Passes, Opens, Extends, Completes, Frees, Refuses, written, cancelled, differs, lengthAfter, continued, fragmentOf, startOf, withId, byId, messageStep, judged, stepOf}
-use Rattle.joining.specs.Answers.{messageOf, recordAfter, placesAfter}
+use Rattle.joining.specs.Answers.{messageWritten, recordAfter, placesAfter}
 use Rattle.sequence.specs.Sequence.{acceptedLine, partsFrom, Fresh}
 use Rattle.places.proofs.Finding.{Placed, place-is}
 use Rattle.sequence.proofs.Inversion.{Facts, step-says}
@@ -29,13 +29,13 @@ use Rattle.sequence.proofs.Sequence.{Keeps, step-keeps, fresh-keeps}
 -- two lots of places hold the same parts of every open message
 pub record Alike (r : Record) (p q : List ℕ) : Type 0 where
   pub parts : ℕ → List (List ℕ)
-  pub one : Keeps (record { kept = r; places = p }) parts
-  pub other : Keeps (record { kept = r; places = q }) parts
+  pub one : Keeps (record { messages = r; places = p }) parts
+  pub other : Keeps (record { messages = r; places = q }) parts
 
-pub fresh-alike : (r : Record) (p q : List ℕ) → Fresh (record { kept = r; places = p }) → Fresh (record { kept = r; places = q }) → Alike r p q
+pub fresh-alike : (r : Record) (p q : List ℕ) → Fresh (record { messages = r; places = p }) → Fresh (record { messages = r; places = q }) → Alike r p q
 fresh-alike r p q f g = record { parts = λ _. []; one = fresh-keeps _ f; other = fresh-keeps _ g }
 
-keeps-sound : (r : Record) (p : List ℕ) (now : ℕ → List (List ℕ)) → Keeps (record { kept = r; places = p }) now → badRecord r (length p) ≡ false
+keeps-sound : (r : Record) (p : List ℕ) (now : ℕ → List (List ℕ)) → Keeps (record { messages = r; places = p }) now → badRecord r (length p) ≡ false
 keeps-sound r p now k =
     not-bad r (length p) (k .lent) (k .once) (λ i h o. k .holds i h o .least) (λ i h o. k .holds i h o .most)
 
@@ -83,7 +83,7 @@ module _ (r : Record) (p q : List ℕ) (a : Alike r p q) where
   unfolding stepOf
   alike-step v room = same-judged room (length v) (frameOf v)
 
-  message-by : (v : List ℕ) (room : ℕ) (step : Step) → Facts v r (length p) room step → messageOf step r v p ≡ messageOf step r v q
+  message-by : (v : List ℕ) (room : ℕ) (step : Step) → Facts v r (length p) room step → messageWritten step r v p ≡ messageWritten step r v q
   message-by v room Passes f = refl
   message-by v room (Opens i id) f = refl
   message-by v room (Extends i) f = refl
@@ -95,7 +95,7 @@ module _ (r : Record) (p q : List ℕ) (a : Alike r p q) where
     abbrev step : Step
     step = stepOf v r p room
 
-    pub alike-message : messageOf step r v p ≡ messageOf step r v q
+    pub alike-message : messageWritten step r v p ≡ messageWritten step r v q
     alike-message = message-by v room step (step-says v r p room)
 
     pub alike-after : Alike (recordAfter step r v) (placesAfter step r v p) (placesAfter step r v q)

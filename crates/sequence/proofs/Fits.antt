@@ -8,7 +8,7 @@ use Rattle.places.specs.declared.Record.{Record}
 use Rattle.places.specs.Places.{lengthOf, heldIn}
 use Rattle.joined.specs.Message.{idEnd, bodyAfterId, corrected}
 use Rattle.joining.specs.Steps.{Step, Passes, Opens, Extends, Completes, Frees, Refuses, lengthAfter, stepOf}
-use Rattle.joining.specs.Answers.{messageOf}
+use Rattle.joining.specs.Answers.{messageWritten}
 use Rattle.joined.proofs.Correcting.{corrected-length}
 use Rattle.sequence.proofs.Inversion.{Facts, step-says}
 
@@ -24,7 +24,7 @@ length-joined v r places i =
     let d = length-drop idEnd v in
     omega arith
 
-fits-by : (v : List ℕ) (r : Record) (places : List ℕ) (room : ℕ) (step : Step) → Facts v r (length places) room step → length (messageOf step r v places) ≤ room
+fits-by : (v : List ℕ) (r : Record) (places : List ℕ) (room : ℕ) (step : Step) → Facts v r (length places) room step → length (messageWritten step r v places) ≤ room
 fits-by v r places room Passes f = f .fits
 fits-by v r places room (Opens i id) f = zero-le
 fits-by v r places room (Extends i) f = zero-le
@@ -32,5 +32,5 @@ fits-by v r places room (Completes i) f = let l = length-joined v r places i in 
 fits-by v r places room (Frees i) f = f .fits
 fits-by v r places room (Refuses why) f = zero-le
 
-pub message-fits : (v : List ℕ) (r : Record) (places : List ℕ) (room : ℕ) → length (messageOf (stepOf v r places room) r v places) ≤ room
+pub message-fits : (v : List ℕ) (r : Record) (places : List ℕ) (room : ℕ) → length (messageWritten (stepOf v r places room) r v places) ≤ room
 message-fits v r places room = fits-by v r places room (stepOf v r places room) (step-says v r places room)

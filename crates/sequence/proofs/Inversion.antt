@@ -6,7 +6,7 @@ use Prim.Native.Nat.{ℕ, _≤_, _<_}
 use native.Mathlib.Omega.{arith}
 use lib.Dec.{ltb}
 use lib.ListN.{length}
-use borrow.Author.Tests.{ltb-false, eqb-true, eq-eqb, ne-eqb}
+use borrow.Author.Tests.{ltb-true, ltb-false, eqb-true, eq-eqb, ne-eqb}
 use Rattle.frame.specs.declared.RequestId.{RequestId}
 use Rattle.frame.specs.declared.RequestId.the-variants.{Id, NoId}
 use Rattle.frame.specs.declared.Header.{Header}
@@ -22,9 +22,9 @@ use Rattle.places.specs.declared.Found.{Found}
 use Rattle.places.specs.declared.Found.the-variants.{At, Nowhere}
 use Rattle.joining.specs.declared.Refusal.{Refusal}
 use Rattle.joining.specs.declared.Refusal.the-variants.{Frame as Row, BadRecord, IdOpen, FourOpen, IdNotOpen, FirstDiffers, TooLong, NoRoom}
-use Rattle.places.specs.Places.{placeSize, isOpen, idOf, heldIn, placeOf, allOpen, lowestFree, badRecord}
+use Rattle.places.specs.Places.{placeSize, isOpen, idOf, heldIn, placeOf, lowestFree, badRecord}
 use Rattle.joined.specs.Message.{idEnd}
-use Rattle.joining.specs.Steps.{Step, Passes, Opens, Extends, Completes, Frees, Refuses, written, cancelled, differs, lengthAfter, continued, fragmentOf, startOf, withId, byId, messageStep, judged, stepOf}
+use Rattle.joining.specs.Steps.{Step, Passes, Opens, Extends, Completes, Frees, Refuses, written, cancelled, differs, lengthAfter, continued, fragmentOf, firstOf, startOf, withId, byId, messageStep, judged, stepOf}
 use Rattle.sequence.specs.Sequence.{isId, withOne, partsWith, partsAfter}
 use Rattle.places.proofs.Choices.{chosen}
 use Rattle.places.proofs.Finding.{FoundAt, OpenNowhere, Placed, place-is}
@@ -79,8 +79,7 @@ pub record Passed (v : List ℕ) (r : Record) (room : ℕ) : Type 0 where
 pub record Opened (v : List ℕ) (r : Record) (i x : ℕ) : Type 0 where
   pub id : idAt v ≡ Id x
   pub nowhere : OpenNowhere r x
-  pub some : allOpen r ≡ false
-  pub lowest : i ≡ lowestFree r
+  pub lowest : lowestFree r ≡ At i
   pub least : idEnd ≤ length v
   pub most : length v ≤ messageLimit
   pub parts : (held : List (List ℕ)) → partsWith held v ≡ v ∷ []
@@ -102,16 +101,16 @@ pub record Ended (v : List ℕ) (r : Record) (room n i : ℕ) : Type 0 where
   pub fits : n ≤ room
   pub parts : (held : List (List ℕ)) → partsWith held v ≡ []
 
--- 28 is for a bad record only
-abbrev pub Refusing : Record → ℕ → Refusal → Type 0
-Refusing r lent (Row row) = Unit {0}
-Refusing r lent IdOpen = Unit {0}
-Refusing r lent FourOpen = Unit {0}
-Refusing r lent IdNotOpen = Unit {0}
-Refusing r lent FirstDiffers = Unit {0}
-Refusing r lent TooLong = Unit {0}
-Refusing r lent NoRoom = Unit {0}
-Refusing r lent BadRecord = badRecord r lent ≡ true
+-- 23 is for four open messages only, 27 for an output that is shorter than a message may be, and 28 for a bad record
+abbrev pub Refusing : Record → ℕ → ℕ → Refusal → Type 0
+Refusing r lent room (Row row) = Unit {0}
+Refusing r lent room IdOpen = Unit {0}
+Refusing r lent room FourOpen = lowestFree r ≡ Nowhere
+Refusing r lent room IdNotOpen = Unit {0}
+Refusing r lent room FirstDiffers = Unit {0}
+Refusing r lent room TooLong = Unit {0}
+Refusing r lent room NoRoom = room < placeSize
+Refusing r lent room BadRecord = badRecord r lent ≡ true
 
 abbrev pub Facts : List ℕ → Record → ℕ → ℕ → Step → Type 0
 Facts v r lent room Passes = Passed v r room
@@ -119,7 +118,7 @@ Facts v r lent room (Opens i id) = Opened v r i id
 Facts v r lent room (Extends i) = Extended v r i
 Facts v r lent room (Completes i) = Ended v r room (lengthAfter r i (length v)) i
 Facts v r lent room (Frees i) = Ended v r room (length v) i
-Facts v r lent room (Refuses why) = Refusing r lent why
+Facts v r lent room (Refuses why) = Refusing r lent room why
 
 has-id : (b : Bool) (x y : ℕ) → cond b (Id x) NoId ≡ Id y → b ≡ true
 has-id true x y e = refl
@@ -129,20 +128,20 @@ module _ (v : List ℕ) (r : Record) (places : List ℕ) (room : ℕ) where
   abbrev Said : Step → Type 0
   Said = Facts v r (length places) room
 
-  written-says : (n : ℕ) (step : Step) → (n ≤ room → Said step) → Said (written room n step)
-  written-says n step f = chosen Said (ltb room n) _ _ (λ _. tt) (λ e. f (ltb-false room n e))
+  written-says : (n : ℕ) (step : Step) → n ≤ placeSize → (n ≤ room → Said step) → Said (written room n step)
+  written-says n step h f = chosen Said (ltb room n) _ _ (λ e. let l = ltb-true room n e in omega arith) (λ e. f (ltb-false room n e))
 
-  id-less-says : idAt v ≡ NoId → Said (written room (length v) Passes)
-  id-less-says e = written-says (length v) Passes (λ l. record { fits = l; parts = λ id held _. id-less-parts v held id e })
+  id-less-says : length v ≤ messageLimit → idAt v ≡ NoId → Said (written room (length v) Passes)
+  id-less-says h e = written-says (length v) Passes (omega arith) (λ l. record { fits = l; parts = λ id held _. id-less-parts v held id e })
 
   module _ (most : length v ≤ messageLimit) (x : ℕ) (e : idAt v ≡ Id x) (least : idEnd ≤ length v) where
     ended : (i n : ℕ) → FoundAt r x i → ((held : List (List ℕ)) → partsWith held v ≡ []) → n ≤ room → Ended v r room n i
     ended i n f p l = record { place = f .place; opened = f .opened; id = e ∙ ap Id (sym (f .id)); fits = l; parts = p }
 
     cancel-says : isCancel (kindAt v) ≡ true → (at : Found) → Placed r x at → Said (cancelled room (length v) at)
-    cancel-says c (At i) f = written-says (length v) (Frees i) (ended i (length v) f (λ held. cancel-parts v held c))
+    cancel-says c (At i) f = written-says (length v) (Frees i) (omega arith) (ended i (length v) f (λ held. cancel-parts v held c))
     cancel-says c Nowhere f =
-        written-says (length v) Passes (λ l.
+        written-says (length v) Passes (omega arith) (λ l.
         record {
           fits = l;
           parts = λ id held h. same-parts v held id (λ b.
@@ -165,25 +164,21 @@ module _ (v : List ℕ) (r : Record) (places : List ℕ) (room : ℕ) where
             most = ltb-false placeSize (lengthAfter r i (length v)) l;
             parts = λ held. middle-parts v held c g m;
           })
-          (λ m. written-says (lengthAfter r i (length v)) (Completes i)
+          (λ m. written-says (lengthAfter r i (length v)) (Completes i) (ltb-false placeSize (lengthAfter r i (length v)) l)
           (ended i (lengthAfter r i (length v)) f (λ held. last-parts v held c g m)))))
       fragment-says g Nowhere f = tt
+
+      first-says : isFragment (kindAt v) ≡ false → moreAt v ≡ true → OpenNowhere r x → (at : Found) → lowestFree r ≡ at → Said (firstOf x at)
+      first-says g m f (At i) l =
+          record { id = e; nowhere = f; lowest = l; least = least; most = most; parts = λ held. first-parts v held c g m }
+      first-says g m f Nowhere l = l
 
       start-says : isFragment (kindAt v) ≡ false → (at : Found) → Placed r x at → Said (startOf r room (length v) (headerOf v) x at)
       start-says g (At i) f = tt
       start-says g Nowhere f =
           chosen Said (moreAt v) _ _
-          (λ m. chosen Said (allOpen r) _ _ (λ _. tt) (λ s.
-          record {
-            id = e;
-            nowhere = f;
-            some = s;
-            lowest = refl;
-            least = least;
-            most = most;
-            parts = λ held. first-parts v held c g m;
-          }))
-          (λ m. written-says (length v) Passes (λ l.
+          (λ m. first-says g m f (lowestFree r) refl)
+          (λ m. written-says (length v) Passes (omega arith) (λ l.
           record { fits = l; parts = λ id held _. same-parts v held id (λ _. whole-parts v held c g m) }))
 
     with-id-says : Said (withId r places room (length v) (headerOf v) x)
@@ -202,7 +197,7 @@ module _ (v : List ℕ) (r : Record) (places : List ℕ) (room : ℕ) where
 
   by-id-says : (h : Header) → (length v ≤ messageLimit) × Accepts v h → (id : RequestId) → idAt v ≡ id
       → Said (byId r places room (length v) (headerOf v) id)
-  by-id-says h a NoId e = id-less-says e
+  by-id-says h a NoId e = id-less-says (a .0) e
   by-id-says h a (Id x) e = with-id-says (a .0) x e (id-end h (a .1) x e)
 
   judged-says : (f : Frame) → frameOf v ≡ f → Said (judged r places room (length v) f)

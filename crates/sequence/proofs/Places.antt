@@ -1,16 +1,18 @@
 -- The four places: the lowest free one, stores in one place that leave the others alone, and what a place holds of an open message.
 use mathlib.Core.Path.{_≡_, refl, sym, ap, _∙_}
 use mathlib.Core.List.{List, [], _∷_, _++_, append-nil, append-assoc}
-use mathlib.Core.Bool.{true, false, _&&_, _||_}
+use mathlib.Core.Bool.{true, false, not, _&&_, _||_}
 use Prim.Native.Nat.{ℕ, _+_, _-_, _≤_, _<_}
 use native.Mathlib.Decide.{decLt}
 use native.Mathlib.Omega.{arith}
 use lib.Dec.{ltb, eqb, lit<}
 use lib.ListN.{length, take, drop, length-drop}
 use lib.Seq.{sets}
-use borrow.Author.Tests.{le-ltb, ne-eqb}
+use borrow.Author.Tests.{le-ltb, ne-eqb, not-true, not-false}
 use Rattle.places.specs.declared.Record.{Record}
-use Rattle.places.specs.Places.{placeSize, placeStart, placesSize, isOpen, idOf, lengthOf, heldIn, allOpen, lowestFree, bothOpen, idOpenTwice, lengthWrong, someLengthWrong, badRecord}
+use Rattle.places.specs.declared.Found.{Found}
+use Rattle.places.specs.declared.Found.the-variants.{At, Nowhere}
+use Rattle.places.specs.Places.{placesCount, placeSize, placeStart, placesSize, isOpen, idOf, lengthOf, heldIn, lowestFree, bothOpen, idOpenTwice, lengthWrong, someLengthWrong, badRecord}
 use Rattle.joined.specs.Message.{idEnd, bodyAfterId, bodies}
 use Rattle.joining.specs.Steps.{lengthAfter}
 use Rattle.sequence.specs.Sequence.{withOne, heldOf, Lowest}
@@ -22,18 +24,26 @@ below-by : (r : Record) (i : ℕ) → (0 < i → isOpen r 0 ≡ true) → (1 < i
 below-by r i a b c h j l =
     of-four (λ j. j < i → isOpen r j ≡ true) a b c (λ m. absurd (omega arith)) j (omega arith) l
 
-pub lowest-free : (r : Record) → allOpen r ≡ false → Lowest r (lowestFree r)
-unfolding allOpen lowestFree
-lowest-free r s =
-    chosen (Lowest r) (isOpen r 0) _ _ (λ a.
-    chosen (Lowest r) (isOpen r 1) _ _ (λ b.
-    chosen (Lowest r) (isOpen r 2) _ _
-    (λ c.
-    let all : (isOpen r 0 && isOpen r 1 && isOpen r 2 && isOpen r 3) ≡ false = s in
-    record { place = lit< tt; free = rw (a, b, c) at all; below = below-by r 3 (λ _. a) (λ _. b) (λ _. c) (lit< tt) })
-    (λ c. record { place = lit< tt; free = c; below = below-by r 2 (λ _. a) (λ _. b) (λ m. absurd (omega arith)) (lit< tt) }))
-    (λ b. record { place = lit< tt; free = b; below = below-by r 1 (λ _. a) (λ m. absurd (omega arith)) (λ m. absurd (omega arith)) (lit< tt) }))
-    (λ a. record { place = lit< tt; free = a; below = λ j l. absurd (omega arith) })
+-- a place that is free is the lowest, and nowhere is one free only where all are open
+abbrev pub Freed : Record → Found → Type 0
+Freed r (At i) = Lowest r i
+Freed r Nowhere = (i : ℕ) → i < placesCount → isOpen r i ≡ true
+
+pub lowest-free : (r : Record) → Freed r (lowestFree r)
+unfolding lowestFree
+lowest-free r =
+    chosen (Freed r) (not (isOpen r 0)) _ _
+    (λ a. record { place = lit< tt; free = not-true (isOpen r 0) a; below = λ j l. absurd (omega arith) }) (λ e.
+    let a = not-false (isOpen r 0) e in
+    chosen (Freed r) (not (isOpen r 1)) _ _
+    (λ b. record { place = lit< tt; free = not-true (isOpen r 1) b; below = below-by r 1 (λ _. a) (λ m. absurd (omega arith)) (λ m. absurd (omega arith)) (lit< tt) }) (λ f.
+    let b = not-false (isOpen r 1) f in
+    chosen (Freed r) (not (isOpen r 2)) _ _
+    (λ c. record { place = lit< tt; free = not-true (isOpen r 2) c; below = below-by r 2 (λ _. a) (λ _. b) (λ m. absurd (omega arith)) (lit< tt) }) (λ g.
+    let c = not-false (isOpen r 2) g in
+    chosen (Freed r) (not (isOpen r 3)) _ _
+    (λ d. record { place = lit< tt; free = not-true (isOpen r 3) d; below = below-by r 3 (λ _. a) (λ _. b) (λ _. c) (lit< tt) })
+    (λ h. of-four (λ i. isOpen r i ≡ true) a b c (not-false (isOpen r 3) h)))))
 
 -- stores inside one place leave the parts of the others alone
 module _ (l : List ℕ) (i j at n : ℕ) (vs : List ℕ) (apart : j ≡ i → ⊥) (start : placeStart i ≤ at)

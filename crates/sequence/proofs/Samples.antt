@@ -10,7 +10,7 @@ use Rattle.version.specs.Versions.{majorExists, minorExists}
 use Rattle.frame.specs.Messages.{versionExists, flagsAllowed, typeExists, bodyStartsWithId, readsFragments, isRequestOrReply, isBare, hasRequestId}
 use Rattle.frame.specs.declared.Refusal.the-variants.{Short}
 use Rattle.frame.specs.Frames.{sizeAllowed, fragmentAllowed, eightsAllowed, sizedOf, messageOf, frameOf}
-use Rattle.places.specs.Places.{isOpenWith, placeOf, allOpen, lowestFree, bothOpen, idOpenTwice, lengthWrong, someLengthWrong, badRecord}
+use Rattle.places.specs.Places.{isOpenWith, placeOf, lowestFree, bothOpen, idOpenTwice, lengthWrong, someLengthWrong, badRecord}
 use Rattle.joined.specs.Message.{corrected}
 use Rattle.joining.specs.declared.Refusal.the-variants.{Frame}
 use Rattle.joining.specs.Steps.{Opens, Completes, Refuses, differs, continued, withId, messageStep, stepOf}
@@ -25,7 +25,7 @@ call v = record { octets = v; out = replicate 18 0 }
 abbrev start : State
 start =
     record {
-      kept = record { ids = replicate 4 0; lengths = replicate 4 0; opened = replicate 4 false };
+      messages = record { ids = replicate 4 0; lengths = replicate 4 0; opened = replicate 4 false };
       places = replicate 65536 0;
     }
 
@@ -43,5 +43,5 @@ pub whole-example :
     × (stepIn (after start first) second ≡ Completes 0)
     × (messageIn (after start first) second ≡ paper 18 0x47494F50010200000000000600000009ABCD)
     × (stepIn (after (after start first) second) third ≡ Refuses (Frame Short))
-unfolding littleNumber littleOctets numberOf octetsOf numberAt majorExists minorExists versionExists flagsAllowed typeExists bodyStartsWithId readsFragments isRequestOrReply isBare hasRequestId sizeAllowed fragmentAllowed eightsAllowed sizedOf messageOf frameOf isOpenWith placeOf allOpen lowestFree bothOpen idOpenTwice lengthWrong someLengthWrong badRecord corrected differs continued withId messageStep stepOf
+unfolding littleNumber littleOctets numberOf octetsOf numberAt majorExists minorExists versionExists flagsAllowed typeExists bodyStartsWithId readsFragments isRequestOrReply isBare hasRequestId sizeAllowed fragmentAllowed eightsAllowed sizedOf messageOf frameOf isOpenWith placeOf lowestFree bothOpen idOpenTwice lengthWrong someLengthWrong badRecord corrected differs continued withId messageStep stepOf
 whole-example = (refl, refl, refl, refl)

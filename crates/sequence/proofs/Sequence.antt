@@ -9,40 +9,40 @@ use lib.ListN.{length, getD, replicate, length-set, length-drop}
 use lib.Seq.{sets, length-sets, getD-set-same, getD-set-other}
 use Rattle.places.specs.declared.Record.{Record}
 use Rattle.places.specs.declared.Found.the-variants.{At, Nowhere}
-use Rattle.joining.specs.declared.Refusal.the-variants.{BadRecord}
-use Rattle.places.specs.Places.{placeStart, placesSize, isOpen, idOf, lengthOf, placeOf, badRecord}
+use Rattle.joining.specs.declared.Refusal.the-variants.{BadRecord, FourOpen, NoRoom}
+use Rattle.places.specs.Places.{placesCount, placeSize, placeStart, placesSize, isOpen, idOf, lengthOf, placeOf, badRecord}
 use Rattle.joined.specs.Message.{idEnd, bodyAfterId, corrected}
 use Rattle.joining.specs.Steps.{Step, Passes, Opens, Extends, Completes, Frees, Refuses, lengthAfter}
 use Rattle.places.specs.Places.{closed, opened, lengthened}
-use Rattle.joining.specs.Answers.{messageOf, recordAfter, placesAfter}
+use Rattle.joining.specs.Answers.{messageWritten, recordAfter, placesAfter}
 use Rattle.sequence.specs.Sequence.{Call, State, stepIn, after, afterAll, acceptedLine, accepted, partsAfter, partsFrom, partsOf, heldOf, Fresh, HoldsParts, JoinsParts, Lowest}
 use Rattle.places.proofs.Choices.{never-both, of-four}
 use Rattle.places.proofs.Finding.{OpenNowhere, place-found, place-nowhere}
 use Rattle.sequence.proofs.Inversion.{Passed, Opened, Extended, Ended, Facts, own-parts, other-parts, step-says}
-use Rattle.sequence.proofs.Places.{lowest-free, other-place, HoldsAt, holds-still, holds-first, holds-more, held-more, not-bad}
+use Rattle.sequence.proofs.Places.{Freed, lowest-free, other-place, HoldsAt, holds-still, holds-first, holds-more, held-more, not-bad}
 
 -- the open places of a state hold the parts of their request ids, and a request id that is open nowhere has none
 pub record Keeps (s : State) (now : ℕ → List (List ℕ)) : Type 0 where
-  pub ids : length (s .kept .ids) ≡ 4
-  pub lengths : length (s .kept .lengths) ≡ 4
-  pub opened : length (s .kept .opened) ≡ 4
+  pub ids : length (s .messages .ids) ≡ 4
+  pub lengths : length (s .messages .lengths) ≡ 4
+  pub opened : length (s .messages .opened) ≡ 4
   pub lent : placesSize ≤ length (s .places)
-  pub once : (i j : ℕ) → i < 4 → j < 4 → isOpen (s .kept) i ≡ true → isOpen (s .kept) j ≡ true → idOf (s .kept) i ≡ idOf (s .kept) j → i ≡ j
-  pub holds : (i : ℕ) → i < 4 → isOpen (s .kept) i ≡ true → HoldsAt (s .kept) (s .places) (now (idOf (s .kept) i)) i
-  pub none : (id : ℕ) → OpenNowhere (s .kept) id → now id ≡ []
+  pub once : (i j : ℕ) → i < 4 → j < 4 → isOpen (s .messages) i ≡ true → isOpen (s .messages) j ≡ true → idOf (s .messages) i ≡ idOf (s .messages) j → i ≡ j
+  pub holds : (i : ℕ) → i < 4 → isOpen (s .messages) i ≡ true → HoldsAt (s .messages) (s .places) (now (idOf (s .messages) i)) i
+  pub none : (id : ℕ) → OpenNowhere (s .messages) id → now id ≡ []
 
 abbrev pub partsThen : (ℕ → List (List ℕ)) → List ℕ → ℕ → List (List ℕ)
 partsThen now v id = partsAfter id (now id) v
 
-module _ (r : Record) (places : List ℕ) (now : ℕ → List (List ℕ)) (k : Keeps (record { kept = r; places = places }) now) (v : List ℕ) where
-  passes-keeps : (room : ℕ) → Passed v r room → Keeps (record { kept = r; places = places }) (partsThen now v)
+module _ (r : Record) (places : List ℕ) (now : ℕ → List (List ℕ)) (k : Keeps (record { messages = r; places = places }) now) (v : List ℕ) where
+  passes-keeps : (room : ℕ) → Passed v r room → Keeps (record { messages = r; places = places }) (partsThen now v)
   passes-keeps room f =
-      subst (Keeps (record { kept = r; places = places })) (fun-ext (λ id. sym (f .parts id (now id) (k .none id)))) k
+      subst (Keeps (record { messages = r; places = places })) (fun-ext (λ id. sym (f .parts id (now id) (k .none id)))) k
 
   -- a first fragment in the lowest free place
   module _ (i x : ℕ) (f : Opened v r i x) where
     low : Lowest r i
-    low = subst (Lowest r) (sym (f .lowest)) (lowest-free r (f .some))
+    low = subst (Freed r) (f .lowest) (lowest-free r)
 
     abbrev with-first : Record
     with-first = opened r i x (length v)
@@ -101,7 +101,7 @@ module _ (r : Record) (places : List ℕ) (now : ℕ → List (List ℕ)) (k : K
         let n : j ≡ i → ⊥ = λ same. never-both (isOpen r i) (subst (λ j. isOpen r j ≡ true) same o) (low .free) in
         w j h (others-opened j n ∙ o) (others-id j n ∙ e))
 
-    opens-keeps : Keeps (record { kept = with-first; places = sets places (placeStart i) v }) (partsThen now v)
+    opens-keeps : Keeps (record { messages = with-first; places = sets places (placeStart i) v }) (partsThen now v)
     opens-keeps =
         record {
           ids = length-set (r .ids) i x ∙ k .ids;
@@ -139,7 +139,7 @@ module _ (r : Record) (places : List ℕ) (now : ℕ → List (List ℕ)) (k : K
         (other-parts v (now (idOf r j)) (idOf r i) (f .id) (idOf r j) (λ e. n (k .once j i h (f .place) o (f .opened) (sym e))))
         before
 
-    extends-keeps : Keeps (record { kept = with-more; places = stored }) (partsThen now v)
+    extends-keeps : Keeps (record { messages = with-more; places = stored }) (partsThen now v)
     extends-keeps =
         record {
           ids = k .ids;
@@ -174,7 +174,7 @@ module _ (r : Record) (places : List ℕ) (now : ℕ → List (List ℕ)) (k : K
         other-parts v (now id) (idOf r i) (f .id) id n
         ∙ k .none id (λ j h o e. w j h (getD-set-other (r .opened) i j false false (λ same. n (ap (idOf r) (sym same) ∙ e)) ∙ o) e)
 
-    ends-keeps : Keeps (record { kept = closed r i; places = places }) (partsThen now v)
+    ends-keeps : Keeps (record { messages = closed r i; places = places }) (partsThen now v)
     ends-keeps =
         record {
           ids = k .ids;
@@ -187,9 +187,9 @@ module _ (r : Record) (places : List ℕ) (now : ℕ → List (List ℕ)) (k : K
           none = λ id w. left-none id w (ℕ-discrete (idOf r i) id);
         }
 
-pub step-keeps : (r : Record) (places : List ℕ) (now : ℕ → List (List ℕ)) → Keeps (record { kept = r; places = places }) now
+pub step-keeps : (r : Record) (places : List ℕ) (now : ℕ → List (List ℕ)) → Keeps (record { messages = r; places = places }) now
     → (v : List ℕ) (room : ℕ) (step : Step) → Facts v r (length places) room step
-    → Keeps (record { kept = recordAfter step r v; places = placesAfter step r v places }) (λ id. partsFrom id (now id) (acceptedLine step v))
+    → Keeps (record { messages = recordAfter step r v; places = placesAfter step r v places }) (λ id. partsFrom id (now id) (acceptedLine step v))
 unfolding partsFrom
 step-keeps r places now k v room Passes f = passes-keeps r places now k v room f
 step-keeps r places now k v room (Opens i x) f = opens-keeps r places now k v i x f
@@ -211,8 +211,8 @@ all-keeps (c ∷ calls) s now k =
     subst (Keeps (afterAll (after s c) calls))
     (fun-ext (λ id. sym (parts-append id (now id) (acceptedLine (stepIn s c) (c .octets)) (accepted (after s c) calls))))
     (all-keeps calls (after s c) _
-    (step-keeps (s .kept) (s .places) now k (c .octets) (length (c .out)) (stepIn s c)
-    (step-says (c .octets) (s .kept) (s .places) (length (c .out)))))
+    (step-keeps (s .messages) (s .places) now k (c .octets) (length (c .out)) (stepIn s c)
+    (step-says (c .octets) (s .messages) (s .places) (length (c .out)))))
 
 pub fresh-keeps : (s : State) → Fresh s → Keeps s (λ _. [])
 fresh-keeps s f =
@@ -221,20 +221,20 @@ fresh-keeps s f =
       lengths = f .lengths;
       opened = f .opened;
       lent = f .lent;
-      once = λ i j h l o p e. absurd (never-both (isOpen (s .kept) i) o (f .none i h));
-      holds = λ i h o. absurd (never-both (isOpen (s .kept) i) o (f .none i h));
+      once = λ i j h l o p e. absurd (never-both (isOpen (s .messages) i) o (f .none i h));
+      holds = λ i h o. absurd (never-both (isOpen (s .messages) i) o (f .none i h));
       none = λ id w. refl;
     }
 
 -- what a call says that takes a step
-says-of : (s : State) (c : Call) (step : Step) → stepIn s c ≡ step → Facts (c .octets) (s .kept) (length (s .places)) (length (c .out)) step
+says-of : (s : State) (c : Call) (step : Step) → stepIn s c ≡ step → Facts (c .octets) (s .messages) (length (s .places)) (length (c .out)) step
 says-of s c step e =
-    subst (Facts (c .octets) (s .kept) (length (s .places)) (length (c .out))) e
-    (step-says (c .octets) (s .kept) (s .places) (length (c .out)))
+    subst (Facts (c .octets) (s .messages) (length (s .places)) (length (c .out))) e
+    (step-says (c .octets) (s .messages) (s .places) (length (c .out)))
 
 -- four places that are not open, whatever ids and lengths they had
 pub fresh-start : (ids lengths places : List ℕ) → length ids ≡ 4 → length lengths ≡ 4 → placesSize ≤ length places
-    → Fresh (record { kept = record { ids = ids; lengths = lengths; opened = replicate 4 false }; places = places })
+    → Fresh (record { messages = record { ids = ids; lengths = lengths; opened = replicate 4 false }; places = places })
 fresh-start ids lengths places e f h =
     record { ids = e; lengths = f; opened = refl; none = of-four (λ i. getD (replicate 4 false) i false ≡ false) refl refl refl refl; lent = h }
 
@@ -243,20 +243,20 @@ module _ (s : State) (fresh : Fresh s) (calls : List Call) where
   kept-all : Keeps (afterAll s calls) (λ id. partsOf id (accepted s calls))
   kept-all = all-keeps calls s (λ _. []) (fresh-keeps s fresh)
 
-  pub held-parts : (i : ℕ) → i < 4 → isOpen (afterAll s calls .kept) i ≡ true → HoldsParts (afterAll s calls) (accepted s calls) i
+  pub held-parts : (i : ℕ) → i < 4 → isOpen (afterAll s calls .messages) i ≡ true → HoldsParts (afterAll s calls) (accepted s calls) i
   held-parts i h o = let at = kept-all .holds i h o in record { held = at .held; some = at .some }
 
-  pub open-parts : (id i : ℕ) → placeOf (afterAll s calls .kept) id ≡ At i → partsOf id (accepted s calls) ≡ [] → ⊥
+  pub open-parts : (id i : ℕ) → placeOf (afterAll s calls .messages) id ≡ At i → partsOf id (accepted s calls) ≡ [] → ⊥
   open-parts id i e =
-      let at = place-found (afterAll s calls .kept) id i e in
+      let at = place-found (afterAll s calls .messages) id i e in
       subst (λ x. partsOf x (accepted s calls) ≡ [] → ⊥) (at .id) (held-parts i (at .place) (at .opened) .some)
 
-  pub closed-parts : (id : ℕ) → placeOf (afterAll s calls .kept) id ≡ Nowhere → partsOf id (accepted s calls) ≡ []
-  closed-parts id e = kept-all .none id (place-nowhere (afterAll s calls .kept) id e)
+  pub closed-parts : (id : ℕ) → placeOf (afterAll s calls .messages) id ≡ Nowhere → partsOf id (accepted s calls) ≡ []
+  closed-parts id e = kept-all .none id (place-nowhere (afterAll s calls .messages) id e)
 
-  pub never-28 : badRecord (afterAll s calls .kept) (length (afterAll s calls .places)) ≡ false
+  pub never-28 : badRecord (afterAll s calls .messages) (length (afterAll s calls .places)) ≡ false
   never-28 =
-      not-bad (afterAll s calls .kept) (length (afterAll s calls .places)) (kept-all .lent) (kept-all .once)
+      not-bad (afterAll s calls .messages) (length (afterAll s calls .places)) (kept-all .lent) (kept-all .once)
       (λ i h o. kept-all .holds i h o .least)
       (λ i h o. kept-all .holds i h o .most)
 
@@ -264,15 +264,15 @@ module _ (s : State) (fresh : Fresh s) (calls : List Call) where
   not-refused-28 c e = never-both _ (says-of (afterAll s calls) c (Refuses BadRecord) e) never-28
 
   pub joined-parts : (c : Call) (i : ℕ) → stepIn (afterAll s calls) c ≡ Completes i → JoinsParts (afterAll s calls) (accepted s calls) c i
-  joined-parts c i e = joined-by (partsOf (idOf (afterAll s calls .kept) i) (accepted s calls)) refl
+  joined-parts c i e = joined-by (partsOf (idOf (afterAll s calls .messages) i) (accepted s calls)) refl
     where
-      f : Ended (c .octets) (afterAll s calls .kept) (length (c .out)) (lengthAfter (afterAll s calls .kept) i (length (c .octets))) i
+      f : Ended (c .octets) (afterAll s calls .messages) (length (c .out)) (lengthAfter (afterAll s calls .messages) i (length (c .octets))) i
       f = says-of (afterAll s calls) c (Completes i) e
 
       at : HoldsParts (afterAll s calls) (accepted s calls) i
       at = held-parts i (f .place) (f .opened)
 
-      joined-by : (now : List (List ℕ)) → partsOf (idOf (afterAll s calls .kept) i) (accepted s calls) ≡ now
+      joined-by : (now : List (List ℕ)) → partsOf (idOf (afterAll s calls .messages) i) (accepted s calls) ≡ now
           → JoinsParts (afterAll s calls) (accepted s calls) c i
       joined-by [] none = absurd (at .some none)
       joined-by (first ∷ fragments) some =
@@ -281,13 +281,21 @@ module _ (s : State) (fresh : Fresh s) (calls : List Call) where
             first = first;
             fragments = fragments;
             opened = some;
-            message = ap (λ step. messageOf step (afterAll s calls .kept) (c .octets) (afterAll s calls .places)) e
+            message = ap (λ step. messageWritten step (afterAll s calls .messages) (c .octets) (afterAll s calls .places)) e
                 ∙ ap (λ l. corrected (l ++ bodyAfterId (c .octets))) (at .held ∙ ap heldOf some)
                 ∙ ap corrected (sym (held-more (first ∷ fragments) (c .octets) (λ none. at .some (some ∙ none))));
           }
 
 -- "Freed places are used again, the lowest free one first"
-pub lowest-first : (s : State) (c : Call) (i id : ℕ) → stepIn s c ≡ Opens i id → Lowest (s .kept) i
+pub lowest-first : (s : State) (c : Call) (i id : ℕ) → stepIn s c ≡ Opens i id → Lowest (s .messages) i
 lowest-first s c i id e =
     let f = says-of s c (Opens i id) e in
-    subst (Lowest (s .kept)) (sym (f .lowest)) (lowest-free (s .kept) (f .some))
+    subst (Freed (s .messages)) (f .lowest) (lowest-free (s .messages))
+
+-- 23 is given only "when four are open"
+pub four-open : (s : State) (c : Call) → stepIn s c ≡ Refuses FourOpen → (i : ℕ) → i < placesCount → isOpen (s .messages) i ≡ true
+four-open s c e = subst (Freed (s .messages)) (says-of s c (Refuses FourOpen) e) (lowest-free (s .messages))
+
+-- 27 is not given where the output has the octets of the longest message
+pub not-refused-27 : (s : State) (c : Call) → placeSize ≤ length (c .out) → stepIn s c ≡ Refuses NoRoom → ⊥
+not-refused-27 s c h e = let l = says-of s c (Refuses NoRoom) e in omega arith

@@ -9,10 +9,10 @@
 --   acceptedLine    a line that is accepted, "0 whole message; 1 held ..; 2 joined; 3 a CancelRequest whose id was open", or none
 --   accepted        the lines of calls that are accepted, in their order
 --   isId            whether a request id is this one
+--   withOne         a middle fragment's octets behind the parts of an open message; of one that is not open there are none
 --   partsWith       the parts of an open message after a line of its request id: none after "a CancelRequest whose id was open, which
 --                   frees that place", one more after a middle fragment, none after the last, a first fragment by itself, and the same
 --                   after a whole message
---   withOne         a middle fragment's octets behind the parts of an open message; of one that is not open there are none
 --   partsAfter      the parts of the open message of a request id after any line
 --   partsFrom       and after lines, one after another
 --   partsOf         the parts of the open message of a request id, where no message was open before the first line
@@ -32,27 +32,27 @@ use Rattle.frame.specs.declared.RequestId.the-variants.{Id, NoId}
 use Rattle.frame.specs.Messages.{isCancel, isFragment}
 use Rattle.frame.specs.Header.{kindAt, moreAt, idAt}
 use Rattle.places.specs.declared.Record.{Record}
-use Rattle.places.specs.Places.{placesSize, isOpen, idOf, heldIn}
+use Rattle.places.specs.Places.{placesCount, placesSize, isOpen, idOf, heldIn}
 use Rattle.joined.specs.Message.{parts, joinedOf}
 use Rattle.joining.specs.Steps.{Step, Passes, Opens, Extends, Completes, Frees, Refuses, stepOf}
-use Rattle.joining.specs.Answers.{messageOf, recordAfter, placesAfter}
+use Rattle.joining.specs.Answers.{messageWritten, recordAfter, placesAfter}
 
 pub record Call : Type 0 where
   pub octets : List ℕ
   pub out : List ℕ
 
 pub record State : Type 0 where
-  pub kept : Record
+  pub messages : Record
   pub places : List ℕ
 
 abbrev pub stepIn : State → Call → Step
-stepIn s c = stepOf (c .octets) (s .kept) (s .places) (length (c .out))
+stepIn s c = stepOf (c .octets) (s .messages) (s .places) (length (c .out))
 
 abbrev pub messageIn : State → Call → List ℕ
-messageIn s c = messageOf (stepIn s c) (s .kept) (c .octets) (s .places)
+messageIn s c = messageWritten (stepIn s c) (s .messages) (c .octets) (s .places)
 
 abbrev pub after : State → Call → State
-after s c = record { kept = recordAfter (stepIn s c) (s .kept) (c .octets); places = placesAfter (stepIn s c) (s .kept) (c .octets) (s .places) }
+after s c = record { messages = recordAfter (stepIn s c) (s .messages) (c .octets); places = placesAfter (stepIn s c) (s .messages) (c .octets) (s .places) }
 
 unfoldable pub afterAll : State → List Call → State
 afterAll s [] = s
@@ -99,24 +99,24 @@ heldOf [] = []
 heldOf (first ∷ fragments) = parts first fragments
 
 pub record Fresh (s : State) : Type 0 where
-  pub ids : length (s .kept .ids) ≡ 4
-  pub lengths : length (s .kept .lengths) ≡ 4
-  pub opened : length (s .kept .opened) ≡ 4
-  pub none : (i : ℕ) → i < 4 → isOpen (s .kept) i ≡ false
+  pub ids : length (s .messages .ids) ≡ placesCount
+  pub lengths : length (s .messages .lengths) ≡ placesCount
+  pub opened : length (s .messages .opened) ≡ placesCount
+  pub none : (i : ℕ) → i < placesCount → isOpen (s .messages) i ≡ false
   pub lent : placesSize ≤ length (s .places)
 
 pub record HoldsParts (s : State) (lines : List (List ℕ)) (i : ℕ) : Type 0 where
-  pub held : heldIn (s .kept) (s .places) i ≡ heldOf (partsOf (idOf (s .kept) i) lines)
-  pub some : partsOf (idOf (s .kept) i) lines ≡ [] → ⊥
+  pub held : heldIn (s .messages) (s .places) i ≡ heldOf (partsOf (idOf (s .messages) i) lines)
+  pub some : partsOf (idOf (s .messages) i) lines ≡ [] → ⊥
 
 pub record JoinsParts (s : State) (lines : List (List ℕ)) (c : Call) (i : ℕ) : Type 0 where
-  pub id : idAt (c .octets) ≡ Id (idOf (s .kept) i)
+  pub id : idAt (c .octets) ≡ Id (idOf (s .messages) i)
   pub first : List ℕ
   pub fragments : List (List ℕ)
-  pub opened : partsOf (idOf (s .kept) i) lines ≡ first ∷ fragments
+  pub opened : partsOf (idOf (s .messages) i) lines ≡ first ∷ fragments
   pub message : messageIn s c ≡ joinedOf first (fragments ++ (c .octets ∷ []))
 
 pub record Lowest (r : Record) (i : ℕ) : Type 0 where
-  pub place : i < 4
+  pub place : i < placesCount
   pub free : isOpen r i ≡ false
   pub below : (j : ℕ) → j < i → isOpen r j ≡ true

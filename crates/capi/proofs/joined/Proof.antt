@@ -1,9 +1,5 @@
 -- What joining ensures, as the C interface's numbers.
-use mathlib.Core.Path.{ap, _∙_}
 use borrow.Author.Needs.{needs}
-use Rattle.joining.specs.declared.Answer.{Answer}
-use Rattle.joining.specs.Answers.{answerNumber}
-use Rattle.capi.specs.Answers.{joinedCount}
 use Rattle.capi.proofs.joined.Statement.{statement}
 use Rattle.capi.proofs.joined.Tie as tie
 
@@ -26,7 +22,12 @@ returns : tie.Need-returns
 returns c =
     let at-join = c .before .before .before .before .before .before .before .before in
     let start = at-join .before .before .before .before .before .before in
-    let j = at-join .join .ensures in record { number = c .number .ensures ∙ ap answerNumber (j .answer); after = j .after; stored = j .stored; output = j .output; counted = c .before .joined-count .ensures ∙ ap (λ (a : Answer). joinedCount a (start .args .count .now)) (j .answer) }
+    record {
+      answer = at-join .join .result .answer;
+      joins = at-join .join .ensures;
+      number = c .number .ensures;
+      counted = c .before .joined-count .ensures;
+    }
 
 pub joined-spec : {M : Type 1} → statement M
 joined-spec =

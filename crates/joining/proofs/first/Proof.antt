@@ -1,30 +1,74 @@
--- The octets stand at the start of the place.
+-- The octets stand at the start of the lowest free place.
+use mathlib.Core.Path.{_≡_}
+use Prim.Native.Nat.{_<_}
 use native.Mathlib.Omega.{arith}
 use borrow.Author.Needs.{needs}
-use Rattle.joining.proofs.Doing.{opens}
+use Rattle.places.specs.Places.{placesCount}
+use Rattle.joining.specs.declared.Refusal.the-variants.{FourOpen}
+use Rattle.joining.specs.Steps.{Opens}
+use Rattle.joining.proofs.Doing.{by-step, refuses, opens}
+use Rattle.joining.proofs.Deciding.{no-place, free-place, opens-place}
 use Rattle.joining.proofs.first.Statement.{statement}
 use Rattle.joining.proofs.first.Tie as tie
 
+lowest-free-requires : tie.Need-lowest-free-requires
+lowest-free-requires c κs = search needs
+
+enum-known-i : tie.Need-enum-known-i
+enum-known-i c = search needs
+
+enum-told : tie.Need-enum-told
+enum-told c = search needs
+
+refused-requires : tie.Need-refused-requires
+refused-requires c κs = search needs
+
+returns : tie.Need-returns
+returns c = λ out.
+    refuses (c .before .before .before .before .before .before .args .octets .now) (c .before .before .before .before .before .before .args .before) (c .before .before .before .before .before .before .args .places .now) out _ FourOpen _
+    (no-place (c .before .before .before .before .before .before .args .before) (c .before .before .before .before .before .before .args .id) _ (c .before .before .before .lowest-free .ensures) (c .before .enum-told .given .1))
+    (c .refused .ensures)
+
+-- the place is one of the four
+place : (c : tie.After-i) → c .i .given .0 .0 < placesCount
+place c = free-place (c .before .before .before .before .before .args .before) _ _ (c .before .before .lowest-free .ensures) (c .i .given .1)
+
 mul-write-octets : tie.Need-mul-write-octets
-mul-write-octets c = search needs
+mul-write-octets c = record { fits = let p = place (c .before .before) in omega arith }
 
 write-octets-requires : tie.Need-write-octets-requires
 write-octets-requires c κs = search needs
 
 opened-requires : tie.Need-opened-requires
-opened-requires c κs = search needs
+opened-requires c κs = place (c .before .before .before .before .before)
 
 same-length : tie.Need-same-length
 same-length c = search needs
 
-returns : tie.Need-returns
-returns c =
-    let at-write-octets = c .before .before .before in
-    let start = at-write-octets .before .before .before .before in
-    λ out. let p = start .pre .place in let l = start .pre .lent in let n = start .pre .short in opens (start .args .octets .now)
-    (start .args .before) (start .args .places .now) out (start .args .i) (start .args .id) (c .opened .result) _ _ (omega arith)
-    (c .opened .ensures) (at-write-octets .write-octets .ensures)
+returns-2 : tie.Need-returns-2
+returns-2 c = λ out.
+    let octets = c .before .before .before .before .before .before .before .before .before .before .before .args .octets .now in
+    let r = c .before .before .before .before .before .before .before .before .before .before .before .args .before in
+    let places = c .before .before .before .before .before .before .before .before .before .before .before .args .places .now in
+    let i = c .before .before .before .before .before .before .i .given .0 .0 in
+    let p = place (c .before .before .before .before .before .before) in
+    let l = c .before .before .before .before .before .before .before .before .before .before .before .pre .lent in
+    let n = c .before .before .before .before .before .before .before .before .before .before .before .pre .short in
+    by-step octets r places out _ (Opens i (c .before .before .before .before .before .before .before .before .before .before .before .args .id)) _ _ out
+    (opens-place r (c .before .before .before .before .before .before .before .before .before .before .before .args .id) _ i (c .before .before .before .before .before .before .before .before .lowest-free .ensures) (c .before .before .before .before .before .before .i .given .1))
+    (opens octets r places out i (c .before .before .before .before .before .before .before .before .before .before .before .args .id) (c .opened .result) _ _ (omega arith) (c .opened .ensures) (c .before .before .before .write-octets .ensures))
 
 pub first-spec : {M : Type 1} → statement M
 first-spec =
-    tie.close (tie.spec mul-write-octets write-octets-requires opened-requires same-length returns)
+    tie.close
+    (tie.spec
+    lowest-free-requires
+    enum-known-i
+    enum-told
+    refused-requires
+    returns
+    mul-write-octets
+    write-octets-requires
+    opened-requires
+    same-length
+    returns-2)

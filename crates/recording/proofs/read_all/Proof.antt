@@ -19,8 +19,11 @@ fresh-requires c κs = search needs
 loop-holds : tie.Need-loop-holds Inv-loop μ-loop
 loop-holds c = search needs
 
-read-block-requires : tie.Need-read-block-requires Inv-loop μ-loop
-read-block-requires c κs = search needs
+read-requires : tie.Need-read-requires Inv-loop μ-loop
+read-requires c κs = search needs
+
+unread-requires : tie.Need-unread-requires Inv-loop μ-loop
+unread-requires c κs = search needs
 
 same-length : tie.Need-same-length Inv-loop μ-loop
 same-length c = search needs
@@ -36,6 +39,9 @@ same-length-4 c = search needs
 
 returns : tie.Need-returns Inv-loop μ-loop
 returns c = search needs
+
+count-requires : tie.Need-count-requires Inv-loop μ-loop
+count-requires c κs = search needs
 
 same-length-5 : tie.Need-same-length-5 Inv-loop μ-loop
 same-length-5 c = search needs
@@ -111,12 +117,14 @@ read-all-spec =
     μ-loop
     fresh-requires
     loop-holds
-    read-block-requires
+    read-requires
+    unread-requires
     same-length
     same-length-2
     same-length-3
     same-length-4
     returns
+    count-requires
     same-length-5
     same-length-6
     same-length-7

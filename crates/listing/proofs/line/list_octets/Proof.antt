@@ -13,17 +13,17 @@ use Rattle.listing.proofs.line.list_octets.Tie as tie
 -- the message that is shown fits the memory
 shown-most : (c : tie.After-n) → (c .n .given .0 .0 ≤ messageMost) × (length (c .before .before .before .before .before .before .before .before .join .last .1 .1 .1 .0) ≡ messageMost)
 shown-most c =
-    let at-shown-of = c .before .before in
-    let at-join = at-shown-of .before .before .before .before .before .before in
+    let at-output = c .before .before in
+    let at-join = at-output .before .before .before .before .before .before in
     let start = at-join .before .before .before .before .before .before .before in
     let o = start .args in
-    (count-most (o .octets .now) (o .before) (o .places .now) (o .message .now) (at-join .join .result) _ _ (start .pre .1) (at-join .join .ensures) _ (sym (at-shown-of .shown-of .ensures) ∙ c .n .given .1), at-join .join .kept .1 .1 .1 .0 ∙ start .pre .1)
+    (count-most (o .octets .now) (o .before) (o .places .now) (o .message .now) (at-join .join .result) _ _ (start .pre .1) (at-join .join .ensures) _ (sym (at-output .output .ensures) ∙ c .n .given .1), at-join .join .kept .1 .1 .1 .0 ∙ start .pre .1)
 
 join-requires : tie.Need-join-requires
 join-requires c κs = search needs
 
-shown-of-requires : tie.Need-shown-of-requires
-shown-of-requires c κs = search needs
+output-requires : tie.Need-output-requires
+output-requires c κs = search needs
 
 enum-known-n : tie.Need-enum-known-n
 enum-known-n c = search needs
@@ -51,11 +51,11 @@ returns c =
     let at-put-unshown = c .before .before in
     let at-number = at-put-unshown .before in
     let at-enum-told = at-number .before .before in
-    let at-shown-of = at-enum-told .before .before in
-    let at-join = at-shown-of .before .before .before .before .before .before in
+    let at-output = at-enum-told .before .before in
+    let at-join = at-output .before .before .before .before .before .before in
     let start = at-join .before .before .before .before .before .before .before in
     let o = start .args in
-    lists-unshown (o .octets .now) (o .before) (o .places .now) (o .message .now) (at-join .join .result) _ _ (start .pre .1) (at-join .join .ensures) (o .number) _ (o .out .now) (o .at) _ _ (at-number .number .ensures) (sym (at-shown-of .shown-of .ensures) ∙ at-enum-told .enum-told .given .1) (at-put-unshown .put-unshown .ensures)
+    lists-unshown (o .octets .now) (o .before) (o .places .now) (o .message .now) (at-join .join .result) _ _ (start .pre .1) (at-join .join .ensures) (o .number) _ (o .out .now) (o .at) _ _ (at-number .number .ensures) (sym (at-output .output .ensures) ∙ at-enum-told .enum-told .given .1) (at-put-unshown .put-unshown .ensures)
 
 number-requires-2 : tie.Need-number-requires-2
 number-requires-2 c κs = search needs
@@ -87,18 +87,18 @@ returns-2 c =
     let at-put-shown = c .before .before in
     let at-number2 = at-put-shown .before .before in
     let at-n = at-number2 .before .before .before in
-    let at-shown-of = at-n .before .before in
-    let at-join = at-shown-of .before .before .before .before .before .before in
+    let at-output = at-n .before .before in
+    let at-join = at-output .before .before .before .before .before .before in
     let start = at-join .before .before .before .before .before .before .before in
     let o = start .args in
-    lists-shown (o .octets .now) (o .before) (o .places .now) (o .message .now) (at-join .join .result) _ _ (start .pre .1) (at-join .join .ensures) (o .number) _ (o .out .now) (o .at) _ _ (at-number2 .number2 .ensures) _ (sym (at-shown-of .shown-of .ensures) ∙ at-n .n .given .1) (at-put-shown .put-shown .ensures)
+    lists-shown (o .octets .now) (o .before) (o .places .now) (o .message .now) (at-join .join .result) _ _ (start .pre .1) (at-join .join .ensures) (o .number) _ (o .out .now) (o .at) _ _ (at-number2 .number2 .ensures) _ (sym (at-output .output .ensures) ∙ at-n .n .given .1) (at-put-shown .put-shown .ensures)
 
 pub list-octets-spec : {M : Type 1} → statement M
 list-octets-spec =
     tie.close
     (tie.spec
     join-requires
-    shown-of-requires
+    output-requires
     enum-known-n
     enum-told
     number-requires

@@ -3,10 +3,10 @@ use mathlib.Core.Path.{refl}
 use native.Mathlib.Omega.{arith}
 use mathlib.Core.Bool.{false}
 use lib.ListN.{getD}
-use Rattle.listing.proofs.Ends.{flag-most, count-is}
+use Rattle.places.proofs.Counting.{flag-most, count-is}
 use borrow.Author.Needs.{needs}
-use Rattle.listing.proofs.block.open_count.Statement.{statement}
-use Rattle.listing.proofs.block.open_count.Tie as tie
+use Rattle.places.proofs.open_count.Statement.{statement}
+use Rattle.places.proofs.open_count.Tie as tie
 
 array-read-result : tie.Need-array-read-result
 array-read-result c = search needs
@@ -22,7 +22,7 @@ cast-result-2 c = search needs
 
 add-result : tie.Need-add-result
 add-result c =
-    let o = c .before .args .messages .opened in
+    let o = c .before .args .r .opened in
     omega (arith, flag-most (getD o 0 false), flag-most (getD o 1 false))
 
 array-read-result-3 : tie.Need-array-read-result-3
@@ -33,7 +33,7 @@ cast-result-3 c = search needs
 
 add-result-2 : tie.Need-add-result-2
 add-result-2 c =
-    let o = c .before .args .messages .opened in
+    let o = c .before .args .r .opened in
     omega (arith, flag-most (getD o 0 false), flag-most (getD o 1 false), flag-most (getD o 2 false))
 
 array-read-result-4 : tie.Need-array-read-result-4
@@ -44,11 +44,11 @@ cast-result-4 c = search needs
 
 add-result-3 : tie.Need-add-result-3
 add-result-3 c =
-    let o = c .before .args .messages .opened in
+    let o = c .before .args .r .opened in
     omega (arith, flag-most (getD o 0 false), flag-most (getD o 1 false), flag-most (getD o 2 false), flag-most (getD o 3 false))
 
 returns : tie.Need-returns
-returns c = count-is (c .before .args .messages) _ _ _ _ refl refl refl refl
+returns c = count-is (c .before .args .r) _ _ _ _ refl refl refl refl
 
 pub open-count-spec : {M : Type 1} → statement M
 open-count-spec =
