@@ -9,9 +9,10 @@ use lib.ListN.{length, drop, set, length-append, length-set, List·getD-append}
 use lib.Seq.{sets, sets-eq, length-sets, set-append-left}
 use Rattle.cdr.specs.declared.Order.{Order}
 use Rattle.writing.specs.declared.Written.{Written}
+use Rattle.writing.specs.declared.Written.the-variants.{Upto}
 use Rattle.cdr.specs.Number.{octetsOf}
 use Rattle.writing.specs.Write.{Stored}
-use Rattle.writing.proofs.Stores.{stored-fits, sets-append}
+use Rattle.writing.proofs.Stores.{stored-upto, stored-fits, sets-append}
 use Rattle.cdr.proofs.Numbers.{octets-length}
 use Rattle.frame.specs.Header.{headerSize, flagsAt, orderAt, orderFlag}
 use Rattle.joined.specs.declared.Assembled.the-variants.{Message, NoRoom, NoHeader}
@@ -61,6 +62,13 @@ header-stored out total c order w last h k e f s =
     stored-fits (set out flagsOffset c) sizeOffset (octetsOf order 4 (total - headerSize)) w last (omega arith) s
     ∙ ap (λ (x : ℕ). sets (set out flagsOffset x) sizeOffset (octetsOf order 4 (total - headerSize))) e
     ∙ ap (λ (o : Order). sets (set out flagsOffset (moreCleared (flagsAt out))) sizeOffset (octetsOf o 4 (total - headerSize))) f
+
+-- the second of two parts ends where both do
+pub second-end : (a b out : List ℕ) (one two : List ℕ) (w x : Written) → length a + length b ≤ length out
+    → Stored out 0 a w one → Stored one (length a) b x two → x ≡ Upto (length a + length b)
+second-end a b out one two w x k s t =
+    let n : length one ≡ length out = ap length (stored-fits out 0 a w one (omega arith) s) ∙ length-sets out 0 a in
+    stored-upto one (length a) b x two (omega arith) t
 
 -- two parts written one behind the other, and the header corrected
 pub joined-written : (a b out : List ℕ) (one two last : List ℕ) (w x : Written) → headerSize ≤ length a → length a + length b ≤ length out

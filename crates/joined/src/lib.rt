@@ -8,6 +8,7 @@ ghost use Rattle.frame.specs.Header.{headerSize, flagsAt, orderAt};
 ghost use Rattle.joined.specs.Message.{moreCleared, flagsOffset, sizeOffset};
 ghost use Rattle.joined.specs.Written.{Assembles};
 use cdr::Size;
+use writing::Written;
 
 // The octets of a header.
 const HEADER_SIZE: usize = 12;
@@ -37,9 +38,11 @@ pub fn write_joined(held: &[u8], body: &[u8], out: &mut [u8]) -> Assembled
         return Assembled::NoRoom;
     }
     writing::write_octets(out, 0, held);
-    writing::write_octets(out, held.len(), body);
-    correct(out, total);
-    Assembled::Message(total)
+    let Written::Upto(end) = writing::write_octets(out, held.len(), body) else {
+        return Assembled::NoRoom;
+    };
+    correct(out, end);
+    Assembled::Message(end)
 }
 
 // Flags with the more flag cleared.

@@ -233,8 +233,9 @@ fn first(octets: &[u8], id: u32, before: Record, places: &mut [u8]) -> Outcome
     requires { ⌜ Opening (now octets) (now places) ⌝ }
     ensures { λ r. ⌜ ((out : List ℕ) → Does (firstOf id (lowestFree before)) (now (octets .entry)) before (now (places .entry)) out r (now (places .exit)) out) ⌝ }
 {
-    let Found::At(i) = places::lowest_free(before) else {
-        return refused(before, Refusal::FourOpen);
+    let i = match places::lowest_free(before) {
+        Found::At(i) => i,
+        Found::Nowhere => return refused(before, Refusal::FourOpen),
     };
     writing::write_octets(places, i * places::PLACE_SIZE, octets);
     Outcome {

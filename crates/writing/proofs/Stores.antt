@@ -72,9 +72,11 @@ module _ (out : List ℕ) (at n : ℕ) (xs : List ℕ) (e : length xs ≡ n) whe
   pub written : (end : ℕ) → runOf out at n ≡ To end → (last : List ℕ) → last ≡ sets out at xs → Stored out at xs (Upto end) last
   written end h last f = record { answer = rw (e, h); contents = f }
 
--- where the octets fit, the buffer holds them
+-- where the octets fit, it is told where they end, and the buffer holds them
+pub stored-upto : (out : List ℕ) (at : ℕ) (xs : List ℕ) (r : Written) (last : List ℕ) → at + length xs ≤ length out
+    → Stored out at xs r last → r ≡ Upto (at + length xs)
+stored-upto out at xs r last h s = s .answer ∙ rw (run-to out at (length xs) h)
+
 pub stored-fits : (out : List ℕ) (at : ℕ) (xs : List ℕ) (r : Written) (last : List ℕ) → at + length xs ≤ length out
     → Stored out at xs r last → last ≡ sets out at xs
-stored-fits out at xs r last h s =
-    let e : r ≡ Upto (at + length xs) = s .answer ∙ rw (run-to out at (length xs) h) in
-    s .contents ∙ ap (λ (w : Written). holding w out at xs) e
+stored-fits out at xs r last h s = s .contents ∙ ap (λ (w : Written). holding w out at xs) (stored-upto out at xs r last h s)

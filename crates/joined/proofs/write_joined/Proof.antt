@@ -1,21 +1,31 @@
 -- The two parts one behind the other, and the header corrected over them.
+use mathlib.Core.Path.{_≡_, sym, _∙_}
+use Prim.Native.Nat.{ℕ, _+_}
+use native.Mathlib.Omega.{arith}
 use borrow.Author.Needs.{needs}
-use Rattle.joined.proofs.Correcting.{no-header, no-room, message, joined-written}
+use lib.ListN.{length}
+use Rattle.writing.specs.declared.Written.the-variants.{Upto, NoRoom}
+use Rattle.joined.proofs.Correcting.{no-header, no-room, message, second-end, joined-written}
 use Rattle.joined.proofs.write_joined.Statement.{statement}
 use Rattle.joined.proofs.write_joined.Tie as tie
+
+-- where the body ends, which fits
+end-told : (c : tie.After-write-octets2) → c .write-octets2 .result ≡ Upto (length (c .before .before .before .before .before .before .before .before .before .before .before .args .held .now) + length (c .before .before .before .before .before .before .before .before .before .before .before .args .body .now))
+end-told c = second-end (c .before .before .before .before .before .before .before .before .before .before .before .args .held .now) (c .before .before .before .before .before .before .before .before .before .before .before .args .body .now) (c .before .before .before .before .before .before .before .before .before .before .before .args .out .now) _ _ _ _ (c .before .before .before .before .before .before .if2 .left) (c .before .before .before .before .write-octets .ensures) (c .write-octets2 .ensures)
+
+end-is : (c : tie.After-end) → c .end .given .0 .0 ≡ length (c .before .before .before .before .before .before .before .before .before .before .before .before .before .before .before .args .held .now) + length (c .before .before .before .before .before .before .before .before .before .before .before .before .before .before .before .args .body .now)
+end-is c =
+    let e : Upto (c .end .given .0 .0) ≡ Upto (length (c .before .before .before .before .before .before .before .before .before .before .before .before .before .before .before .args .held .now) + length (c .before .before .before .before .before .before .before .before .before .before .before .before .before .before .before .args .body .now)) = sym (c .end .given .1) ∙ end-told (c .before .before .before .before) in
+    cc
 
 add-total : tie.Need-add-total
 add-total c = search needs
 
 returns : tie.Need-returns
-returns c =
-    let start = c .before .before .before .before in
-    no-header (start .args .held .now) (start .args .body .now) (start .args .out .now) (c .if1 .taken)
+returns c = no-header (c .before .before .before .before .args .held .now) (c .before .before .before .before .args .body .now) (c .before .before .before .before .args .out .now) (c .if1 .taken)
 
 returns-2 : tie.Need-returns-2
-returns-2 c =
-    let start = c .before .before .before .before .before in
-    no-room (start .args .held .now) (start .args .body .now) (start .args .out .now) (c .before .if1 .left) (c .if2 .taken)
+returns-2 c = no-room (c .before .before .before .before .before .args .held .now) (c .before .before .before .before .before .args .body .now) (c .before .before .before .before .before .args .out .now) (c .before .if1 .left) (c .if2 .taken)
 
 write-octets-requires : tie.Need-write-octets-requires
 write-octets-requires c κs = search needs
@@ -23,24 +33,36 @@ write-octets-requires c κs = search needs
 write-octets-requires-2 : tie.Need-write-octets-requires-2
 write-octets-requires-2 c κs = search needs
 
-correct-requires : tie.Need-correct-requires
-correct-requires c κs = search needs
+enum-known-end : tie.Need-enum-known-end
+enum-known-end c = search needs
+
+enum-told : tie.Need-enum-told
+enum-told c = search needs
 
 same-length : tie.Need-same-length
 same-length c = search needs
 
+-- never: the body fits
 returns-3 : tie.Need-returns-3
 returns-3 c =
-    let at-write-octets2 = c .before .before .before .before .before .before in
-    let at-write-octets = at-write-octets2 .before .before .before .before in
-    let at-if2 = at-write-octets .before .before in
-    let at-if1 = at-if2 .before in
-    let start = at-if1 .before .before .before .before in
-    let held = start .args .held .now in
-    let body = start .args .body .now in
-    let out = start .args .out .now in
-    message held body out (at-if1 .if1 .left) (at-if2 .if2 .left) _
-    (joined-written held body out _ _ _ _ _ (at-if1 .if1 .left) (at-if2 .if2 .left) (at-write-octets .write-octets .ensures) (at-write-octets2 .write-octets2 .ensures) (c .before .before .correct .ensures))
+    let e : NoRoom ≡ Upto (length (c .before .before .before .before .before .before .before .before .before .before .before .before .before .before .before .args .held .now) + length (c .before .before .before .before .before .before .before .before .before .before .before .before .before .before .before .args .body .now)) = sym (c .enum-told .given .1) ∙ end-told (c .before .before .before .before) in
+    let z : _≡_ {A = ℕ} 0 1 = cc in
+    absurd (omega arith)
+
+correct-requires : tie.Need-correct-requires
+correct-requires c κs = let e = end-is (c .before .before) in let h = c .before .before .before .before .before .before .before .before .before .before .before .before .before .if1 .left in let k = c .before .before .before .before .before .before .before .before .before .before .before .before .if2 .left in (omega arith, omega arith)
+
+same-length-2 : tie.Need-same-length-2
+same-length-2 c = search needs
+
+returns-4 : tie.Need-returns-4
+returns-4 c =
+    let held = c .before .before .before .before .before .before .before .before .before .before .before .before .before .before .before .before .before .before .before .before .args .held .now in
+    let body = c .before .before .before .before .before .before .before .before .before .before .before .before .before .before .before .before .before .before .before .before .args .body .now in
+    let out = c .before .before .before .before .before .before .before .before .before .before .before .before .before .before .before .before .before .before .before .before .args .out .now in
+    rw (end-is (c .before .before .before .before .before))
+    (message held body out (c .before .before .before .before .before .before .before .before .before .before .before .before .before .before .before .before .if1 .left) (c .before .before .before .before .before .before .before .before .before .before .before .before .before .before .before .if2 .left) _
+    (joined-written held body out _ _ _ _ _ (c .before .before .before .before .before .before .before .before .before .before .before .before .before .before .before .before .if1 .left) (c .before .before .before .before .before .before .before .before .before .before .before .before .before .before .before .if2 .left) (c .before .before .before .before .before .before .before .before .before .before .before .before .before .write-octets .ensures) (c .before .before .before .before .before .before .before .before .before .write-octets2 .ensures) (rw (end-is (c .before .before .before .before .before)) at (c .before .before .correct .ensures))))
 
 pub write-joined-spec : {M : Type 1} → statement M
 write-joined-spec =
@@ -51,6 +73,10 @@ write-joined-spec =
     returns-2
     write-octets-requires
     write-octets-requires-2
-    correct-requires
+    enum-known-end
+    enum-told
     same-length
-    returns-3)
+    returns-3
+    correct-requires
+    same-length-2
+    returns-4)
