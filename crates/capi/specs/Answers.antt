@@ -22,10 +22,11 @@ use Rattle.frame.specs.declared.Frame.{Frame}
 use Rattle.frame.specs.declared.Frame.the-variants.{Accepted, Refused as Unaccepted}
 use Rattle.frame.specs.Frames.{frameOf, frameNumber, headerNumbers}
 use Rattle.places.specs.declared.Record.{Record}
-use Rattle.joining.specs.declared.Answer.{Answer}
-use Rattle.joining.specs.declared.Output.{Output}
-use Rattle.joining.specs.declared.Output.the-variants.{Message, Nothing}
-use Rattle.joining.specs.Answers.{answerNumber, outputIn, Joins}
+use Rattle.answers.specs.declared.Answer.{Answer}
+use Rattle.answers.specs.declared.Output.{Output}
+use Rattle.answers.specs.declared.Output.the-variants.{Message, Nothing}
+use Rattle.answers.specs.Answers.{answerNumber, outputIn}
+use Rattle.joining.specs.Answers.{Joins}
 use Rattle.capi.specs.declared.Numbered.{Numbered}
 
 abbrev pub decodedCount : Decoded → ℕ → ℕ

@@ -2,15 +2,15 @@
 ghost use mathlib.Core.Path.{_≡_};
 ghost use mathlib.Core.Bool.{cond};
 ghost use Rattle.frame.specs.Frames.{headerNumbers};
-ghost use Rattle.joining.specs.Answers.{outputIn};
+ghost use Rattle.answers.specs.Answers.{outputIn};
 ghost use Rattle.capi.specs.Answers.{joinedCount, DecodesC, EncodesC, JudgesC, JoinsC};
+use answers::Answer;
+use answers::Output;
 use frame::Frame;
 use frame::Header;
 use frame::RequestId;
 use hexline::Decoded;
 use hexline::Encoded;
-use joining::Answer;
-use joining::Output;
 use places::Record;
 
 // A line's characters to octets in `out`, and their number in `count`; 10, 11, or 27 where `out` is too short.

@@ -15,8 +15,8 @@ use Rattle.joined.specs.declared.Assembled.{Assembled}
 use Rattle.joined.specs.declared.Assembled.the-variants.{Message, NoRoom, NoHeader}
 use Rattle.joined.specs.Message.{idEnd, bodyAfterId}
 use Rattle.joined.specs.Written.{assembledOf, assembledIn, Assembles}
-use Rattle.joining.specs.declared.Refusal.the-variants.{NoRoom as RefusedRoom}
-use Rattle.joining.specs.declared.Answer.the-variants.{Joined}
+use Rattle.answers.specs.declared.Refusal.the-variants.{NoRoom as RefusedRoom}
+use Rattle.answers.specs.declared.Answer.the-variants.{Joined}
 use Rattle.joining.specs.declared.Outcome.{Outcome}
 use Rattle.joining.specs.Steps.{Completes, written, lengthAfter}
 use Rattle.joining.specs.Answers.{refusedWith, Does}

@@ -19,7 +19,7 @@ use Rattle.places.specs.declared.Found.{Found}
 use Rattle.places.specs.declared.Found.the-variants.{At, Nowhere}
 use Rattle.places.specs.Places.{placesCount, placeSize, heldIn, placeOf, lowestFree, badRecord, isAt}
 use Rattle.joined.specs.Message.{idEnd}
-use Rattle.joining.specs.declared.Refusal.the-variants.{BadRecord, IdOpen, FourOpen, FirstDiffers, TooLong, NoRoom}
+use Rattle.answers.specs.declared.Refusal.the-variants.{BadRecord, IdOpen, FourOpen, FirstDiffers, TooLong, NoRoom}
 use Rattle.joining.specs.Steps.{Step, Passes, Opens, Extends, Completes, Refuses, written, cancelled, differs, lengthAfter, continued, fragmentOf, firstOf, startOf, withId, byId, messageStep, judged, stepOf}
 use Rattle.places.proofs.Choices.{and-true}
 use Rattle.places.proofs.Sound.{is-at, Within as FreeWithin, free-within, sound-lent, sound-length}

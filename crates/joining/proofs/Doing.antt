@@ -11,8 +11,8 @@ use Rattle.writing.specs.Write.{Stored}
 use Rattle.writing.proofs.Stores.{stored-fits}
 use Rattle.places.specs.declared.Record.{Record}
 use Rattle.joined.proofs.Correcting.{corrected-length}
-use Rattle.joining.specs.declared.Refusal.{Refusal}
-use Rattle.joining.specs.declared.Answer.the-variants.{Whole, Held, Joined, Cancelled}
+use Rattle.answers.specs.declared.Refusal.{Refusal}
+use Rattle.answers.specs.declared.Answer.the-variants.{Whole, Held, Joined, Cancelled}
 use Rattle.joining.specs.declared.Outcome.{Outcome}
 use Rattle.places.specs.Places.{placeStart, lengthOf, heldIn, closed, opened, lengthened}
 use Rattle.joined.specs.Message.{idEnd, bodyAfterId, corrected}

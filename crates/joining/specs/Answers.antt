@@ -3,12 +3,9 @@
 --   messageWritten  the message that is written, or none
 --   answerOf        "0 whole message; 1 held ..; 2 joined; 3 a CancelRequest whose id was open", with how many octets are written
 --   answerTo        the answer to a step, with the octets of the message that it writes
---   outputIn        the octets that an answer writes: "Answers 0, 2 and 3 write a message"
 --   recordAfter     the record, "which only an accepted line may change"
 --   placesAfter     the octets of the places: a first one's at the start, a fragment's body after the id behind what is held
 --   outputAfter     "Answers 0, 2 and 3 write a message into the lent output, from its start"
---   refusalNumber   the number of each refusal
---   answerNumber    the number of each answer
 --   refusedWith     a refusal, with the record as it was
 --   Does            what a step ensures: the answer, the record after, and every octet of the places and of the output
 --   Joins           what a call ensures: what the step of its line does
@@ -17,14 +14,10 @@ use mathlib.Core.List.{List, [], _∷_, _++_}
 use Prim.Native.Nat.{ℕ, _+_}
 use lib.ListN.{length}
 use lib.Seq.{sets}
-use Rattle.frame.specs.Frames.{refusalNumber as rowNumber}
 use Rattle.places.specs.declared.Record.{Record}
-use Rattle.joining.specs.declared.Refusal.{Refusal}
-use Rattle.joining.specs.declared.Refusal.the-variants.{Frame, BadRecord, IdOpen, FourOpen, IdNotOpen, FirstDiffers, TooLong, NoRoom}
-use Rattle.joining.specs.declared.Answer.{Answer}
-use Rattle.joining.specs.declared.Answer.the-variants.{Whole, Held, Joined, Cancelled, Refused}
-use Rattle.joining.specs.declared.Output.{Output}
-use Rattle.joining.specs.declared.Output.the-variants.{Message, Nothing}
+use Rattle.answers.specs.declared.Refusal.{Refusal}
+use Rattle.answers.specs.declared.Answer.{Answer}
+use Rattle.answers.specs.declared.Answer.the-variants.{Whole, Held, Joined, Cancelled, Refused}
 use Rattle.joining.specs.declared.Outcome.{Outcome}
 use Rattle.places.specs.Places.{placeStart, lengthOf, heldIn, closed, opened, lengthened}
 use Rattle.joined.specs.Message.{bodyAfterId, corrected}
@@ -49,13 +42,6 @@ answerOf (Refuses why) n = Refused why
 abbrev pub answerTo : Step → Record → List ℕ → List ℕ → Answer
 answerTo step r v places = answerOf step (length (messageWritten step r v places))
 
-abbrev pub outputIn : Answer → Output
-outputIn (Whole n) = Message n
-outputIn Held = Nothing
-outputIn (Joined n) = Message n
-outputIn (Cancelled n) = Message n
-outputIn (Refused why) = Nothing
-
 abbrev pub recordAfter : Step → Record → List ℕ → Record
 recordAfter Passes r v = r
 recordAfter (Opens i id) r v = opened r i id (length v)
@@ -74,23 +60,6 @@ placesAfter (Refuses why) r v places = places
 
 abbrev pub outputAfter : Step → Record → List ℕ → List ℕ → List ℕ → List ℕ
 outputAfter step r v places out = sets out 0 (messageWritten step r v places)
-
-abbrev pub refusalNumber : Refusal → ℕ
-refusalNumber (Frame row) = rowNumber row
-refusalNumber IdOpen = 22
-refusalNumber FourOpen = 23
-refusalNumber IdNotOpen = 24
-refusalNumber FirstDiffers = 25
-refusalNumber TooLong = 26
-refusalNumber NoRoom = 27
-refusalNumber BadRecord = 28
-
-abbrev pub answerNumber : Answer → ℕ
-answerNumber (Whole n) = 0
-answerNumber Held = 1
-answerNumber (Joined n) = 2
-answerNumber (Cancelled n) = 3
-answerNumber (Refused why) = refusalNumber why
 
 abbrev pub refusedWith : Record → Refusal → Outcome
 refusedWith before why = record { answer = Refused why; after = before }

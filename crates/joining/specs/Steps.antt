@@ -31,8 +31,8 @@ use Rattle.frame.specs.Frames.{frameOf}
 use Rattle.places.specs.declared.Record.{Record}
 use Rattle.places.specs.declared.Found.{Found}
 use Rattle.places.specs.declared.Found.the-variants.{At, Nowhere}
-use Rattle.joining.specs.declared.Refusal.{Refusal}
-use Rattle.joining.specs.declared.Refusal.the-variants.{Frame as InFrame, BadRecord, IdOpen, FourOpen, IdNotOpen, FirstDiffers, TooLong, NoRoom}
+use Rattle.answers.specs.declared.Refusal.{Refusal}
+use Rattle.answers.specs.declared.Refusal.the-variants.{Frame as InFrame, BadRecord, IdOpen, FourOpen, IdNotOpen, FirstDiffers, TooLong, NoRoom}
 use Rattle.places.specs.Places.{placeSize, lengthOf, heldIn, placeOf, lowestFree, badRecord}
 use Rattle.joined.specs.Message.{idEnd}
 

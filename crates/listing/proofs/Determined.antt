@@ -10,7 +10,8 @@ use Rattle.lines.specs.Lines.{linesOf}
 use Rattle.places.specs.declared.Record.{Record}
 use Rattle.places.specs.Places.{placesSize, freshRecord}
 use Rattle.joining.specs.Steps.{Step, stepOf}
-use Rattle.joining.specs.Answers.{answerOf, outputIn, answerNumber}
+use Rattle.answers.specs.Answers.{outputIn, answerNumber}
+use Rattle.joining.specs.Answers.{answerOf}
 use Rattle.sequence.proofs.Sequence.{fresh-start}
 use Rattle.sequence.proofs.Alike.{Alike, fresh-alike, alike-step, alike-message, alike-after}
 use Rattle.listing.specs.Listing.{octetsMost, messageMost, shownOf, Entry, joinedEntry, entryFrom, entryOf, numberAfter, entryText, listingFrom, listingOf}

@@ -20,11 +20,12 @@ use Rattle.hexline.proofs.Decoded.{the-type}
 use Rattle.lines.specs.Lines.{lf}
 use Rattle.lines.proofs.Laws.{by-test}
 use Rattle.places.specs.declared.Record.{Record}
-use Rattle.joining.specs.declared.Output.{Output}
-use Rattle.joining.specs.declared.Output.the-variants.{Message, Nothing}
+use Rattle.answers.specs.declared.Output.{Output}
+use Rattle.answers.specs.declared.Output.the-variants.{Message, Nothing}
 use Rattle.joining.specs.declared.Outcome.{Outcome}
 use Rattle.joining.specs.Steps.{Step, Passes, Opens, Extends, Completes, Frees, Refuses, stepOf}
-use Rattle.joining.specs.Answers.{messageWritten, answerOf, answerTo, outputIn, answerNumber, Does, Joins}
+use Rattle.answers.specs.Answers.{outputIn, answerNumber}
+use Rattle.joining.specs.Answers.{messageWritten, answerOf, answerTo, Does, Joins}
 use Rattle.sequence.proofs.Fits.{message-fits}
 use Rattle.listing.specs.Text.{decimal, space, dash, lineText}
 use Rattle.listing.specs.Listing.{octetsMost, messageMost, shownOf, Entry, refusedEntry, joinedEntry, entryFrom, entryOf, longest}

@@ -15,10 +15,11 @@ use Rattle.hexline.proofs.Laws.{digits-length}
 use Rattle.lines.specs.Lines.{lf, upToLF, linesFrom, linesOf, keptInto}
 use Rattle.lines.proofs.Laws.{by-test, block-ended, block-open, next-open, next-more, next-most, drop-within}
 use Rattle.places.specs.declared.Record.{Record}
-use Rattle.joining.specs.declared.Output.{Output}
-use Rattle.joining.specs.declared.Output.the-variants.{Message, Nothing}
+use Rattle.answers.specs.declared.Output.{Output}
+use Rattle.answers.specs.declared.Output.the-variants.{Message, Nothing}
 use Rattle.joining.specs.Steps.{stepOf}
-use Rattle.joining.specs.Answers.{messageWritten, answerTo, outputIn}
+use Rattle.answers.specs.Answers.{outputIn}
+use Rattle.joining.specs.Answers.{messageWritten, answerTo}
 use Rattle.sequence.proofs.Fits.{message-fits}
 use Rattle.listing.specs.declared.State.{State}
 use Rattle.listing.specs.declared.Progress.{Progress}

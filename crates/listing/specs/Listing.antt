@@ -22,10 +22,11 @@ use Rattle.lines.specs.Lines.{linesOf}
 use Rattle.frame.specs.Frames.{messageLimit}
 use Rattle.places.specs.declared.Record.{Record}
 use Rattle.places.specs.Places.{placeSize, freshRecord, openCount}
-use Rattle.joining.specs.declared.Output.{Output}
-use Rattle.joining.specs.declared.Output.the-variants.{Message, Nothing}
+use Rattle.answers.specs.declared.Output.{Output}
+use Rattle.answers.specs.declared.Output.the-variants.{Message, Nothing}
 use Rattle.joining.specs.Steps.{Step, stepOf}
-use Rattle.joining.specs.Answers.{messageWritten, answerTo, outputIn, recordAfter, placesAfter, answerNumber}
+use Rattle.answers.specs.Answers.{outputIn, answerNumber}
+use Rattle.joining.specs.Answers.{messageWritten, answerTo, recordAfter, placesAfter}
 use Rattle.listing.specs.Text.{dash, lineText, endText}
 
 abbrev pub octetsMost : ℕ

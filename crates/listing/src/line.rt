@@ -8,8 +8,8 @@ ghost use Rattle.listing.specs.Listing.{octetsMost, messageMost, entryOf
 ghost use Rattle.listing.specs.Inner.{Room, Lists};
 use crate::LONGEST;
 use crate::text;
+use answers::Output;
 use hexline::Decoded;
-use joining::Output;
 use places::Record;
 
 // The most octets of a line.

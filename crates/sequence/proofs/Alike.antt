@@ -15,7 +15,7 @@ use Rattle.frame.specs.Frames.{frameOf}
 use Rattle.places.specs.declared.Record.{Record}
 use Rattle.places.specs.declared.Found.{Found}
 use Rattle.places.specs.declared.Found.the-variants.{At, Nowhere}
-use Rattle.joining.specs.declared.Refusal.the-variants.{BadRecord, FirstDiffers, TooLong}
+use Rattle.answers.specs.declared.Refusal.the-variants.{BadRecord, FirstDiffers, TooLong}
 use Rattle.places.specs.Places.{placeSize, isOpen, heldIn, placeOf, badRecord}
 use Rattle.joined.specs.Message.{bodyAfterId, corrected}
 use Rattle.joining.specs.Steps.{Step, Passes, Opens, Extends, Completes, Frees, Refuses, written, cancelled, differs, lengthAfter, continued, fragmentOf, startOf, withId, byId, messageStep, judged, stepOf}

@@ -20,8 +20,8 @@ use Rattle.frame.proofs.Rows.{id-fits}
 use Rattle.places.specs.declared.Record.{Record}
 use Rattle.places.specs.declared.Found.{Found}
 use Rattle.places.specs.declared.Found.the-variants.{At, Nowhere}
-use Rattle.joining.specs.declared.Refusal.{Refusal}
-use Rattle.joining.specs.declared.Refusal.the-variants.{Frame as Row, BadRecord, IdOpen, FourOpen, IdNotOpen, FirstDiffers, TooLong, NoRoom}
+use Rattle.answers.specs.declared.Refusal.{Refusal}
+use Rattle.answers.specs.declared.Refusal.the-variants.{Frame as Row, BadRecord, IdOpen, FourOpen, IdNotOpen, FirstDiffers, TooLong, NoRoom}
 use Rattle.places.specs.Places.{placeSize, isOpen, idOf, heldIn, placeOf, lowestFree, badRecord}
 use Rattle.joined.specs.Message.{idEnd}
 use Rattle.joining.specs.Steps.{Step, Passes, Opens, Extends, Completes, Frees, Refuses, written, cancelled, differs, lengthAfter, continued, fragmentOf, firstOf, startOf, withId, byId, messageStep, judged, stepOf}

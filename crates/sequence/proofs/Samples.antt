@@ -12,7 +12,7 @@ use Rattle.frame.specs.declared.Refusal.the-variants.{Short}
 use Rattle.frame.specs.Frames.{sizeAllowed, fragmentAllowed, eightsAllowed, sizedOf, messageOf, frameOf}
 use Rattle.places.specs.Places.{isOpenWith, placeOf, lowestFree, bothOpen, idOpenTwice, lengthWrong, someLengthWrong, badRecord}
 use Rattle.joined.specs.Message.{corrected}
-use Rattle.joining.specs.declared.Refusal.the-variants.{Frame}
+use Rattle.answers.specs.declared.Refusal.the-variants.{Frame}
 use Rattle.joining.specs.Steps.{Opens, Completes, Refuses, differs, continued, withId, messageStep, stepOf}
 use Rattle.sequence.specs.Sequence.{Call, State, stepIn, messageIn, after}
 

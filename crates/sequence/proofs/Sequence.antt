@@ -9,7 +9,7 @@ use lib.ListN.{length, getD, replicate, length-set, length-drop}
 use lib.Seq.{sets, length-sets, getD-set-same, getD-set-other}
 use Rattle.places.specs.declared.Record.{Record}
 use Rattle.places.specs.declared.Found.the-variants.{At, Nowhere}
-use Rattle.joining.specs.declared.Refusal.the-variants.{BadRecord, FourOpen, NoRoom}
+use Rattle.answers.specs.declared.Refusal.the-variants.{BadRecord, FourOpen, NoRoom}
 use Rattle.places.specs.Places.{placesCount, placeSize, placeStart, placesSize, isOpen, idOf, lengthOf, placeOf, badRecord}
 use Rattle.joined.specs.Message.{idEnd, bodyAfterId, corrected}
 use Rattle.joining.specs.Steps.{Step, Passes, Opens, Extends, Completes, Frees, Refuses, lengthAfter}

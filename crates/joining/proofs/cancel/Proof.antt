@@ -4,7 +4,7 @@ use lib.ListN.{length}
 use native.Mathlib.Omega.{arith}
 use borrow.Author.Needs.{needs}
 use Rattle.places.specs.declared.Found.the-variants.{At}
-use Rattle.joining.specs.declared.Refusal.the-variants.{NoRoom}
+use Rattle.answers.specs.declared.Refusal.the-variants.{NoRoom}
 use Rattle.joining.specs.Steps.{Passes, Frees, written, cancelled}
 use Rattle.joining.specs.Inner.{Within}
 use Rattle.joining.proofs.Doing.{by-step, refuses, frees}

@@ -7,7 +7,7 @@ use borrow.Author.Needs.{needs}
 use Rattle.frame.specs.declared.Header.{Header}
 use Rattle.places.specs.declared.Record.{Record}
 use Rattle.places.specs.Places.{placeStart, lengthOf, heldIn}
-use Rattle.joining.specs.declared.Refusal.the-variants.{FirstDiffers, TooLong}
+use Rattle.answers.specs.declared.Refusal.the-variants.{FirstDiffers, TooLong}
 use Rattle.joining.specs.Steps.{Extends, Completes, differs, written, lengthAfter}
 use Rattle.joining.proofs.Doing.{part-of, by-step, refuses}
 use Rattle.joining.proofs.Deciding.{first-differs, too-long, goes-on, last-one}

@@ -4,7 +4,7 @@ use borrow.Author.Tests.{not-true, not-false}
 use lib.ListN.{length}
 use borrow.Author.Needs.{needs}
 use Rattle.places.specs.Places.{lowestFree}
-use Rattle.joining.specs.declared.Refusal.the-variants.{IdOpen, FourOpen}
+use Rattle.answers.specs.declared.Refusal.the-variants.{IdOpen, FourOpen}
 use Rattle.joining.specs.Steps.{Passes, written, firstOf}
 use Rattle.joining.proofs.Doing.{by-step, refuses}
 use Rattle.joining.proofs.Deciding.{id-open, starts-whole, four-open, starts-first, opening}

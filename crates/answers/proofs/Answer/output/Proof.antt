@@ -1,9 +1,9 @@
 -- By each answer.
 use mathlib.Core.Path.{sym, ap}
-use Rattle.joining.specs.Answers.{outputIn}
+use Rattle.answers.specs.Answers.{outputIn}
 use borrow.Author.Needs.{needs}
-use Rattle.joining.proofs.Answer.output.Statement.{statement}
-use Rattle.joining.proofs.Answer.output.Tie as tie
+use Rattle.answers.proofs.Answer.output.Statement.{statement}
+use Rattle.answers.proofs.Answer.output.Tie as tie
 
 enum-known-self : tie.Need-enum-known-self
 enum-known-self c = search needs

@@ -1,0 +1,2 @@
+-- The answers to a line.
+pub mod Answers
