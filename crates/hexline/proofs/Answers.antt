@@ -1,16 +1,15 @@
 -- The answers of decoding and encoding, what accepted digits and lines are, and that a line over the limit may be cut.
-use mathlib.Core.Path.{_≡_, refl, sym, ap, _∙_}
+use mathlib.Core.Path.{_≡_, refl}
 use mathlib.Core.Bool.{Bool, true, false}
 use mathlib.Core.List.{List}
 use Prim.Native.Nat.{ℕ, _*_, _/_, _%_, _<_, _≤_}
 use native.Mathlib.Omega.{arith}
 use lib.Dec.{ltb, eqb}
-use lib.ListN.{length, take}
-use lib.Seq.{take-all, length-take-le}
-use borrow.Author.Tests.{ltb-true, ltb-false, eqb-false, lt-ltb, le-ltb, eq-eqb, ne-eqb}
+use lib.ListN.{length}
+use borrow.Author.Tests.{ltb-false, eqb-false, lt-ltb, le-ltb, eq-eqb, ne-eqb}
 use Rattle.hexline.specs.declared.Decoded.the-variants.{Octets, TooLong, NotDigits, NoRoom}
 use Rattle.hexline.specs.declared.Encoded.the-variants.{Digits, NoRoom as NoRoomForDigits}
-use Rattle.hexline.specs.Decoding.{lineLimit, allDigits, digitsDecoded, decodedOf, decodedInto}
+use Rattle.hexline.specs.Decoding.{lineLimit, allDigits, digitsDecoded, decodedOf}
 use Rattle.hexline.specs.Encoding.{encodedOf}
 use Rattle.hexline.proofs.Laws.{clash}
 
@@ -101,25 +100,3 @@ module _ (octets : List ℕ) (room : ℕ) where
   -- what was encoded has two digits an octet, and they fit
   pub encoded : (n : ℕ) → encodedOf octets room ≡ Digits n → (n ≡ length octets * 2) × (n ≤ room)
   encoded n e = encoded-by n _ refl e
-
--- a line is judged by its first 8,193 characters, and by any more
-module _ (line : List ℕ) (room n : ℕ) (h : lineLimit < n) where
-  cut-by : (a : Bool) → ltb n (length line) ≡ a → decodedOf (take n line) room ≡ decodedOf line room
-  cut-by true e =
-      let l = ltb-true n (length line) e in
-      let k = length-take-le n line (omega arith) in
-      too-long (take n line) room (omega arith) ∙ sym (too-long line room (omega arith))
-  cut-by false e = ap (λ (l : List ℕ). decodedOf l room) (take-all n line (ltb-false n (length line) e))
-
-  pub cut-decoded : decodedOf (take n line) room ≡ decodedOf line room
-  cut-decoded = cut-by _ refl
-
-  into-by : (out : List ℕ) (a : Bool) → ltb n (length line) ≡ a
-      → decodedInto (decodedOf line room) (take n line) out ≡ decodedInto (decodedOf line room) line out
-  into-by out true e =
-      let l = ltb-true n (length line) e in
-      simp (too-long line room (omega arith))
-  into-by out false e = ap (λ (l : List ℕ). decodedInto (decodedOf line room) l out) (take-all n line (ltb-false n (length line) e))
-
-  pub cut-into : (out : List ℕ) → decodedInto (decodedOf line room) (take n line) out ≡ decodedInto (decodedOf line room) line out
-  cut-into out = into-by out _ refl

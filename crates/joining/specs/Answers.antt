@@ -10,7 +10,7 @@
 --   Does            what a step ensures: the answer, the record after, and every octet of the places and of the output
 --   Joins           what a call ensures: what the step of its line does
 use mathlib.Core.Path.{_≡_}
-use mathlib.Core.List.{List, [], _∷_, _++_}
+use mathlib.Core.List.{List, [], _++_}
 use Prim.Native.Nat.{ℕ, _+_}
 use lib.ListN.{length}
 use lib.Seq.{sets}

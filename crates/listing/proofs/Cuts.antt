@@ -1,7 +1,7 @@
 -- The listing does not see the characters of a line beyond the 8,193rd, so no more of them need be kept.
 use mathlib.Core.Path.{_≡_, refl, sym, ap, _∙_}
 use mathlib.Core.Bool.{Bool, true, false}
-use mathlib.Core.List.{List, [], _∷_, _++_, map}
+use mathlib.Core.List.{List, [], _∷_, _++_}
 use Prim.Native.Nat.{ℕ, suc, _+_, _-_, _<_, min}
 use native.Mathlib.Nat.{sub-eq-zero-of-le, sub-self}
 use native.Mathlib.Omega.{arith, min-cases}
@@ -14,7 +14,7 @@ use Rattle.hexline.proofs.Answers.{too-long}
 use Rattle.lines.specs.Lines.{upToLF, afterLF, lastLine, linesFrom, linesOf, takenOf, keptInto}
 use Rattle.lines.proofs.Laws.{by-test, lines-first, lines-end, Keeps, keeps-more}
 use Rattle.places.specs.declared.Record.{Record}
-use Rattle.listing.specs.Listing.{octetsMost, entryOf, numberAfter, entryText, listingFrom}
+use Rattle.listing.specs.Listing.{octetsMost, entryOf, listingFrom}
 
 module _ (n : ℕ) (h : lineLimit < n) where
   cut-by : (line : List ℕ) (r : Record) (places : List ℕ) (a : Bool) → ltb n (length line) ≡ a → entryOf (take n line) r places ≡ entryOf line r places
@@ -31,15 +31,6 @@ module _ (n : ℕ) (h : lineLimit < n) where
 
   pub entry-same : (a b : List ℕ) (r : Record) (places : List ℕ) → take n a ≡ take n b → entryOf a r places ≡ entryOf b r places
   entry-same a b r places e = sym (entry-cut a r places) ∙ ap (λ (l : List ℕ). entryOf l r places) e ∙ entry-cut b r places
-
-  -- of every line
-  pub listing-cut : (k : ℕ) (r : Record) (places : List ℕ) (lines : List (List ℕ)) → listingFrom k r places (map (take n) lines) ≡ listingFrom k r places lines
-  unfolding listingFrom
-  listing-cut k r places [] = refl
-  listing-cut k r places (line ∷ rest) =
-      rw (entry-cut line r places)
-      (ap (λ (t : List ℕ). entryText (numberAfter k) (entryOf line r places) ++ t)
-      (listing-cut (numberAfter k) (entryOf line r places .after) (entryOf line r places .stored) rest))
 
   -- by its first line
   listing-first : (k : ℕ) (r : Record) (places a b : List ℕ) (rest : List (List ℕ)) → take n a ≡ take n b

@@ -5,4 +5,3 @@ pub mod Fits
 pub mod Places
 pub mod Sequence
 pub mod Alike
-pub mod Samples

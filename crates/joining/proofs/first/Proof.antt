@@ -1,5 +1,4 @@
 -- The octets stand at the start of the lowest free place.
-use mathlib.Core.Path.{_≡_}
 use Prim.Native.Nat.{_<_}
 use native.Mathlib.Omega.{arith}
 use borrow.Author.Needs.{needs}

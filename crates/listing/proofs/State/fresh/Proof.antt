@@ -2,7 +2,6 @@
 use mathlib.Core.Path.{ap}
 use borrow.Author.Needs.{needs}
 use Rattle.places.specs.declared.Record.{Record}
-use Rattle.listing.specs.declared.State.{State}
 use Rattle.listing.proofs.State.fresh.Statement.{statement}
 use Rattle.listing.proofs.State.fresh.Tie as tie
 
