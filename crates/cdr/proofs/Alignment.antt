@@ -8,6 +8,7 @@ use native.Mathlib.Omega.{arith}
 use lib.Dec.{ltb}
 use lib.ListN.{length}
 use borrow.Author.Tests.{lt-ltb, le-ltb, ltb-true, ltb-false}
+use Rattle.choices.proofs.Choices.{clash}
 use Rattle.cdr.specs.declared.Order.{Order}
 use Rattle.cdr.specs.declared.Size.{Size}
 use Rattle.cdr.specs.declared.Size.the-variants.{One, Two, Four, Eight}
@@ -49,11 +50,11 @@ at-index Beyond = 0
 module _ (i : Index) (size : Size) where
   at-by : (t : Bool) → ltb (aligned (i .0) (octets size)) (2 ^ 64) ≡ t → (j : Index) → alignedOf i size ≡ At j → j .0 ≡ aligned (i .0) (octets size)
   at-by true t j e = let f : At (indexOf (aligned (i .0) (octets size))) ≡ At j = rw t at e in ap at-index (sym f)
-  at-by false t j e = let f : Beyond ≡ At j = rw t at e in let z : _≡_ {A = ℕ} 0 1 = cc in absurd (omega arith)
+  at-by false t j e = let f : Beyond ≡ At j = rw t at e in clash cc
 
   beyond-by : (t : Bool) → ltb (aligned (i .0) (octets size)) (2 ^ 64) ≡ t → alignedOf i size ≡ Beyond → 2 ^ 64 ≤ aligned (i .0) (octets size)
   beyond-by true t e =
-      let f : At (indexOf (aligned (i .0) (octets size))) ≡ Beyond = rw t at e in let z : _≡_ {A = ℕ} 0 1 = cc in absurd (omega arith)
+      let f : At (indexOf (aligned (i .0) (octets size))) ≡ Beyond = rw t at e in clash cc
   beyond-by false t e = ltb-false _ _ t
 
   pub aligned-at : (j : Index) → alignedOf i size ≡ At j → j .0 ≡ aligned (i .0) (octets size)
@@ -83,8 +84,7 @@ module _ (v : List ℕ) (start : Index) (at : ℕ) (size : Size) (order : Order)
       → readOf v start at size order ≡ Number p x → NumberRead v start at size order p x
   facts-by true t p x e =
       let n = read-ends (ltb-true _ _ t) in
-      let z : _≡_ {A = ℕ} 0 1 = cc in
-      absurd (omega arith)
+      clash cc
   facts-by false t p x e =
       let h = ltb-false _ _ t in
       let n = read-number h in

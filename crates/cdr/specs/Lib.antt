@@ -1,5 +1,4 @@
 -- CDR: alignment, byte orders and numbers.
-pub mod Branch
 pub mod Align
 pub mod Orders
 pub mod Number

@@ -4,6 +4,7 @@ use mathlib.Core.List.{List}
 use Prim.Native.Nat.{ℕ, _+_, _≤_}
 use native.Mathlib.Omega.{arith}
 use lib.ListN.{length}
+use Rattle.choices.proofs.Choices.{clash}
 use Rattle.cdr.specs.declared.Index.{Index}
 use Rattle.cdr.specs.declared.Order.{Order}
 use Rattle.cdr.specs.declared.Size.{Size}
@@ -49,7 +50,7 @@ module _ (v : List ℕ) (i : Index) (size : Size) (order : Order) where
         fits = omega (arith, n .fits);
         value = sym b ∙ n .value ∙ ap (λ (j : ℕ). numberAt v j (octets size) order) q;
       }
-  value-by Ends e x next f = let z : _≡_ {A = ℕ} 0 1 = cc in absurd (omega arith)
+  value-by Ends e x next f = clash cc
 
   pub field-facts : (x : ℕ) (next : Index) → fieldOf v i size order ≡ Value x next → FieldRead v i size order x next
   unfolding fieldOf

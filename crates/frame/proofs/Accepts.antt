@@ -7,6 +7,7 @@ use native.Mathlib.Omega.{arith}
 use lib.Dec.{ltb, eqb}
 use lib.ListN.{length}
 use borrow.Author.Tests.{ltb-false, eqb-true, not-false}
+use Rattle.choices.proofs.Choices.{clash}
 use Rattle.frame.specs.declared.Header.{Header}
 use Rattle.frame.specs.declared.Frame.{Frame}
 use Rattle.frame.specs.declared.Frame.the-variants.{Accepted, Refused}
@@ -30,7 +31,7 @@ pub record Accepts (v : List ℕ) (h : Header) : Type 0 where
 -- a row that does not refuse lets the rest decide
 passes : (refused : Bool) (row : Refusal) (rest : Frame) (h : Header) → cond refused (Refused row) rest ≡ Accepted h
     → (refused ≡ false) × (rest ≡ Accepted h)
-passes true row rest h e = let z : _≡_ {A = ℕ} 0 1 = cc in absurd (omega arith)
+passes true row rest h e = clash cc
 passes false row rest h e = (refl, e)
 
 -- the header that was accepted

@@ -1,7 +1,7 @@
 -- One law for each way out of the table, and that a size which its type allows has room for the request id.
 use mathlib.Core.Path.{_≡_, refl}
 use mathlib.Core.List.{List}
-use mathlib.Core.Bool.{Bool, true, false, cond, _&&_, _||_}
+use mathlib.Core.Bool.{Bool, true, false, cond, _&&_, _||_, false≢true}
 use Prim.Native.Nat.{ℕ, _-_, _<_, _≤_}
 use native.Mathlib.Omega.{arith}
 use lib.Dec.{leb, eqb}
@@ -14,9 +14,6 @@ use Rattle.frame.specs.Header.{headerSize, giop, magicAt, majorAt, flags
 use Rattle.frame.specs.Inner.{IdThere}
 use Rattle.frame.specs.Frames.{messageLimit, sizeAllowed, fragmentAllowed, eightsAllowed, sizedOf, messageOf, frameOf}
 
-false-true : false ≡ true → ⊥
-false-true e = let z : _≡_ {A = ℕ} 0 1 = cc in omega arith
-
 -- by whether the type is a request or reply, whether bodies start with an id, a fragment, a cancel
 id-by : (r b f c : Bool) (size : ℕ) → (c ≡ true → r ≡ false)
     → cond r (leb (cond b 4 1) size) (cond f (leb 4 size) (cond c (eqb size 4) (eqb size 0))) ≡ true
@@ -24,10 +21,10 @@ id-by : (r b f c : Bool) (size : ℕ) → (c ≡ true → r ≡ false)
     → 4 ≤ size
 id-by r b true true size x h k = leb-true 4 size (rw (x refl) at h)
 id-by r b false true size x h k = let e = eqb-true size 4 (rw (x refl) at h) in omega arith
-id-by r false f false size x h k = absurd (false-true k)
+id-by r false f false size x h k = absurd (false≢true k)
 id-by true true f false size x h k = leb-true 4 size h
 id-by false true true false size x h k = leb-true 4 size h
-id-by false true false false size x h k = absurd (false-true k)
+id-by false true false false size x h k = absurd (false≢true k)
 
 cancel-apart : (kind : ℕ) → eqb kind 2 ≡ true → isRequestOrReply kind ≡ false
 unfolding isRequestOrReply

@@ -4,6 +4,7 @@ use mathlib.Core.List.{List}
 use Prim.Native.Nat.{ℕ, _+_, _≤_, _%_}
 use native.Mathlib.Omega.{arith}
 use lib.ListN.{length}
+use Rattle.choices.proofs.Choices.{clash}
 use Rattle.cdr.specs.declared.Index.{Index}
 use Rattle.cdr.specs.declared.Order.{Order}
 use Rattle.cdr.specs.declared.Size.the-variants.{Four}
@@ -25,5 +26,4 @@ module _ (v : List ℕ) (at : ℕ) (order : Order) (m : at % 4 ≡ 0) where
   word-there h e =
       let g = no-gap in
       let f = field-is v (indexOf at) Four order _ _ (read-number v start at Four order (omega arith)) in
-      let z : _≡_ {A = ℕ} 0 1 = cc in
-      omega arith
+      clash cc

@@ -7,11 +7,11 @@ use native.Mathlib.Omega.{arith}
 use lib.Dec.{ltb, eqb}
 use lib.ListN.{length}
 use borrow.Author.Tests.{ltb-false, eqb-false, lt-ltb, le-ltb, eq-eqb, ne-eqb}
+use Rattle.choices.proofs.Choices.{clash}
 use Rattle.hexline.specs.declared.Decoded.the-variants.{Octets, TooLong, NotDigits, NoRoom}
 use Rattle.hexline.specs.declared.Encoded.the-variants.{Digits, NoRoom as NoRoomForDigits}
 use Rattle.hexline.specs.Decoding.{lineLimit, allDigits, digitsDecoded, decodedOf}
 use Rattle.hexline.specs.Encoding.{encodedOf}
-use Rattle.hexline.proofs.Laws.{clash}
 
 -- the answers of decoding digits, in the order of the tests
 module _ (digits : List ℕ) (room : ℕ) where
@@ -53,9 +53,9 @@ module _ (line : List ℕ) (room n : ℕ) where
   digits-accepted-by : (b d f : Bool) → eqb (length line % 2) 1 ≡ b → allDigits line ≡ d → ltb room (length line / 2) ≡ f
       → digitsDecoded line room ≡ Octets n → Accepted line room n
   unfolding digitsDecoded
-  digits-accepted-by true d f q r s e = let h = simp q at e in clash (cc)
-  digits-accepted-by false false f q r s e = let h = simp (q, r) at e in clash (cc)
-  digits-accepted-by false true true q r s e = let h = simp (q, r, s) at e in clash (cc)
+  digits-accepted-by true d f q r s e = let h = simp q at e in clash cc
+  digits-accepted-by false false f q r s e = let h = simp (q, r) at e in clash cc
+  digits-accepted-by false true true q r s e = let h = simp (q, r, s) at e in clash cc
   digits-accepted-by false true false q r s e =
       let h = simp (q, r, s) at e in
       let c : n ≡ length line / 2 = cc in
@@ -72,7 +72,7 @@ module _ (line : List ℕ) (room n : ℕ) where
 
   accepted-by : (a : Bool) → ltb lineLimit (length line) ≡ a → decodedOf line room ≡ Octets n → (length line ≤ lineLimit) × Accepted line room n
   unfolding decodedOf
-  accepted-by true p e = let h = simp p at e in clash (cc)
+  accepted-by true p e = let h = simp p at e in clash cc
   accepted-by false p e = (ltb-false lineLimit (length line) p, digits-accepted (simp p at e))
 
   -- an accepted line is within the limit, and its digits are accepted
@@ -91,7 +91,7 @@ module _ (octets : List ℕ) (room : ℕ) where
 
   encoded-by : (n : ℕ) (a : Bool) → ltb room (length octets * 2) ≡ a → encodedOf octets room ≡ Digits n → (n ≡ length octets * 2) × (n ≤ room)
   unfolding encodedOf
-  encoded-by n true p e = let h = simp p at e in clash (cc)
+  encoded-by n true p e = let h = simp p at e in clash cc
   encoded-by n false p e =
       let h = simp p at e in
       let c : n ≡ length octets * 2 = cc in

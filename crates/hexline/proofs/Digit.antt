@@ -5,6 +5,7 @@ use Prim.Native.Nat.{ℕ, _+_, _-_, _%_, _<_, _≤_}
 use native.Mathlib.Omega.{arith}
 use lib.Dec.{leb, ltb}
 use borrow.Author.Tests.{leb-true, leb-false, ltb-true, ltb-false, lt-leb, le-leb}
+use Rattle.choices.proofs.Choices.{clash}
 use Rattle.hexline.specs.Digit.{isDigit, digitValue, upperDigit}
 
 -- between and behind the ranges of digits there is none
@@ -34,7 +35,7 @@ below-by c false true d e f g h = simp (e, f) (omega (arith, leb-true))
 below-by c false false true e f g h = simp (e, f) (omega (arith, leb-true))
 below-by c false false false e f g h =
     let n = above c (leb-false c 102 g) in
-    absurd (let z : _≡_ {A = ℕ} 0 1 = cc in omega arith)
+    clash cc
 
 pub value-below : (c : ℕ) → isDigit c ≡ true → digitValue c < 16
 value-below c h = below-by c _ _ _ refl refl refl h

@@ -1,11 +1,12 @@
 -- A line of digits has half as many octets, each below 256; octets have twice as many digits, which decode to them.
 use mathlib.Core.Path.{_≡_, refl, ap}
-use mathlib.Core.Bool.{Bool, true, false, _&&_}
+use mathlib.Core.Bool.{true, _&&_}
 use mathlib.Core.List.{List, [], _∷_}
 use Prim.Native.Nat.{ℕ, zero, suc, _+_, _*_, _/_, _%_, _<_}
 use native.Mathlib.Omega.{arith}
 use lib.Dec.{lit<}
 use lib.ListN.{length, getD}
+use Rattle.choices.proofs.Choices.{and-true}
 use Rattle.hexline.specs.Digit.{isDigit}
 use Rattle.hexline.specs.Decoding.{allDigits, octetOf, lineOctets}
 use Rattle.hexline.specs.Encoding.{octetDigits}
@@ -18,20 +19,12 @@ octets-length [] = refl
 octets-length (c ∷ []) = refl
 octets-length (c ∷ d ∷ cs) = let e = octets-length cs in omega arith
 
-pub clash : {A : Type 0} → _≡_ {A = ℕ} 0 1 → A
-clash z = absurd (omega arith)
-
-both : (a b : Bool) → (a && b) ≡ true → (a ≡ true) × (b ≡ true)
-both true true h = (refl, refl)
-both true false h = (refl, h)
-both false b h = clash (cc)
-
 -- each character of a line of digits is a digit
 pub digit-at : (line : List ℕ) → allDigits line ≡ true → (k : ℕ) → k < length line → isDigit (getD line k 0) ≡ true
 unfolding allDigits
 digit-at [] h k l = absurd (omega arith)
-digit-at (c ∷ cs) h zero l = both (isDigit c) (allDigits cs) h .0
-digit-at (c ∷ cs) h (suc k) l = digit-at cs (both (isDigit c) (allDigits cs) h .1) k (omega arith)
+digit-at (c ∷ cs) h zero l = and-true (isDigit c) (allDigits cs) h .0
+digit-at (c ∷ cs) h (suc k) l = digit-at cs (and-true (isDigit c) (allDigits cs) h .1) k (omega arith)
 
 -- two digits make a number below 256
 pub octet-below : (c d : ℕ) → isDigit c ≡ true → isDigit d ≡ true → octetOf c d < 256
@@ -44,11 +37,11 @@ unfolding allDigits lineOctets
 octets-below [] h k = lit< tt
 octets-below (c ∷ []) h k = lit< tt
 octets-below (c ∷ d ∷ cs) h zero =
-    let b = both (isDigit c) (isDigit d && allDigits cs) h in
-    octet-below c d (b .0) (both (isDigit d) (allDigits cs) (b .1) .0)
+    let b = and-true (isDigit c) (isDigit d && allDigits cs) h in
+    octet-below c d (b .0) (and-true (isDigit d) (allDigits cs) (b .1) .0)
 octets-below (c ∷ d ∷ cs) h (suc k) =
-    let b = both (isDigit c) (isDigit d && allDigits cs) h in
-    octets-below cs (both (isDigit d) (allDigits cs) (b .1) .1) k
+    let b = and-true (isDigit c) (isDigit d && allDigits cs) h in
+    octets-below cs (and-true (isDigit d) (allDigits cs) (b .1) .1) k
 
 -- octets have twice as many digits
 pub digits-length : (xs : List ℕ) → length (octetDigits xs) ≡ length xs * 2

@@ -6,6 +6,7 @@ use Prim.Native.Nat.{ℕ, _≤_, _<_}
 use native.Mathlib.Omega.{arith}
 use lib.ListN.{length}
 use borrow.Author.Tests.{leb-true, eqb-true, lt-ltb, le-ltb, not-true}
+use Rattle.choices.proofs.Choices.{clash, and-true}
 use Rattle.frame.specs.declared.Header.{Header}
 use Rattle.frame.specs.declared.RequestId.{RequestId}
 use Rattle.frame.specs.declared.Frame.{Frame}
@@ -21,7 +22,6 @@ use Rattle.places.specs.Places.{placesCount, placeSize, heldIn, placeOf, lowest
 use Rattle.joined.specs.Message.{idEnd}
 use Rattle.answers.specs.declared.Refusal.the-variants.{BadRecord, IdOpen, FourOpen, FirstDiffers, TooLong, NoRoom}
 use Rattle.joining.specs.Steps.{Step, Passes, Opens, Extends, Completes, Refuses, written, cancelled, differs, lengthAfter, continued, fragmentOf, firstOf, startOf, withId, byId, messageStep, judged, stepOf}
-use Rattle.places.proofs.Choices.{and-true}
 use Rattle.places.proofs.Sound.{is-at, Within as FreeWithin, free-within, sound-lent, sound-length}
 use Rattle.places.proofs.Finding.{Placed, place-is, place-found}
 use Rattle.joining.specs.Inner.{Sound, Within, lacksPlace, Opening, Continues}
@@ -91,7 +91,7 @@ no-room room n s l = rw (lt-ltb room n l)
 -- the ways of a message that starts
 pub id-open : (r : Record) (room n : ℕ) (h : Header) (id : ℕ) (f : Found) → isAt f ≡ true → startOf r room n h id f ≡ Refuses IdOpen
 id-open r room n h id (At i) e = refl
-id-open r room n h id Nowhere e = let z : _≡_ {A = ℕ} 0 1 = cc in absurd (omega arith)
+id-open r room n h id Nowhere e = clash cc
 
 starts : (r : Record) (room n : ℕ) (h : Header) (id : ℕ) (f : Found) → isAt f ≡ false
     → startOf r room n h id f ≡ cond (h .more) (firstOf id (lowestFree r)) (written room n Passes)

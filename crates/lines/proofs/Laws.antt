@@ -1,21 +1,18 @@
 -- Laws of lines taken from blocks, for those who read a recording.
 use mathlib.Core.Path.{_≡_, refl, sym, ap, _∙_}
 use mathlib.Core.List.{List, [], _∷_, _++_, append-assoc, append-nil}
-use mathlib.Core.Bool.{Bool, true, false, true≢false}
+use mathlib.Core.Bool.{true, false, true≢false}
 use Prim.Native.Nat.{ℕ, zero, suc, _+_, _-_, _<_, _≤_, min}
 use native.Mathlib.Nat.{zero-sub, suc-sub-suc, sub-zero}
 use native.Mathlib.Omega.{arith, min-cases}
 use lib.Dec.{eqb, ltb, leb·suc-suc}
 use lib.ListN.{length, take, drop, length-append, length-take, length-drop, drop-of-length-le}
-use lib.Seq.{sets, length-sets, sets-eq, drop-length, drop-drop, take-at, length-take-le}
+use lib.Seq.{length-sets, drop-length, drop-drop}
 use borrow.Author.Tests.{lt-ltb}
-use Rattle.cdr.specs.Branch.{choose}
+use Rattle.choices.proofs.Choices.{by-test}
+use Rattle.choices.specs.Branch.{choose}
+use Rattle.writing.proofs.Stores.{take-stored}
 use Rattle.lines.specs.Lines.{lf, upToLF, hasLF, afterLF, lastLine, linesFrom, linesOf, takenOf, keptInto}
-
--- by a test, with what it says
-pub by-test : {G : Type 0} (t : Bool) → (t ≡ true → G) → (t ≡ false → G) → G
-by-test true f g = f refl
-by-test false f g = g refl
 
 -- each definition at an LF, and at another character
 module _ (c : ℕ) (rest : List ℕ) (e : eqb c lf ≡ true) where
@@ -206,12 +203,6 @@ take-append zero xs ys = rw zero-sub
 take-append (suc n) [] ys = rw sub-zero
 take-append (suc n) (x ∷ xs) ys = rw suc-sub-suc (ap (λ (l : List ℕ). x ∷ l) (take-append n xs ys))
 
-take-sets : (line vs : List ℕ) (at : ℕ) → at + length vs ≤ length line → take (at + length vs) (sets line at vs) ≡ take at line ++ vs
-take-sets line vs at h =
-    rw (sets-eq vs line at h)
-    (take-at (take at line ++ vs) (drop (at + length vs) line) (at + length vs)
-    (length-append (take at line) vs ∙ ap (λ (k : ℕ). k + length vs) (length-take-le at line (omega arith))))
-
 -- and so it does after a block
 pub keeps-more : (block : List ℕ) (from : ℕ) (line : List ℕ) (kept : ℕ) (l : List ℕ) → Keeps line kept l
     → Keeps (keptInto block from line kept) (takenOf block from (length line) kept .kept) (l ++ upToLF (drop from block))
@@ -228,7 +219,7 @@ keeps-more block from line kept l k =
       count = rw (length-sets line kept vs, length-take room (l ++ u), length-append l u) (omega arith);
       chars =
           rw (length-sets line kept vs, e)
-          (take-sets line vs kept (omega arith)
+          (take-stored line vs kept (omega arith)
           ∙ ap (λ (x : List ℕ). x ++ vs) (k .chars)
           ∙ sym (take-append room l u ∙ ap (λ (m : ℕ). take room l ++ take m u) d));
     }

@@ -3,7 +3,7 @@ use mathlib.Core.Path.{_≡_, refl}
 use mathlib.Core.List.{[], _∷_}
 use mathlib.Core.Bool.{true, false}
 use Prim.Native.Nat.{ℕ}
-use Rattle.cdr.specs.Branch.{choose}
+use Rattle.choices.specs.Branch.{choose}
 use Rattle.lines.specs.Lines.{lf, upToLF, hasLF, linesFrom, linesOf, takenOf, keptInto}
 
 abbrev a : ℕ

@@ -10,13 +10,14 @@ use lib.Dec.{ltb, eqb}
 use lib.ListN.{getD, length, take, drop, length-drop, drop-of-length-le, length-append, take-append-drop}
 use lib.Seq.{sets, length-take-le, drop-cons, drop-drop, take-all, take-take}
 use borrow.Author.Tests.{eq-eqb, ne-eqb, lt-ltb, le-ltb, ltb-true, ltb-false}
-use Rattle.cdr.specs.Branch.{choose}
+use Rattle.choices.proofs.Choices.{by-test}
+use Rattle.choices.specs.Branch.{choose}
 use Rattle.writing.specs.declared.Written.{Written}
 use Rattle.writing.specs.Write.{Stored}
 use Rattle.writing.proofs.Stores.{stored-fits}
 use Rattle.lines.specs.Lines.{lf, upToLF, hasLF, takenOf, keptInto, LineTaken}
 use Rattle.lines.specs.declared.Taken.{Taken}
-use Rattle.lines.proofs.Laws.{by-test, up-append, up-lf, up-other, up-prefix, up-length, has-by-length, drop-within}
+use Rattle.lines.proofs.Laws.{up-append, up-lf, up-other, up-prefix, up-length, has-by-length, drop-within}
 
 module _ (block : List ℕ) (i : ℕ) where
   -- the search has met an LF

@@ -16,7 +16,7 @@ use Prim.Native.Nat.{ℕ, _+_, _-_, min}
 use lib.Dec.{eqb}
 use lib.ListN.{length, take, drop}
 use lib.Seq.{sets}
-use Rattle.cdr.specs.Branch.{choose}
+use Rattle.choices.specs.Branch.{choose}
 use Rattle.lines.specs.declared.Taken.{Taken}
 
 abbrev pub lf : ℕ

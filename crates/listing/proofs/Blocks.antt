@@ -1,26 +1,22 @@
 -- What the turns of a block amount to.
 use mathlib.Core.Path.{_≡_, refl, sym, ap, _∙_}
-use mathlib.Core.Bool.{Bool, true, false, _&&_, true≢false}
+use mathlib.Core.Bool.{Bool, true, false, _&&_}
 use mathlib.Core.List.{List}
 use Prim.Native.Nat.{ℕ, zero, suc, _+_, _<_, _≤_}
 use native.Mathlib.Omega.{arith}
 use lib.Dec.{leb, ltb}
 use lib.ListN.{length, take}
 use borrow.Author.Tests.{lt-ltb, le-ltb, le-leb, lt-leb, ltb-true, leb-true}
-use Rattle.cdr.specs.Branch.{choose}
+use Rattle.choices.proofs.Choices.{by-test, and-true}
+use Rattle.choices.specs.Branch.{choose}
 use Rattle.lines.specs.declared.Taken.{Taken}
 use Rattle.lines.specs.Lines.{takenOf, keptInto, LineTaken}
-use Rattle.lines.proofs.Laws.{by-test, next-more}
+use Rattle.lines.proofs.Laws.{next-more}
 use Rattle.listing.specs.declared.line.Listed.{Listed}
 use Rattle.listing.specs.Listing.{entryOf, numberAfter}
 use Rattle.listing.specs.Listing.{longest}
 use Rattle.listing.specs.Blocks.{lineRoom, Work, goesOn, ended, begun, turnOf, blockFrom, workOf}
 use Rattle.listing.specs.Inner.{Lists}
-
-both : (a b : Bool) → (a && b) ≡ true → (a ≡ true) × (b ≡ true)
-both true true h = (refl, refl)
-both true false h = (refl, h)
-both false b h = absurd (true≢false (sym h))
 
 -- whether a block goes on, in the order of the tests
 module _ (block line out next filled : ℕ) where
@@ -45,8 +41,8 @@ pub record Goes (block : List ℕ) (w : Work) : Type 0 where
 pub goes : (block : List ℕ) (w : Work) → goesOn block w ≡ true → Goes block w
 unfolding goesOn
 goes block w h =
-    let a = both _ _ h in
-    let b = both _ _ (a .1) in
+    let a = and-true _ _ h in
+    let b = and-true _ _ (a .1) in
     record { more = ltb-true _ _ (a .0); whole = leb-true _ _ (b .0); room = leb-true _ _ (b .1) }
 
 -- a turn, by whether the line ended

@@ -9,10 +9,11 @@ use lib.Dec.{ltb}
 use lib.ListN.{length, take, drop}
 use lib.Seq.{take-all, length-take-le, take-append-le, take-at, take-take}
 use borrow.Author.Tests.{ltb-true, ltb-false}
+use Rattle.choices.proofs.Choices.{by-test}
 use Rattle.hexline.specs.Decoding.{lineLimit}
 use Rattle.hexline.proofs.Answers.{too-long}
 use Rattle.lines.specs.Lines.{upToLF, afterLF, lastLine, linesFrom, linesOf, takenOf, keptInto}
-use Rattle.lines.proofs.Laws.{by-test, lines-first, lines-end, Keeps, keeps-more}
+use Rattle.lines.proofs.Laws.{lines-first, lines-end, Keeps, keeps-more}
 use Rattle.places.specs.declared.Record.{Record}
 use Rattle.listing.specs.Listing.{octetsMost, entryOf, listingFrom}
 

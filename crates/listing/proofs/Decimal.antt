@@ -8,8 +8,8 @@ use lib.Dec.{ltb}
 use lib.ListN.{getD, length, drop, set, length-append, length-set}
 use lib.Seq.{drop-cons, getD-set-same, drop-set-lt}
 use borrow.Author.Tests.{lt-ltb, le-ltb, ltb-true, ltb-false}
-use Rattle.cdr.specs.Branch.{choose}
-use Rattle.lines.proofs.Laws.{by-test}
+use Rattle.choices.proofs.Choices.{by-test}
+use Rattle.choices.specs.Branch.{choose}
 use Rattle.listing.specs.Text.{digit, decimalWithin, decimal}
 
 -- a number of one digit, and of more

@@ -7,10 +7,10 @@ use native.Mathlib.Omega.{arith, min-cases}
 use lib.ListN.{length, take, length-append}
 use lib.Seq.{length-sets, take-all, length-take-le}
 use borrow.Author.Tests.{le-leb, lt-leb, leb-true}
+use Rattle.choices.proofs.Choices.{by-test, clash}
 use Rattle.writing.specs.declared.Written.the-variants.{Upto, NoRoom}
-use Rattle.hexline.proofs.Laws.{clash}
 use Rattle.lines.specs.Lines.{lf, lastLine, linesFrom}
-use Rattle.lines.proofs.Laws.{by-test, lines-end}
+use Rattle.lines.proofs.Laws.{lines-end}
 use Rattle.places.specs.declared.Record.{Record}
 use Rattle.places.specs.Places.{openCount}
 use Rattle.listing.specs.declared.State.{State}
@@ -121,7 +121,7 @@ module _ (line places out : List ℕ) (state : State) (n : ℕ) (placesLast outL
   had-room =
       by-test (endRoom out)
       (λ e. e)
-      (λ e. let q : Upto n ≡ NoRoom = a .written ∙ rw e in clash (cc))
+      (λ e. let q : Upto n ≡ NoRoom = a .written ∙ rw e in clash cc)
 
   count-of : n ≡ length (endOf line places state)
   count-of = let q : Upto n ≡ Upto (length (endOf line places state)) = a .written ∙ rw had-room in cc

@@ -3,22 +3,23 @@ use mathlib.Core.Path.{_≡_, refl, sym, ap, subst, _∙_}
 use mathlib.Core.Bool.{false}
 use mathlib.Core.List.{List, [], _∷_, _++_, append-assoc}
 use Prim.Native.Nat.{ℕ, _+_, _-_, _%_, _<_, _≤_}
+use native.Mathlib.Nat.{zero-add}
 use native.Mathlib.Omega.{arith}
 use types.Run.{OneOf, miss}
 use denote.Enum.Declared.{tagOf}
 use lib.Dec.{leb, ltb, eqb}
-use lib.ListN.{length, take, drop}
-use lib.Seq.{sets, sets-eq, take-at}
+use lib.ListN.{length, take}
+use lib.Seq.{sets}
 use borrow.Author.Tests.{le-leb, lt-leb, leb-true, leb-false, ltb-true, ltb-false, eqb-true, eqb-false}
+use Rattle.choices.proofs.Choices.{by-test, clash}
 use Rattle.hexline.specs.declared.Decoded.{Decoded}
 use Rattle.hexline.specs.declared.Decoded.the-variants.{Octets, TooLong, NotDigits, NoRoom}
 use Rattle.hexline.specs.Decoding.{lineLimit, allDigits, lineOctets, decodedOf, decodedNumber, Decodes}
 use Rattle.hexline.specs.Encoding.{octetDigits}
-use Rattle.hexline.proofs.Laws.{octets-length, clash}
+use Rattle.hexline.proofs.Laws.{octets-length}
 use Rattle.hexline.proofs.Answers.{odd-count, no-digit, taken, too-long, within-limit, accepted}
 use Rattle.hexline.proofs.Decoded.{the-type}
 use Rattle.lines.specs.Lines.{lf}
-use Rattle.lines.proofs.Laws.{by-test}
 use Rattle.places.specs.declared.Record.{Record}
 use Rattle.answers.specs.declared.Output.{Output}
 use Rattle.answers.specs.declared.Output.the-variants.{Message, Nothing}
@@ -27,6 +28,7 @@ use Rattle.joining.specs.Steps.{Step, Passes, Opens, Extends, Completes, Frees,
 use Rattle.answers.specs.Answers.{outputIn, answerNumber}
 use Rattle.joining.specs.Answers.{messageWritten, answerOf, answerTo, Does, Joins}
 use Rattle.sequence.proofs.Fits.{message-fits}
+use Rattle.writing.proofs.Stores.{take-stored}
 use Rattle.listing.specs.Text.{decimal, space, dash, lineText}
 use Rattle.listing.specs.Listing.{octetsMost, messageMost, shownOf, Entry, refusedEntry, joinedEntry, entryFrom, entryOf, longest}
 use Rattle.listing.specs.Inner.{Put, Lists}
@@ -44,24 +46,24 @@ numbers-most line answer =
 
 -- what was written from the start of a memory
 pub take-written : (out xs : List ℕ) (n : ℕ) → n ≡ length xs → n ≤ length out → take n (sets out 0 xs) ≡ xs
-take-written out xs n e h = rw (sets-eq xs out 0 (omega arith)) (take-at xs (drop (0 + length xs) out) n (sym e))
+take-written out xs n e h = ap (λ (k : ℕ). take k (sets out 0 xs)) (e ∙ sym (zero-add (length xs))) ∙ take-stored out xs 0 (omega arith)
 
 -- what an answer shows
 shown-some : (o : Output) (n : ℕ) (message : List ℕ) → o ≡ Message n → shownOf o message ≡ octetDigits message
 shown-some (Message m) n message e = refl
-shown-some Nothing n message e = clash (cc)
+shown-some Nothing n message e = clash cc
 
 shown-none : (o : Output) (message : List ℕ) → o ≡ Nothing → shownOf o message ≡ dash
-shown-none (Message m) message e = clash (cc)
+shown-none (Message m) message e = clash cc
 shown-none Nothing message e = refl
 
 shown-count : (step : Step) (m n : ℕ) → outputIn (answerOf step m) ≡ Message n → n ≡ m
 shown-count Passes m n e = cc
-shown-count (Opens i id) m n e = clash (cc)
-shown-count (Extends i) m n e = clash (cc)
+shown-count (Opens i id) m n e = clash cc
+shown-count (Extends i) m n e = clash cc
 shown-count (Completes i) m n e = cc
 shown-count (Frees i) m n e = cc
-shown-count (Refuses why) m n e = clash (cc)
+shown-count (Refuses why) m n e = clash cc
 
 -- a line's octets, joined
 module _ (v : List ℕ) (before : Record) (places message : List ℕ) (r : Outcome) (placesLast messageLast : List ℕ)
@@ -155,17 +157,17 @@ module _ (line octets : List ℕ) (d : Decoded) (last : List ℕ) (room : length
 pub never-no-room : (line : List ℕ) → decodedOf line octetsMost ≡ NoRoom → ⊥
 never-no-room line e =
     by-test (ltb lineLimit (length line))
-    (λ t. let q = too-long line octetsMost (ltb-true lineLimit (length line) t) in clash (cc))
+    (λ t. let q = too-long line octetsMost (ltb-true lineLimit (length line) t) in clash cc)
     (λ t.
     let h = ltb-false lineLimit (length line) t in
     let w = within-limit line octetsMost h in
     by-test (eqb (length line % 2) 1)
-    (λ o. let q = odd-count line octetsMost (eqb-true (length line % 2) 1 o) in clash (cc))
+    (λ o. let q = odd-count line octetsMost (eqb-true (length line % 2) 1 o) in clash cc)
     (λ o.
     let even = eqb-false (length line % 2) 1 o in
     by-test (allDigits line)
-    (λ a. let q = taken line octetsMost even a (omega arith) in clash (cc))
-    (λ a. let q = no-digit line octetsMost even a in clash (cc))))
+    (λ a. let q = taken line octetsMost even a (omega arith) in clash cc)
+    (λ a. let q = no-digit line octetsMost even a in clash cc)))
 
 -- the room for the longest answer
 pub no-room : (size at : ℕ) → size < longest → false ≡ leb (at + longest) size

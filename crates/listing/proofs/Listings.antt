@@ -6,14 +6,15 @@ use Prim.Native.Nat.{ℕ, zero, suc, _+_, _-_, _<_, _≤_}
 use native.Mathlib.Omega.{arith}
 use lib.Dec.{ltb}
 use lib.ListN.{length, take, drop, length-append}
-use lib.Seq.{sets, length-sets, sets-eq, take-at, drop-at, drop-drop, drop-length, length-take-le, take-take}
+use lib.Seq.{length-sets, drop-drop, drop-length, take-take}
 use borrow.Author.Tests.{ltb-true, ltb-false}
+use Rattle.choices.proofs.Choices.{by-test}
 use Rattle.hexline.specs.declared.Decoded.{Decoded}
 use Rattle.hexline.specs.declared.Decoded.the-variants.{Octets, TooLong, NotDigits, NoRoom}
 use Rattle.hexline.specs.Decoding.{lineOctets, decodedOf}
 use Rattle.hexline.proofs.Laws.{digits-length}
 use Rattle.lines.specs.Lines.{lf, upToLF, linesFrom, linesOf, keptInto}
-use Rattle.lines.proofs.Laws.{by-test, block-ended, block-open, next-open, next-more, next-most, drop-within}
+use Rattle.lines.proofs.Laws.{block-ended, block-open, next-open, next-more, next-most, drop-within}
 use Rattle.places.specs.declared.Record.{Record}
 use Rattle.answers.specs.declared.Output.{Output}
 use Rattle.answers.specs.declared.Output.the-variants.{Message, Nothing}
@@ -21,6 +22,7 @@ use Rattle.joining.specs.Steps.{stepOf}
 use Rattle.answers.specs.Answers.{outputIn}
 use Rattle.joining.specs.Answers.{messageWritten, answerTo}
 use Rattle.sequence.proofs.Fits.{message-fits}
+use Rattle.writing.proofs.Stores.{take-stored, drop-stored}
 use Rattle.listing.specs.declared.State.{State}
 use Rattle.listing.specs.declared.Progress.{Progress}
 use Rattle.listing.specs.Text.{decimal, space, lineText}
@@ -56,21 +58,6 @@ unfolding entryOf
 entry-most number line r places =
     let e = entryFrom (decodedOf line octetsMost) (lineOctets line) r places in
     omega (arith, line-most number (e .number) (e .shown), entry-shown (decodedOf line octetsMost) (lineOctets line) r places)
-
--- text put behind what was filled
-module _ (out text : List ℕ) (filled : ℕ) (fits : filled + length text ≤ length out) where
-  before-length : length (take filled out ++ text) ≡ filled + length text
-  before-length = length-append (take filled out) text ∙ ap (λ (k : ℕ). k + length text) (length-take-le filled out (omega arith))
-
-  filled-more : take (filled + length text) (sets out filled text) ≡ take filled out ++ text
-  filled-more =
-      rw (sets-eq text out filled fits)
-      (take-at (take filled out ++ text) (drop (filled + length text) out) (filled + length text) before-length)
-
-  filled-rest : drop (filled + length text) (sets out filled text) ≡ drop (filled + length text) out
-  filled-rest =
-      rw (sets-eq text out filled fits)
-      (drop-at (take filled out ++ text) (drop (filled + length text) out) (filled + length text) before-length)
 
 -- what is owed at a place of the block
 pub owed : List ℕ → Work → List ℕ → List ℕ
@@ -176,12 +163,12 @@ module _ (block : List ℕ) (w : Work) (g : Goes block w) where
             ap (λ (t : List ℕ). take (w .at .filled) (w .out) ++ t) (owed-ended e rest)
             ∙ sym (append-assoc (take (w .at .filled) (w .out)) text _)
             ∙ ap (λ (t : List ℕ). t ++ listingFrom (numberAfter (state .lines)) (entry .after) (entry .stored) (linesOf (drop (taken block w .next) block ++ rest)))
-            (sym (filled-more (w .out) text (w .at .filled) text-fits));
+            (sym (take-stored (w .out) text (w .at .filled) text-fits));
         within = λ h. rw (length-sets (w .out) (w .at .filled) text) text-fits;
         sized = length-sets (w .out) (w .at .filled) text;
         lined = same-size;
         more = omega arith;
-        unfilled = filled-rest (w .out) text (w .at .filled) text-fits;
+        unfilled = drop-stored (w .out) text (w .at .filled) text-fits;
         further = further-next;
         inside = λ h. next-most block (w .at .next) (length (w .line)) (state .kept);
       }

@@ -7,7 +7,7 @@ use native.Mathlib.Omega.{arith}
 use lib.ListN.{length, take, drop, length-drop}
 use lib.Seq.{sets}
 use borrow.Author.Tests.{le-leb}
-use Rattle.cdr.specs.Branch.{choose}
+use Rattle.choices.specs.Branch.{choose}
 use Rattle.writing.specs.declared.Written.the-variants.{Upto}
 use Rattle.lines.specs.Lines.{lf, linesFrom}
 use Rattle.listing.specs.declared.State.{State}

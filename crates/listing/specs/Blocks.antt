@@ -27,7 +27,7 @@ use Prim.Native.Nat.{ℕ, zero, suc, _+_, _<_, _≤_, min}
 use lib.Dec.{leb, ltb}
 use lib.ListN.{length, take, drop}
 use lib.Seq.{sets}
-use Rattle.cdr.specs.Branch.{choose}
+use Rattle.choices.specs.Branch.{choose}
 use Rattle.writing.specs.declared.Written.{Written}
 use Rattle.writing.specs.declared.Written.the-variants.{Upto, NoRoom}
 use Rattle.lines.specs.declared.Taken.{Taken}

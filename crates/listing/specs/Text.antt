@@ -7,7 +7,7 @@
 use mathlib.Core.List.{List, [], _∷_, _++_}
 use Prim.Native.Nat.{ℕ, zero, suc, _+_, _/_, _%_}
 use lib.Dec.{ltb}
-use Rattle.cdr.specs.Branch.{choose}
+use Rattle.choices.specs.Branch.{choose}
 use Rattle.lines.specs.Lines.{lf}
 
 abbrev pub digit : ℕ → ℕ

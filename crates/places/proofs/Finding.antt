@@ -4,11 +4,12 @@ use mathlib.Core.Bool.{true, false, false≢true}
 use Prim.Native.Nat.{ℕ, _<_}
 use lib.Dec.{eqb, lit<}
 use borrow.Author.Tests.{eqb-true, eq-eqb}
+use Rattle.choices.proofs.Choices.{chosen, and-true}
 use Rattle.places.specs.declared.Record.{Record}
 use Rattle.places.specs.declared.Found.{Found}
 use Rattle.places.specs.declared.Found.the-variants.{At, Nowhere}
 use Rattle.places.specs.Places.{isOpen, idOf, isOpenWith, placeOf}
-use Rattle.places.proofs.Choices.{chosen, and-true, of-four}
+use Rattle.places.proofs.Four.{of-four}
 
 pub record FoundAt (r : Record) (x i : ℕ) : Type 0 where
   pub place : i < 4

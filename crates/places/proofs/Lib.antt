@@ -1,5 +1,5 @@
--- Choices, the place of a request id, and records that are not refused.
-pub mod Choices
+-- The four places, the place of a request id, and records that are not refused.
+pub mod Four
 pub mod Finding
 pub mod Counting
 pub mod Sound

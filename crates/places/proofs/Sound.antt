@@ -2,17 +2,17 @@
 use mathlib.Core.Path.{_≡_, refl}
 use mathlib.Core.Bool.{Bool, true, false, not, _&&_, _||_}
 use Prim.Native.Nat.{ℕ, _≤_, _<_}
-use native.Mathlib.Omega.{arith}
 use lib.Dec.{ltb, lit<}
 use borrow.Author.Tests.{ltb-false}
+use Rattle.choices.proofs.Choices.{chosen, clash, neither}
 use Rattle.places.specs.declared.Record.{Record}
 use Rattle.places.specs.declared.Found.{Found}
 use Rattle.places.specs.declared.Found.the-variants.{At, Nowhere}
 use Rattle.places.specs.Places.{placesCount, placeSize, placesSize, isOpen, lengthOf, isAt, lowestFree, idOpenTwice, placeShort, lengthWrong, someLengthWrong, badRecord}
-use Rattle.places.proofs.Choices.{chosen, neither, of-four}
+use Rattle.places.proofs.Four.{of-four}
 
 pub is-at : (f : Found) → isAt f ≡ false → f ≡ Nowhere
-is-at (At i) e = let z : _≡_ {A = ℕ} 0 1 = cc in absurd (omega arith)
+is-at (At i) e = clash cc
 is-at Nowhere e = refl
 
 -- a place that is free is one of the four
@@ -38,7 +38,7 @@ length-right : (o : Bool) (n : ℕ) → o ≡ true → (o && (ltb n 16 || ltb pl
 length-right true n e f =
     let t = neither (ltb n 16) (ltb placeSize n) f in
     (ltb-false n 16 (t .0), ltb-false placeSize n (t .1))
-length-right false n e f = let z : _≡_ {A = ℕ} 0 1 = cc in absurd (omega arith)
+length-right false n e f = clash cc
 
 pub sound-length : (r : Record) (lent i : ℕ) → i < 4 → isOpen r i ≡ true → badRecord r lent ≡ false → (16 ≤ lengthOf r i) × (lengthOf r i ≤ placeSize)
 unfolding badRecord someLengthWrong lengthWrong

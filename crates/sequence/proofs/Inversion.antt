@@ -7,6 +7,7 @@ use native.Mathlib.Omega.{arith}
 use lib.Dec.{ltb}
 use lib.ListN.{length}
 use borrow.Author.Tests.{ltb-true, ltb-false, eqb-true, eq-eqb, ne-eqb}
+use Rattle.choices.proofs.Choices.{chosen, clash}
 use Rattle.frame.specs.declared.RequestId.{RequestId}
 use Rattle.frame.specs.declared.RequestId.the-variants.{Id, NoId}
 use Rattle.frame.specs.declared.Header.{Header}
@@ -26,7 +27,6 @@ use Rattle.places.specs.Places.{placeSize, isOpen, idOf, heldIn, placeOf, lowes
 use Rattle.joined.specs.Message.{idEnd}
 use Rattle.joining.specs.Steps.{Step, Passes, Opens, Extends, Completes, Frees, Refuses, written, cancelled, differs, lengthAfter, continued, fragmentOf, firstOf, startOf, withId, byId, messageStep, judged, stepOf}
 use Rattle.sequence.specs.Sequence.{isId, withOne, partsWith, partsAfter}
-use Rattle.places.proofs.Choices.{chosen}
 use Rattle.places.proofs.Finding.{FoundAt, OpenNowhere, Placed, place-is}
 
 -- what a line makes of the parts of its own request id, and of those of any other
@@ -122,7 +122,7 @@ Facts v r lent room (Refuses why) = Refusing r lent room why
 
 has-id : (b : Bool) (x y : ℕ) → cond b (Id x) NoId ≡ Id y → b ≡ true
 has-id true x y e = refl
-has-id false x y e = let z : _≡_ {A = ℕ} 0 1 = cc in absurd (omega arith)
+has-id false x y e = clash cc
 
 module _ (v : List ℕ) (r : Record) (places : List ℕ) (room : ℕ) where
   abbrev Said : Step → Type 0

@@ -9,6 +9,7 @@ use lib.Dec.{ltb, eqb, lit<}
 use lib.ListN.{length, take, drop, length-drop}
 use lib.Seq.{sets}
 use borrow.Author.Tests.{le-ltb, ne-eqb, not-true, not-false}
+use Rattle.choices.proofs.Choices.{chosen, clash, and-true, and-false, or-false}
 use Rattle.places.specs.declared.Record.{Record}
 use Rattle.places.specs.declared.Found.{Found}
 use Rattle.places.specs.declared.Found.the-variants.{At, Nowhere}
@@ -16,7 +17,7 @@ use Rattle.places.specs.Places.{placesCount, placeSize, placeStart, placesSize,
 use Rattle.joined.specs.Message.{idEnd, bodyAfterId, bodies}
 use Rattle.joining.specs.Steps.{lengthAfter}
 use Rattle.sequence.specs.Sequence.{withOne, heldOf, Lowest}
-use Rattle.places.proofs.Choices.{chosen, and-true, and-false, or-false, of-four}
+use Rattle.places.proofs.Four.{of-four}
 use Rattle.sequence.proofs.Lists.{part-before, part-behind, part-filled, part-longer}
 
 below-by : (r : Record) (i : ℕ) → (0 < i → isOpen r 0 ≡ true) → (1 < i → isOpen r 1 ≡ true) → (2 < i → isOpen r 2 ≡ true) → i < 4
@@ -76,8 +77,8 @@ unfolding bodies
 held-first v = append-nil v
 
 pub more-some : (now : List (List ℕ)) (v : List ℕ) → now ++ (v ∷ []) ≡ [] → ⊥
-more-some [] v e = let z : _≡_ {A = ℕ} 0 1 = cc in omega arith
-more-some (x ∷ now) v e = let z : _≡_ {A = ℕ} 0 1 = cc in omega arith
+more-some [] v e = clash cc
+more-some (x ∷ now) v e = clash cc
 
 -- a place with an open message of these parts
 pub record HoldsAt (r : Record) (places : List ℕ) (now : List (List ℕ)) (i : ℕ) : Type 0 where

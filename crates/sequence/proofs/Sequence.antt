@@ -7,6 +7,7 @@ use native.Mathlib.Decide.{ℕ-discrete}
 use native.Mathlib.Omega.{arith}
 use lib.ListN.{length, getD, replicate, length-set, length-drop}
 use lib.Seq.{sets, length-sets, getD-set-same, getD-set-other}
+use Rattle.choices.proofs.Choices.{never-both}
 use Rattle.places.specs.declared.Record.{Record}
 use Rattle.places.specs.declared.Found.the-variants.{At, Nowhere}
 use Rattle.answers.specs.declared.Refusal.the-variants.{BadRecord, FourOpen, NoRoom}
@@ -16,7 +17,7 @@ use Rattle.joining.specs.Steps.{Step, Passes, Opens, Extends, Completes, Frees,
 use Rattle.places.specs.Places.{closed, opened, lengthened}
 use Rattle.joining.specs.Answers.{messageWritten, recordAfter, placesAfter}
 use Rattle.sequence.specs.Sequence.{Call, State, stepIn, after, afterAll, acceptedLine, accepted, partsAfter, partsFrom, partsOf, heldOf, Fresh, HoldsParts, JoinsParts, Lowest}
-use Rattle.places.proofs.Choices.{never-both, of-four}
+use Rattle.places.proofs.Four.{of-four}
 use Rattle.places.proofs.Finding.{OpenNowhere, place-found, place-nowhere}
 use Rattle.sequence.proofs.Inversion.{Passed, Opened, Extended, Ended, Facts, own-parts, other-parts, step-says}
 use Rattle.sequence.proofs.Places.{Freed, lowest-free, other-place, HoldsAt, holds-still, holds-first, holds-more, held-more, not-bad}

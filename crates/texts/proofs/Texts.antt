@@ -9,6 +9,7 @@ use lib.Dec.{eqb, ltb}
 use lib.ListN.{getD, length, take, drop, length-drop, drop-of-length-le}
 use lib.Seq.{drop-cons}
 use borrow.Author.Tests.{lt-ltb, le-ltb, ltb-true, ltb-false, eq-eqb, ne-eqb}
+use Rattle.choices.proofs.Choices.{clash}
 use Rattle.texts.specs.declared.Text.the-variants.{Chars, Empty, Over, Short, Zeros}
 use Rattle.texts.specs.declared.Run.the-variants.{To, Past}
 use Rattle.texts.specs.Text.{overBound, isNil, endsText, textOf, runOf}
@@ -43,12 +44,12 @@ module _ (v : List ℕ) (at n : ℕ) where
   run-to h = rw (le-ltb (length v) (at + n) h)
 
   run-by : (t : Bool) → ltb (length v) (at + n) ≡ t → (e : ℕ) → runOf v at n ≡ To e → (e ≡ at + n) × (at + n ≤ length v)
-  run-by true t e r = let p = run-past (ltb-true _ _ t) in let z : _≡_ {A = ℕ} 0 1 = cc in absurd (omega arith)
+  run-by true t e r = let p = run-past (ltb-true _ _ t) in clash cc
   run-by false t e r = let p = run-to (ltb-false _ _ t) in (cc, ltb-false _ _ t)
 
   short-by : (t : Bool) → ltb (length v) (at + n) ≡ t → runOf v at n ≡ Past → length v < at + n
   short-by true t r = ltb-true _ _ t
-  short-by false t r = let p = run-to (ltb-false _ _ t) in let z : _≡_ {A = ℕ} 0 1 = cc in absurd (omega arith)
+  short-by false t r = let p = run-to (ltb-false _ _ t) in clash cc
 
   -- what each answer of a run tells
   pub run-facts : (e : ℕ) → runOf v at n ≡ To e → (e ≡ at + n) × (at + n ≤ length v)

@@ -5,8 +5,8 @@ use Prim.Native.Nat.{ℕ, suc, _+_, _^_, _<_, _≤_, _%_}
 use native.Mathlib.Nat.{add-zero}
 use native.Mathlib.Numerals.{add-one}
 use native.Mathlib.Omega.{arith}
-use lib.ListN.{getD, length, drop, set, replicate, length-replicate, getD-replicate, drop-of-length-le}
-use lib.Seq.{sets, drop-cons}
+use lib.ListN.{getD, length, take, drop, set, replicate, length-append, length-replicate, getD-replicate, drop-of-length-le}
+use lib.Seq.{sets, sets-eq, drop-cons, take-at, drop-at, length-take-le}
 use Rattle.cdr.specs.declared.Order.{Order}
 use Rattle.cdr.specs.declared.Order.the-variants.{Big, Little}
 use Rattle.texts.specs.declared.Run.the-variants.{To, Past}
@@ -24,6 +24,19 @@ sets-append l i [] ys = ap (λ (k : ℕ). sets l k ys) (sym (add-zero i))
 sets-append l i (x ∷ xs) ys =
     let e : suc i + length xs ≡ i + suc (length xs) = omega arith in
     sets-append (set l i x) (suc i) xs ys ∙ ap (λ (k : ℕ). sets (sets (set l i x) (suc i) xs) k ys) e
+
+-- what stands before the end of a run, and behind it
+module _ (l xs : List ℕ) (at : ℕ) (fits : at + length xs ≤ length l) where
+  before-length : length (take at l ++ xs) ≡ at + length xs
+  before-length = length-append (take at l) xs ∙ ap (λ (k : ℕ). k + length xs) (length-take-le at l (omega arith))
+
+  pub take-stored : take (at + length xs) (sets l at xs) ≡ take at l ++ xs
+  take-stored =
+      rw (sets-eq xs l at fits) (take-at (take at l ++ xs) (drop (at + length xs) l) (at + length xs) before-length)
+
+  pub drop-stored : drop (at + length xs) (sets l at xs) ≡ drop (at + length xs) l
+  drop-stored =
+      rw (sets-eq xs l at fits) (drop-at (take at l ++ xs) (drop (at + length xs) l) (at + length xs) before-length)
 
 -- the next of a run, which starts with all of it and ends with none
 pub stored : (l out : List ℕ) (at k : ℕ) → k < length l

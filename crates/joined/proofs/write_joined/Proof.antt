@@ -1,9 +1,10 @@
 -- The two parts one behind the other, and the header corrected over them.
 use mathlib.Core.Path.{_≡_, sym, _∙_}
-use Prim.Native.Nat.{ℕ, _+_}
+use Prim.Native.Nat.{_+_}
 use native.Mathlib.Omega.{arith}
 use borrow.Author.Needs.{needs}
 use lib.ListN.{length}
+use Rattle.choices.proofs.Choices.{clash}
 use Rattle.writing.specs.declared.Written.the-variants.{Upto, NoRoom}
 use Rattle.joined.proofs.Correcting.{no-header, no-room, message, second-end, joined-written}
 use Rattle.joined.proofs.write_joined.Statement.{statement}
@@ -46,8 +47,7 @@ same-length c = search needs
 returns-3 : tie.Need-returns-3
 returns-3 c =
     let e : NoRoom ≡ Upto (length (c .before .before .before .before .before .before .before .before .before .before .before .before .before .before .before .args .held .now) + length (c .before .before .before .before .before .before .before .before .before .before .before .before .before .before .before .args .body .now)) = sym (c .enum-told .given .1) ∙ end-told (c .before .before .before .before) in
-    let z : _≡_ {A = ℕ} 0 1 = cc in
-    absurd (omega arith)
+    clash cc
 
 correct-requires : tie.Need-correct-requires
 correct-requires c κs = let e = end-is (c .before .before) in let h = c .before .before .before .before .before .before .before .before .before .before .before .before .before .if1 .left in let k = c .before .before .before .before .before .before .before .before .before .before .before .before .if2 .left in (omega arith, omega arith)

@@ -1,8 +1,13 @@
--- Choices by a test, tests joined by `and` and `or`, and what holds of each of the four places.
+-- Choices by a test, tests joined by `and` and `or`, and cases that cannot be.
 use mathlib.Core.Path.{_≡_, refl}
 use mathlib.Core.Bool.{Bool, true, false, cond, _&&_, _||_, false≢true, true≢false}
-use Prim.Native.Nat.{ℕ, zero, suc, _<_}
+use Prim.Native.Nat.{ℕ}
 use native.Mathlib.Omega.{arith}
+
+-- by a test, with what it says
+pub by-test : {G : Type 0} (t : Bool) → (t ≡ true → G) → (t ≡ false → G) → G
+by-test true f g = f refl
+by-test false f g = g refl
 
 -- what holds of both ways of a choice holds of the choice
 pub chosen : {A : Type 0} (P : A → Type 0) (b : Bool) (x y : A) → (b ≡ true → P x) → (b ≡ false → P y) → P (cond b x y)
@@ -12,6 +17,10 @@ chosen P false x y f g = g refl
 pub never-both : (b : Bool) → b ≡ true → b ≡ false → ⊥
 never-both true e f = true≢false f
 never-both false e f = false≢true e
+
+-- two answers of an enum that are not the same: `cc` finds the path
+pub clash : {A : Type 0} → _≡_ {A = ℕ} 0 1 → A
+clash z = absurd (omega arith)
 
 pub and-true : (a b : Bool) → (a && b) ≡ true → (a ≡ true) × (b ≡ true)
 and-true true b e = (refl, e)
@@ -28,10 +37,3 @@ or-false false b e f = f
 pub neither : (a b : Bool) → (a || b) ≡ false → (a ≡ false) × (b ≡ false)
 neither true b e = absurd (true≢false e)
 neither false b e = (refl, e)
-
-pub of-four : (P : ℕ → Type 0) → P 0 → P 1 → P 2 → P 3 → (i : ℕ) → i < 4 → P i
-of-four P a b c d zero h = a
-of-four P a b c d (suc zero) h = b
-of-four P a b c d (suc (suc zero)) h = c
-of-four P a b c d (suc (suc (suc zero))) h = d
-of-four P a b c d (suc (suc (suc (suc i)))) h = absurd (omega arith)

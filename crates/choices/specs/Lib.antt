@@ -1,0 +1,2 @@
+-- How definitions branch.
+pub mod Branch
