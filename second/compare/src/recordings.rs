@@ -19,7 +19,7 @@ use crate::lines::digits_of;
 const BLOCK: usize = 1 << 16;
 
 /// How many recordings of each generator of joining go to the program.
-const EACH: u64 = 150;
+const EACH: u64 = 1_250;
 
 /// Gives every recording to the program, and holds its output.
 pub fn judge(judge: &mut Judge, program: &Path) -> io::Result<()> {
