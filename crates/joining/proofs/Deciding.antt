@@ -18,13 +18,13 @@ use Rattle.frame.proofs.Accepts.{frame-accepts}
 use Rattle.places.specs.declared.Record.{Record}
 use Rattle.places.specs.declared.Found.{Found}
 use Rattle.places.specs.declared.Found.the-variants.{At, Nowhere}
-use Rattle.places.specs.Places.{placesCount, placeSize, heldIn, placeOf, lowestFree, badRecord, isAt}
+use Rattle.places.specs.Places.{placesCount, placeSize, heldIn, placeOf, lowestFree, badRecord, isAt, Within}
 use Rattle.joined.specs.Message.{idEnd}
 use Rattle.answers.specs.declared.Refusal.the-variants.{BadRecord, IdOpen, FourOpen, FirstDiffers, TooLong, NoRoom}
 use Rattle.joining.specs.Steps.{Step, Passes, Opens, Extends, Completes, Refuses, written, cancelled, differs, lengthAfter, continued, fragmentOf, firstOf, startOf, withId, byId, messageStep, judged, stepOf}
-use Rattle.places.proofs.Sound.{is-at, Within as FreeWithin, free-within, sound-lent, sound-length}
+use Rattle.places.proofs.Sound.{is-at, free-within, sound-lent, sound-length}
 use Rattle.places.proofs.Finding.{Placed, place-is, place-found}
-use Rattle.joining.specs.Inner.{Sound, Within, lacksPlace, Opening, Continues}
+use Rattle.joining.specs.Inner.{Sound, lacksPlace, Opening, Continues}
 
 -- a place that is found is one of the four
 within-placed : (r : Record) (id : ℕ) (f : Found) → Placed r id f → Within f
@@ -116,7 +116,7 @@ pub no-place : (r : Record) (id : ℕ) (f : Found) → f ≡ lowestFree r → f 
 no-place r id f e n = ap (firstOf id) (sym e ∙ n)
 
 pub free-place : (r : Record) (f : Found) (i : ℕ) → f ≡ lowestFree r → f ≡ At i → i < placesCount
-free-place r f i e a = subst FreeWithin (sym e ∙ a) (free-within r)
+free-place r f i e a = subst Within (sym e ∙ a) (free-within r)
 
 pub opens-place : (r : Record) (id : ℕ) (f : Found) (i : ℕ) → f ≡ lowestFree r → f ≡ At i → firstOf id (lowestFree r) ≡ Opens i id
 opens-place r id f i e a = ap (firstOf id) (sym e ∙ a)

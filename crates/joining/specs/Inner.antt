@@ -1,6 +1,5 @@
 -- What the private functions of the crate ask of each other; nothing that a caller is told rests on these names.
 --   Sound       an accepted message, a record that is not refused, and places that have their octets
---   Within      a place that was found is one of the four
 --   lacksPlace  whether a message is a first fragment, and no place is free for it
 --   Opening     a first fragment's octets, and places that have theirs
 --   Continues   a fragment's octets, and the place of its open message
@@ -13,18 +12,12 @@ use Rattle.frame.specs.declared.Header.{Header}
 use Rattle.frame.specs.declared.Frame.the-variants.{Accepted}
 use Rattle.frame.specs.Frames.{messageLimit, frameOf}
 use Rattle.places.specs.declared.Record.{Record}
-use Rattle.places.specs.declared.Found.{Found}
-use Rattle.places.specs.declared.Found.the-variants.{At, Nowhere}
 use Rattle.places.specs.Places.{placesCount, placeSize, placesSize, lengthOf, isAt, lowestFree, badRecord}
 use Rattle.joined.specs.Message.{idEnd}
 
 pub record Sound (v : List ℕ) (h : Header) (r : Record) (places : List ℕ) : Type 0 where
   pub accepted : frameOf v ≡ Accepted h
   pub sound : badRecord r (length places) ≡ false
-
-abbrev pub Within : Found → Type 0
-Within (At i) = i < placesCount
-Within Nowhere = Unit {0}
 
 abbrev pub lacksPlace : Bool → Record → Bool
 lacksPlace more r = more && not (isAt (lowestFree r))

@@ -8,7 +8,7 @@ use Rattle.choices.proofs.Choices.{chosen, clash, neither}
 use Rattle.places.specs.declared.Record.{Record}
 use Rattle.places.specs.declared.Found.{Found}
 use Rattle.places.specs.declared.Found.the-variants.{At, Nowhere}
-use Rattle.places.specs.Places.{placesCount, placeSize, placesSize, isOpen, lengthOf, isAt, lowestFree, idOpenTwice, placeShort, lengthWrong, someLengthWrong, badRecord}
+use Rattle.places.specs.Places.{placeSize, placesSize, isOpen, lengthOf, isAt, Within, lowestFree, idOpenTwice, placeShort, lengthWrong, someLengthWrong, badRecord}
 use Rattle.places.proofs.Four.{of-four}
 
 pub is-at : (f : Found) → isAt f ≡ false → f ≡ Nowhere
@@ -16,10 +16,6 @@ is-at (At i) e = clash cc
 is-at Nowhere e = refl
 
 -- a place that is free is one of the four
-abbrev pub Within : Found → Type 0
-Within (At i) = i < placesCount
-Within Nowhere = Unit {0}
-
 pub free-within : (r : Record) → Within (lowestFree r)
 unfolding lowestFree
 free-within r =

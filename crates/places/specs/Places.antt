@@ -12,6 +12,7 @@
 --   isOpenWith     whether a place has the open message of a request id
 --   placeOf        the place of the open message of a request id
 --   isAt           whether there is one
+--   Within         that it is one of the four
 --   lowestFree     "the lowest free one first"; nowhere "when four are open"
 --   openAt         1 for a place that has an open message, and 0 for one that has none
 --   openCount      "messages open"
@@ -24,7 +25,7 @@
 --   closed         the record with a place freed,
 --   opened         with a place opened for a request id,
 --   lengthened     and with the length of its message changed
-use Prim.Native.Nat.{ℕ, _+_, _*_}
+use Prim.Native.Nat.{ℕ, _+_, _*_, _<_}
 use mathlib.Core.List.{List}
 use mathlib.Core.Bool.{Bool, true, false, cond, not, _&&_, _||_}
 use lib.Dec.{ltb, eqb}
@@ -78,6 +79,10 @@ placeOf r id =
 abbrev pub isAt : Found → Bool
 isAt (At i) = true
 isAt Nowhere = false
+
+abbrev pub Within : Found → Type 0
+Within (At i) = i < placesCount
+Within Nowhere = Unit {0}
 
 unfoldable pub lowestFree : Record → Found
 lowestFree r =

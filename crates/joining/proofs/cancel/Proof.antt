@@ -6,7 +6,7 @@ use borrow.Author.Needs.{needs}
 use Rattle.places.specs.declared.Found.the-variants.{At}
 use Rattle.answers.specs.declared.Refusal.the-variants.{NoRoom}
 use Rattle.joining.specs.Steps.{Passes, Frees, written, cancelled}
-use Rattle.joining.specs.Inner.{Within}
+use Rattle.places.specs.Places.{Within}
 use Rattle.joining.proofs.Doing.{by-step, refuses, frees}
 use Rattle.joining.proofs.Deciding.{no-room}
 use Rattle.joining.proofs.cancel.Statement.{statement}
