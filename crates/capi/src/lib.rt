@@ -3,7 +3,7 @@ ghost use mathlib.Core.Path.{_≡_};
 ghost use mathlib.Core.Bool.{cond};
 ghost use Rattle.frame.specs.Frames.{headerNumbers};
 ghost use Rattle.answers.specs.Answers.{outputIn};
-ghost use Rattle.capi.specs.Answers.{joinedCount, DecodesC, EncodesC, JudgesC, JoinsC};
+ghost use Rattle.capi.specs.Answers.{decodedCount, encodedCount, joinedCount, DecodesC, EncodesC, JudgesC, JoinsC};
 use answers::Answer;
 use answers::Output;
 use frame::Frame;
@@ -19,14 +19,19 @@ pub extern "C" fn haulspar_decode(line: &[u8], out: &mut [u8], count: &mut u64) 
     ensures { λ r. ⌜ DecodesC (now (line .entry)) (now (out .entry)) (now (count .entry)) r (now (out .exit)) (now (count .exit)) ⌝ }
 {
     let answer = hexline::decode(line, out);
+    *count = decoded_count(answer, *count);
+    answer.number()
+}
+
+// The number of octets decoded, or what was there where none are.
+fn decoded_count(answer: Decoded, before: u64) -> u64
+    ensures { λ r. ⌜ r ≡ decodedCount answer before ⌝ }
+{
     match answer {
-        Decoded::Octets(n) => {
-            *count = n as u64;
-            0
-        }
-        Decoded::TooLong => answer.number(),
-        Decoded::NotDigits => answer.number(),
-        Decoded::NoRoom => answer.number(),
+        Decoded::Octets(n) => n as u64,
+        Decoded::TooLong => before,
+        Decoded::NotDigits => before,
+        Decoded::NoRoom => before,
     }
 }
 
@@ -36,12 +41,17 @@ pub extern "C" fn haulspar_encode(octets: &[u8], out: &mut [u8], count: &mut u64
     ensures { λ r. ⌜ EncodesC (now (octets .entry)) (now (out .entry)) (now (count .entry)) r (now (out .exit)) (now (count .exit)) ⌝ }
 {
     let answer = hexline::encode(octets, out);
+    *count = encoded_count(answer, *count);
+    answer.number()
+}
+
+// The number of digits encoded, or what was there where none are.
+fn encoded_count(answer: Encoded, before: u64) -> u64
+    ensures { λ r. ⌜ r ≡ encodedCount answer before ⌝ }
+{
     match answer {
-        Encoded::Digits(n) => {
-            *count = n as u64;
-            0
-        }
-        Encoded::NoRoom => answer.number(),
+        Encoded::Digits(n) => n as u64,
+        Encoded::NoRoom => before,
     }
 }
 

@@ -1,4 +1,4 @@
--- The answers of decoding and encoding, what accepted digits and lines are, and that a line over the limit may be cut.
+-- The answers of decoding and encoding, and what accepted digits and lines are.
 use mathlib.Core.Path.{_≡_, refl}
 use mathlib.Core.Bool.{Bool, true, false}
 use mathlib.Core.List.{List}
@@ -88,15 +88,3 @@ module _ (octets : List ℕ) (room : ℕ) where
   pub digits-fit : length octets * 2 ≤ room → encodedOf octets room ≡ Digits (length octets * 2)
   unfolding encodedOf
   digits-fit h = simp (le-ltb room (length octets * 2) h)
-
-  encoded-by : (n : ℕ) (a : Bool) → ltb room (length octets * 2) ≡ a → encodedOf octets room ≡ Digits n → (n ≡ length octets * 2) × (n ≤ room)
-  unfolding encodedOf
-  encoded-by n true p e = let h = simp p at e in clash cc
-  encoded-by n false p e =
-      let h = simp p at e in
-      let c : n ≡ length octets * 2 = cc in
-      (c, omega (arith, ltb-false room (length octets * 2) p))
-
-  -- what was encoded has two digits an octet, and they fit
-  pub encoded : (n : ℕ) → encodedOf octets room ≡ Digits n → (n ≡ length octets * 2) × (n ≤ room)
-  encoded n e = encoded-by n _ refl e

@@ -105,9 +105,9 @@ pub starts-first : (r : Record) (room n : ℕ) (h : Header) (id : ℕ) (f : Foun
     → startOf r room n h id f ≡ firstOf id (lowestFree r)
 starts-first r room n h id f e m = starts r room n h id f e ∙ rw m
 
-pub four-open : (r : Record) (room n : ℕ) (h : Header) (id : ℕ) (f : Found) → isAt f ≡ false → lacksPlace (h .more) r ≡ true
+pub lacks-refused : (r : Record) (room n : ℕ) (h : Header) (id : ℕ) (f : Found) → isAt f ≡ false → lacksPlace (h .more) r ≡ true
     → startOf r room n h id f ≡ Refuses FourOpen
-four-open r room n h id f e l =
+lacks-refused r room n h id f e l =
     let both = and-true (h .more) (not (isAt (lowestFree r))) l in
     starts-first r room n h id f e (both .0) ∙ ap (firstOf id) (is-at (lowestFree r) (not-true (isAt (lowestFree r)) (both .1)))
 

@@ -157,13 +157,14 @@ fn lacks_place(more: bool, before: Record) -> bool
     }
 }
 
-// Opens the lowest free place for a first fragment.
+// Opens the lowest free place for a first fragment, if there is one.
 fn first(octets: &[u8], id: u32, before: Record, places: &mut [u8]) -> Outcome
     requires { ⌜ Opening (now octets) (now places) ⌝ }
     ensures { λ r. ⌜ ((out : List ℕ) → Does (firstOf id (lowestFree before)) (now (octets .entry)) before (now (places .entry)) out r (now (places .exit)) out) ⌝ }
 {
     let i = match places::lowest_free(before) {
         Found::At(i) => i,
+        // Never here: `start` refuses a first fragment that lacks a place.
         Found::Nowhere => return refused(before, Refusal::FourOpen),
     };
     writing::write_octets(places, i * places::PLACE_SIZE, octets);

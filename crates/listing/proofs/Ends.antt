@@ -1,4 +1,4 @@
--- The end of a recording: the messages open, and what the steps of the last call amount to.
+-- The end of a recording: what the steps of the last call amount to, and that its text fits.
 use mathlib.Core.Path.{_≡_, refl, sym, ap, _∙_}
 use mathlib.Core.Bool.{true}
 use mathlib.Core.List.{List, [], _∷_, _++_}

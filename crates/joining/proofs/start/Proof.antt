@@ -7,7 +7,7 @@ use Rattle.places.specs.Places.{lowestFree}
 use Rattle.answers.specs.declared.Refusal.the-variants.{IdOpen, FourOpen}
 use Rattle.joining.specs.Steps.{Passes, written, firstOf}
 use Rattle.joining.proofs.Doing.{by-step, refuses}
-use Rattle.joining.proofs.Deciding.{id-open, starts-whole, four-open, starts-first, opening}
+use Rattle.joining.proofs.Deciding.{id-open, starts-whole, lacks-refused, starts-first, opening}
 use Rattle.joining.proofs.start.Statement.{statement}
 use Rattle.joining.proofs.start.Tie as tie
 
@@ -34,7 +34,7 @@ returns-2 : tie.Need-returns-2
 returns-2 c =
     let o = c .before .before .before .before .before .before .before .before .args in
     refuses (o .octets .now) (o .before) (o .places .now) (o .out .now) _ FourOpen _
-    (four-open (o .before) (length (o .out .now)) (length (o .octets .now)) (o .h) (o .id) (o .found) (sym (c .before .before .before .before .is-at .ensures) ∙ c .before .before .if1 .left) (sym (c .before .before .before .lacks-place .ensures) ∙ c .before .if2 .taken))
+    (lacks-refused (o .before) (length (o .out .now)) (length (o .octets .now)) (o .h) (o .id) (o .found) (sym (c .before .before .before .before .is-at .ensures) ∙ c .before .before .if1 .left) (sym (c .before .before .before .lacks-place .ensures) ∙ c .before .if2 .taken))
     (c .refused2 .ensures)
 
 whole-requires : tie.Need-whole-requires
