@@ -56,3 +56,39 @@ pub const NO_ROOM: u32 = 27;
 
 // A lent record has one id open twice, a place that is too short, or an open length out of its range.
 pub const BAD_RECORD: u32 = 28;
+
+// The octets of a TypeCode or an encapsulation end.
+pub const TYPE_ENDS: u32 = 30;
+
+// A kind is not listed.
+pub const NO_SUCH_KIND: u32 = 31;
+
+// A type's text has length 0, no last zero octet, or an earlier one.
+pub const BAD_TYPE_TEXT: u32 = 32;
+
+// An encapsulation's length is 0 or beyond its surroundings, its order octet above 1, or its parameters don't end with it.
+pub const BAD_ENCAPSULATION: u32 = 33;
+
+// A count or a length is 0.
+pub const NO_COUNT: u32 = 34;
+
+// A discriminant has another kind, a label is out of its kind or there twice, or a default is out of range.
+pub const BAD_UNION: u32 = 35;
+
+// An indirection's target is no kind met, or one that is still being read.
+pub const BAD_TARGET: u32 = 36;
+
+// A TypeCode has a 65th kind.
+pub const TOO_MANY_KINDS: u32 = 37;
+
+// Types are nested more than 16 deep.
+pub const TOO_DEEP: u32 = 38;
+
+// A kind returns to itself.
+pub const LOOP: u32 = 39;
+
+// Null, void or an exception stands below the top.
+pub const BELOW_TOP: u32 = 40;
+
+// Octets are over 16,384.
+pub const TOO_LONG: u32 = 42;

@@ -1,0 +1,3 @@
+-- The check of a TypeCode, octet by octet.
+pub mod Walk
+pub mod Types

@@ -1,0 +1,165 @@
+-- "A type nested in another is itself a TypeCode and is checked by the same rules": the check of a TypeCode in the octets s of its
+-- encapsulation, which starts at the place b of the whole octets v and has an order; and of all that stands inside it, in octet order.
+--   targetStep        36: "target not the place of a kind already met, or one still being read that is neither struct nor union"
+--   aimedStep         the same of an offset's target
+--   indirectionAt     "at an indirection itself, 30 and 36 alone"
+--   Checker           a check of the types one level down
+--   nameStep          a member's name behind its label, if there are labels
+--   membersAt         so many members: a label if there are labels, a name, a type; `done` of them stand before, from `first` on
+--   labelsAt          what the discriminant at an index says of labels
+--   switchHead        35 for a discriminant of another kind, then default and count
+--   switchedAt        what follows a discriminant: default, count and members
+--   discriminantAt    a union's discriminant and what follows it
+--   parametersAt      "objref: id, name. Alias: id, name, type." and so on
+--   endedAt           33: "parameters that don't end with it"
+--   compositeAt       an encapsulation, whose octets "go on to the next reader as that part alone"
+--   insideAt          what follows a kind of a form
+--   enteredAt         a kind is met, and what follows it is checked
+--   kindAt            an indirection, or a kind that may stand there
+--   enterAt           a kind of a form with so many levels left
+--   typeAt            a TypeCode with so many levels left
+--   octetsLimit       the most octets
+--   walkedOf          the check of octets as a TypeCode: "42 over 16,384 octets (before all else)"
+use Prim.Native.Nat.{ℕ, zero, suc, _+_, _-_}
+use mathlib.Core.List.{List}
+use mathlib.Core.Bool.{Bool, true, false, cond}
+use lib.Dec.{ltb, eqb}
+use lib.ListN.{length, getD, take, drop}
+use Rattle.choices.specs.Branch.{choose}
+use Rattle.cdr.specs.declared.Index.{Index}
+use Rattle.cdr.specs.declared.Place.{Place}
+use Rattle.cdr.specs.declared.Order.{Order}
+use Rattle.cdr.specs.declared.Size.the-variants.{Four}
+use Rattle.kinds.specs.declared.Form.{Form}
+use Rattle.kinds.specs.declared.Form.the-variants.{Unlisted, Plain, Bounded, Composite}
+use Rattle.kinds.specs.declared.Layout.{Layout}
+use Rattle.kinds.specs.declared.Layout.the-variants.{Objref, Struct, Union, Enum, Sequence, Array, Alias, Exception}
+use Rattle.kinds.specs.declared.Target.{Target}
+use Rattle.kinds.specs.declared.Target.the-variants.{To, Outside}
+use Rattle.kinds.specs.declared.Labels.{Labels}
+use Rattle.kinds.specs.declared.Labels.the-variants.{Of, NoLabels}
+use Rattle.met.specs.declared.Met.{Met}
+use Rattle.fields.specs.declared.Refusal.the-variants.{Ends, NoSuchKind, BadEncapsulation, BadUnion, BadTarget, TooDeep, TooLong}
+use Rattle.fields.specs.declared.Entry.{Entry}
+use Rattle.fields.specs.declared.Entry.the-variants.{Barred, Enters}
+use Rattle.fields.specs.declared.Step.{Step}
+use Rattle.fields.specs.declared.Count.{Count}
+use Rattle.fields.specs.declared.Count.the-variants.{Wrong}
+use Rattle.fields.specs.declared.Part.{Part}
+use Rattle.fields.specs.declared.Part.the-variants.{NoPart, Inside}
+use Rattle.checking.specs.declared.Walk.{Walk}
+use Rattle.checking.specs.declared.Walked.{Walked}
+use Rattle.cdr.specs.Align.{indexOf}
+use Rattle.encapsulation.specs.Encapsulation.{fieldOf}
+use Rattle.kinds.specs.Forms.{indirectionKind, formOf}
+use Rattle.kinds.specs.Parts.{placeOf, onField, onSpot, behind, targetOf, spotAt}
+use Rattle.met.specs.Met.{findPlace}
+use Rattle.met.specs.Discriminants.{labelsFor}
+use Rattle.fields.specs.Fields.{nestingLimit, entryOf, thenStep, textStep, namesStep, numberStep, lengthStep, headStep, exceptionStep, enumStep, switchStep, labelStep, partOf}
+use Rattle.checking.specs.Walk.{nothingMet, entered, closed, refusedAs, goesOn, onStep, countThen, after}
+
+unfoldable pub targetStep : Walk → Place → Index → Walked
+targetStep w p next =
+    cond (ltb (findPlace (w .met) p) (w .met .count))
+    (cond (getD (w .barred) (findPlace (w .met) p) false) (refusedAs BadTarget w) (goesOn next w))
+    (refusedAs BadTarget w)
+
+abbrev pub aimedStep : Target → Walk → Index → Walked
+aimedStep (To p) w next = targetStep w p next
+aimedStep Outside w next = refusedAs BadTarget w
+
+unfoldable pub indirectionAt : List ℕ → Place → Order → Index → Walk → Walked
+indirectionAt s b order i w =
+    onField (fieldOf s i Four order) (refusedAs Ends w) (λ x next. aimedStep (targetOf (behind b next) x) w next)
+
+abbrev pub Checker : Type 0
+Checker = List ℕ → Place → Order → Index → Walk → Walked
+
+unfoldable pub nameStep : Labels → List ℕ → List ℕ → Place → Order → ℕ → Index → Index → Step
+nameStep labels v s b order done first i = thenStep (labelStep labels v s b order done first i) (λ h. textStep s h order)
+
+unfoldable pub membersAt : List ℕ → Checker → Labels → List ℕ → Place → Order → Index → ℕ → ℕ → Index → Walk → Walked
+membersAt v go labels s b order first zero done i w = goesOn i w
+membersAt v go labels s b order first (suc n) done i w =
+    onStep (nameStep labels v s b order done first i) w (λ j.
+    after (go s b order j w) (λ k w′. membersAt v go labels s b order first n (done + 1) k w′))
+
+unfoldable pub labelsAt : List ℕ → Met → Place → Index → Order → Labels
+labelsAt v m b i order = onSpot (spotAt v b i order) NoLabels (λ p next. labelsFor v m p)
+
+abbrev pub switchHead : Labels → List ℕ → Index → Order → Count
+switchHead NoLabels s i order = Wrong BadUnion
+switchHead (Of size limit) s i order = switchStep s i order
+
+unfoldable pub switchedAt : List ℕ → Checker → Labels → List ℕ → Place → Order → Index → Walk → Walked
+switchedAt v go labels s b order i w =
+    countThen (switchHead labels s i order) w (λ n next. membersAt v go labels s b order next n 0 next w)
+
+unfoldable pub discriminantAt : List ℕ → Checker → List ℕ → Place → Order → Index → Walk → Walked
+discriminantAt v go s b order i w =
+    after (go s b order i w) (λ j w′. switchedAt v go (labelsAt v (w′ .met) b i order) s b order j w′)
+
+abbrev pub parametersAt : List ℕ → Checker → Layout → List ℕ → Place → Order → Walk → Walked
+parametersAt v go Objref s b order w = onStep (namesStep s order) w (λ i. goesOn i w)
+parametersAt v go Alias s b order w = onStep (namesStep s order) w (λ i. go s b order i w)
+parametersAt v go Struct s b order w =
+    countThen (headStep s order) w (λ n next. membersAt v go NoLabels s b order next n 0 next w)
+parametersAt v go Exception s b order w =
+    countThen (exceptionStep s order) w (λ n next. membersAt v go NoLabels s b order next n 0 next w)
+parametersAt v go Union s b order w =
+    onStep (namesStep s order) w (λ i. discriminantAt v go s b order i w)
+parametersAt v go Enum s b order w = onStep (enumStep s order) w (λ i. goesOn i w)
+parametersAt v go Sequence s b order w =
+    after (go s b order (indexOf 1) w) (λ i w′. onStep (numberStep s i order) w′ (λ next. goesOn next w′))
+parametersAt v go Array s b order w =
+    after (go s b order (indexOf 1) w) (λ i w′. onStep (lengthStep s i order) w′ (λ next. goesOn next w′))
+
+unfoldable pub endedAt : ℕ → ℕ → ℕ → Walked → Walked
+endedAt here n e c = after c (λ i w. cond (eqb (i .0) n) (goesOn (indexOf e) (closed w here)) (refusedAs BadEncapsulation w))
+
+abbrev pub partThen : Part → Walk → (ℕ → ℕ → Order → Walked) → Walked
+partThen (NoPart r) w f = refusedAs r w
+partThen (Inside x e order) w f = f x e order
+
+unfoldable pub compositeAt : List ℕ → Checker → Layout → List ℕ → Place → Order → Index → Walk → ℕ → Walked
+compositeAt v go layout s b order i w here =
+    partThen (partOf s i order) w (λ x e o.
+    endedAt here (e - x) e (parametersAt v go layout (take (e - x) (drop x s)) (placeOf (b .0 + x)) o w))
+
+abbrev pub insideAt : List ℕ → Checker → Form → List ℕ → Place → Order → Index → Walk → ℕ → Walked
+insideAt v go Unlisted s b order i w here = refusedAs NoSuchKind w
+insideAt v go Plain s b order i w here = goesOn i (closed w here)
+insideAt v go Bounded s b order i w here = onStep (numberStep s i order) w (λ next. goesOn next (closed w here))
+insideAt v go (Composite layout) s b order i w here = compositeAt v go layout s b order i w here
+
+unfoldable pub enteredAt : List ℕ → Checker → Form → List ℕ → Place → Order → Index → Walk → Walked
+enteredAt v go form s b order next w = insideAt v go form s b order next (entered w (behind b next) b order form) (w .met .count)
+
+-- a check of what follows a kind of a form
+abbrev pub Enterer : Type 0
+Enterer = Form → List ℕ → Place → Order → Index → Walk → Walked
+
+abbrev pub onEntry : Entry → Walk → (Unit {0} → Walked) → Walked
+onEntry (Barred r) w f = refusedAs r w
+onEntry Enters w f = f tt
+
+unfoldable pub kindAt : ℕ → Enterer → Checker
+kindAt left enter s b order i w =
+    onField (fieldOf s i Four order) (refusedAs Ends w) (λ kind next.
+    choose (eqb kind indirectionKind)
+    (λ _. indirectionAt s b order next w)
+    (λ _. onEntry (entryOf (formOf kind) kind left (w .met .count)) w (λ _. enter (formOf kind) s b order next w)))
+
+unfoldable pub enterAt : List ℕ → ℕ → Enterer
+enterAt v zero form s b order next w = refusedAs TooDeep w
+enterAt v (suc left) form s b order next w = enteredAt v (kindAt left (enterAt v left)) form s b order next w
+
+unfoldable pub typeAt : List ℕ → ℕ → Checker
+typeAt v left = kindAt left (enterAt v left)
+
+abbrev pub octetsLimit : ℕ
+octetsLimit = 16384
+
+unfoldable pub walkedOf : List ℕ → Order → Walked
+walkedOf v order =
+    choose (ltb octetsLimit (length v)) (λ _. refusedAs TooLong nothingMet) (λ _. typeAt v nestingLimit v (placeOf 0) order (indexOf 0) nothingMet)

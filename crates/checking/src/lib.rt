@@ -1,0 +1,278 @@
+// The check of a TypeCode, octet by octet: 30 to 38 and 40. A type nested in another is checked by the same function, one level on.
+ghost use mathlib.Core.Path.{_≡_};
+ghost use Prim.Native.Nat.{_+_, _≤_, _<_};
+ghost use lib.ListN.{length};
+ghost use Rattle.checking.specs.Types.{indirectionAt, discriminantAt, membersAt, labelsAt, parametersAt, insideAt, typeAt, walkedOf};
+use cdr::Index;
+use cdr::Order;
+use cdr::Place;
+use cdr::Size;
+use encapsulation::Field;
+use fields::Count;
+use fields::Entry;
+use fields::Part;
+use fields::Refusal;
+use fields::Step;
+use kinds::Form;
+use kinds::Labels;
+use kinds::Layout;
+use kinds::Spot;
+use kinds::Target;
+use met::Met;
+
+mod walks;
+
+// The kinds met so far, and which of them are no target yet.
+pub struct Walk {
+    pub met: Met,
+    pub barred: [bool; 64],
+}
+
+// Where a check goes on, or why it does not; and what it has met.
+pub struct Walked {
+    pub step: Step,
+    pub walk: Walk,
+}
+
+// The most octets, and the levels left at the top.
+const OCTETS_LIMIT: usize = 16384;
+
+const NESTING: u8 = 16;
+
+// Checks octets as a TypeCode in a byte order: where it ends or why it is refused, 42 and 30 to 38 and 40, and the kinds met.
+pub fn walk_type(v: &[u8], order: Order) -> Walked
+    ensures { λ r. ⌜ r ≡ walkedOf (now (v .entry)) order ⌝ }
+{
+    let walk = walks::nothing_met();
+    if OCTETS_LIMIT < v.len() {
+        return walks::refused(Refusal::TooLong, walk);
+    }
+    check(v, v, Place(0), order, Index::START, NESTING, walk)
+}
+
+// Where an indirection leads whose offset stands at an index.
+fn indirection(s: &[u8], start: Place, order: Order, at: Index, walk: Walk) -> Walked
+    requires { ⌜ start .0 + length (now s) ≤ 16384 ⌝ }
+    ensures { λ r. ⌜ r ≡ indirectionAt (now (s .entry)) start order at walk ⌝ }
+{
+    let Field::Value {
+        value: offset,
+        next,
+    } = encapsulation::read_field(s, at, Size::Four, order)
+    else {
+        return walks::refused(Refusal::Ends, walk);
+    };
+    match kinds::target_of(Place(start.0 + (next.0 - 4)), offset) {
+        Target::To(place) => walks::target_step(walk, place, next),
+        Target::Outside => walks::refused(Refusal::BadTarget, walk),
+    }
+}
+
+// What the discriminant at an index says of labels.
+fn labels_at(v: &[u8], met: Met, start: Place, at: Index, order: Order) -> Labels
+    ensures { λ r. ⌜ r ≡ labelsAt (now (v .entry)) met start at order ⌝ }
+{
+    match kinds::spot_at(v, start, at, order) {
+        Spot::At { place, next: _ } => met::labels_for(v, met, place),
+        Spot::Nowhere => Labels::NoLabels,
+    }
+}
+
+// A TypeCode at an index, with so many levels left.
+fn check(v: &[u8], s: &[u8], start: Place, order: Order, at: Index, left: u8, walk: Walk) -> Walked
+    requires { ⌜ start .0 + length (now s) ≤ 16384 ⌝ }
+    ensures { λ r. ⌜ r ≡ typeAt (now (v .entry)) left (now (s .entry)) start order at walk ⌝ }
+{
+    let Field::Value { value: kind, next } = encapsulation::read_field(s, at, Size::Four, order)
+    else {
+        return walks::refused(Refusal::Ends, walk);
+    };
+    if kind == kinds::INDIRECTION {
+        return indirection(s, start, order, next, walk);
+    }
+    let form = kinds::form_of(kind);
+    let here = walks::count(walk);
+    match fields::entry_of(form, kind, left, here) {
+        Entry::Barred(refusal) => walks::refused(refusal, walk),
+        Entry::Enters => {
+            let place = Place(start.0 + (next.0 - 4));
+            let entered = walks::enter(walk, place, start, order, form);
+            inside(v, form, s, start, order, next, left - 1, entered, here)
+        }
+    }
+}
+
+// What follows a kind of a form, which has the position `here`.
+fn inside(
+    v: &[u8],
+    form: Form,
+    s: &[u8],
+    start: Place,
+    order: Order,
+    at: Index,
+    left: u8,
+    walk: Walk,
+    here: usize,
+) -> Walked
+    requires { ⌜ (start .0 + length (now s) ≤ 16384) × (here < 64) ⌝ }
+    ensures { λ r. ⌜ r ≡ insideAt (now (v .entry)) (typeAt (now (v .entry)) left) form (now (s .entry)) start order at walk here ⌝ }
+{
+    match form {
+        Form::Unlisted => walks::refused(Refusal::NoSuchKind, walk),
+        Form::Plain => walks::goes_on(at, walks::close(walk, here)),
+        Form::Bounded => walks::bounded(s, order, at, walk, here),
+        Form::Composite(layout) => match fields::part_at(s, at, order) {
+            Part::NoPart(refusal) => walks::refused(refusal, walk),
+            Part::Inside {
+                start: from,
+                end,
+                order: o,
+            } => {
+                let first = Place(start.0 + from);
+                let c = parameters(v, layout, &s[from..end], first, o, left, walk);
+                walks::ended(c, here, end - from, end)
+            }
+        },
+    }
+}
+
+// What an encapsulation of a layout holds.
+fn parameters(
+    v: &[u8],
+    layout: Layout,
+    s: &[u8],
+    start: Place,
+    order: Order,
+    left: u8,
+    walk: Walk,
+) -> Walked
+    requires { ⌜ start .0 + length (now s) ≤ 16384 ⌝ }
+    ensures { λ r. ⌜ r ≡ parametersAt (now (v .entry)) (typeAt (now (v .entry)) left) layout (now (s .entry)) start order walk ⌝ }
+{
+    match layout {
+        Layout::Objref => walks::on(fields::names_step(s, order), walk),
+        Layout::Enum => walks::on(fields::enum_step(s, order), walk),
+        Layout::Struct => match fields::head_step(s, order) {
+            Count::Wrong(refusal) => walks::refused(refusal, walk),
+            Count::Stands { count, next } => {
+                member_types(
+                    v,
+                    Labels::NoLabels,
+                    s,
+                    start,
+                    order,
+                    next,
+                    count,
+                    left,
+                    walk,
+                )
+            }
+        },
+        Layout::Exception => match fields::exception_step(s, order) {
+            Count::Wrong(refusal) => walks::refused(refusal, walk),
+            Count::Stands { count, next } => {
+                member_types(
+                    v,
+                    Labels::NoLabels,
+                    s,
+                    start,
+                    order,
+                    next,
+                    count,
+                    left,
+                    walk,
+                )
+            }
+        },
+        Layout::Sequence => {
+            let c = check(v, s, start, order, Index(1), left, walk);
+            walks::then_number(s, order, c)
+        }
+        Layout::Array => {
+            let c = check(v, s, start, order, Index(1), left, walk);
+            walks::then_length(s, order, c)
+        }
+        Layout::Alias => match fields::names_step(s, order) {
+            Step::Refused(refusal) => walks::refused(refusal, walk),
+            Step::Next(i) => check(v, s, start, order, i, left, walk),
+        },
+        Layout::Union => match fields::names_step(s, order) {
+            Step::Refused(refusal) => walks::refused(refusal, walk),
+            Step::Next(i) => switched(v, s, start, order, i, left, walk),
+        },
+    }
+}
+
+// The discriminant of a union at an index, and what follows it.
+fn switched(
+    v: &[u8],
+    s: &[u8],
+    start: Place,
+    order: Order,
+    at: Index,
+    left: u8,
+    walk: Walk,
+) -> Walked
+    requires { ⌜ start .0 + length (now s) ≤ 16384 ⌝ }
+    ensures { λ r. ⌜ r ≡ discriminantAt (now (v .entry)) (typeAt (now (v .entry)) left) (now (s .entry)) start order at walk ⌝ }
+{
+    let c = check(v, s, start, order, at, left, walk);
+    let w = c.walk;
+    let met = w.met;
+    let step = c.step;
+    match step {
+        Step::Refused(refusal) => walks::refused(refusal, w),
+        Step::Next(i) => {
+            let labels = labels_at(v, met, start, at, order);
+            match walks::switch_head(labels, s, i, order) {
+                Count::Wrong(refusal) => walks::refused(refusal, w),
+                Count::Stands { count, next } => {
+                    member_types(v, labels, s, start, order, next, count, left, w)
+                }
+            }
+        }
+    }
+}
+
+// So many members from an index on, each with a label where there are labels.
+fn member_types(
+    v: &[u8],
+    labels: Labels,
+    s: &[u8],
+    start: Place,
+    order: Order,
+    first: Index,
+    count: u64,
+    left: u8,
+    walk: Walk,
+) -> Walked
+    requires { ⌜ start .0 + length (now s) ≤ 16384 ⌝ }
+    ensures { λ r. ⌜ r ≡ membersAt (now (v .entry)) (typeAt (now (v .entry)) left) labels (now (s .entry)) start order first count 0 first walk ⌝ }
+{
+    let mut w = walk;
+    let mut at = first;
+    let mut k: u64 = 0;
+    while k < count {
+        let name = walks::name_after(labels, v, s, start, order, k, first, at);
+        match name {
+            Step::Refused(refusal) => {
+                return walks::refused(refusal, w);
+            }
+            Step::Next(i) => {
+                let c = check(v, s, start, order, i, left, w);
+                let step = c.step;
+                w = c.walk;
+                match step {
+                    Step::Refused(refusal) => {
+                        return walks::refused(refusal, w);
+                    }
+                    Step::Next(next) => {
+                        at = next;
+                    }
+                }
+            }
+        }
+        k += 1;
+    }
+    walks::goes_on(at, w)
+}

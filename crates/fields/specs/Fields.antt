@@ -1,0 +1,164 @@
+-- The parameters that hold no type, checked in an encapsulation's own octets s, index 0 first: 30, 32, 33, 34 and 35; and where a kind may
+-- stand: 31, 40, 38 and 37.
+--   topOnly          "null, void or exception"
+--   isListed         a kind that is listed
+--   nestingLimit     "nesting over 16 (the top is 1)": the levels left at the top
+--   kindsLimit       the most kinds
+--   belowTop         a kind of the top where other levels are left
+--   entryOf          whether a kind may stand where it does, with so many levels left and kinds met: "at one kind the order is 31, 40,
+--                    38, 37"
+--   thenStep         what follows, unless it is refused
+--   stepFrom         what a string gives: "length 0, end, zeros; in types 32, 30, 32"
+--   textStep         a text
+--   namesStep        id and name
+--   numberStep       an unsigned long, as a bound is
+--   countStep        a count, 34 for 0
+--   anyCount         a count that may be 0: "an exception may have no members"
+--   thenCount        a count after something else, unless that is refused
+--   headStep         id, name and count
+--   exceptionStep    the same of an exception
+--   lengthStep       an array's length, 34 for 0
+--   textsStep        n names one after the other
+--   enumStep         id, name, count, names
+--   partFrom         an encapsulation by its order octet: 33 "above 1"
+--   partOf           "a length, then an order octet": where an encapsulation starts and ends, and its order; 33 for "length 0 or beyond
+--                    its surroundings"
+--   badDefault       "default below -1 or not below count", a long
+--   judged           a default "tested after the count"
+--   switchStep       default and count of a union
+--   labelStep        a label before a member: 30, then 35 "out of its kind" or equal to one of those `done` from `first` on
+use Prim.Native.Nat.{ℕ, zero, suc, _+_, _-_}
+use mathlib.Core.List.{List}
+use mathlib.Core.Bool.{Bool, true, false, cond, not, _||_}
+use lib.Dec.{ltb, leb, eqb}
+use lib.ListN.{length, getD}
+use Rattle.cdr.specs.declared.Index.{Index}
+use Rattle.cdr.specs.declared.Place.{Place}
+use Rattle.cdr.specs.declared.Order.{Order}
+use Rattle.cdr.specs.declared.Named.{Named}
+use Rattle.cdr.specs.declared.Named.the-variants.{Is, NoOrder}
+use Rattle.cdr.specs.declared.Size.the-variants.{Four}
+use Rattle.encapsulation.specs.declared.Str.{Str}
+use Rattle.encapsulation.specs.declared.Str.the-variants.{Characters, BadText as badText, NoText}
+use Rattle.kinds.specs.declared.Form.{Form}
+use Rattle.kinds.specs.declared.Form.the-variants.{Unlisted, Plain, Bounded, Composite}
+use Rattle.kinds.specs.declared.Labels.{Labels}
+use Rattle.kinds.specs.declared.Labels.the-variants.{Of, NoLabels}
+use Rattle.fields.specs.declared.Refusal.{Refusal}
+use Rattle.fields.specs.declared.Refusal.the-variants.{Ends, NoSuchKind, BadText, BadEncapsulation, NoCount, BadUnion, TooManyKinds, TooDeep, BelowTop}
+use Rattle.fields.specs.declared.Entry.{Entry}
+use Rattle.fields.specs.declared.Entry.the-variants.{Barred, Enters}
+use Rattle.fields.specs.declared.Step.{Step}
+use Rattle.fields.specs.declared.Step.the-variants.{Refused, Next}
+use Rattle.fields.specs.declared.Count.{Count}
+use Rattle.fields.specs.declared.Count.the-variants.{Wrong, Stands}
+use Rattle.fields.specs.declared.Part.{Part}
+use Rattle.fields.specs.declared.Part.the-variants.{NoPart, Inside}
+use Rattle.cdr.specs.Align.{indexOf}
+use Rattle.cdr.specs.Orders.{orderOf}
+use Rattle.encapsulation.specs.Encapsulation.{fieldOf, stringOf}
+use Rattle.kinds.specs.Parts.{onField}
+use Rattle.met.specs.Discriminants.{outOfKind, labelAmong}
+
+abbrev pub topOnly : ℕ → Bool
+topOnly kind = eqb kind 0 || (eqb kind 1 || eqb kind 22)
+
+abbrev pub isListed : Form → Bool
+isListed Unlisted = false
+isListed Plain = true
+isListed Bounded = true
+isListed (Composite layout) = true
+
+abbrev pub nestingLimit : ℕ
+nestingLimit = 16
+
+abbrev pub kindsLimit : ℕ
+kindsLimit = 64
+
+unfoldable pub belowTop : ℕ → ℕ → Bool
+belowTop kind left = cond (eqb left nestingLimit) false (topOnly kind)
+
+unfoldable pub entryOf : Form → ℕ → ℕ → ℕ → Entry
+entryOf form kind left count =
+    cond (not (isListed form)) (Barred NoSuchKind)
+    (cond (belowTop kind left) (Barred BelowTop)
+    (cond (eqb left 0) (Barred TooDeep)
+    (cond (leb kindsLimit count) (Barred TooManyKinds)
+    Enters)))
+
+abbrev pub thenStep : Step → (Index → Step) → Step
+thenStep (Refused r) f = Refused r
+thenStep (Next i) f = f i
+
+abbrev pub stepFrom : Str → Step
+stepFrom (Characters from n) = Next (indexOf (from .0 + n + 1))
+stepFrom badText = Refused BadText
+stepFrom NoText = Refused Ends
+
+unfoldable pub textStep : List ℕ → Index → Order → Step
+textStep s i order = stepFrom (stringOf s i order)
+
+unfoldable pub namesStep : List ℕ → Order → Step
+namesStep s order = thenStep (textStep s (indexOf 1) order) (λ i. textStep s i order)
+
+unfoldable pub numberStep : List ℕ → Index → Order → Step
+numberStep s i order = onField (fieldOf s i Four order) (Refused Ends) (λ n next. Next next)
+
+unfoldable pub countStep : List ℕ → Index → Order → Count
+countStep s i order = onField (fieldOf s i Four order) (Wrong Ends) (λ n next. cond (eqb n 0) (Wrong NoCount) (Stands n next))
+
+unfoldable pub anyCount : List ℕ → Index → Order → Count
+anyCount s i order = onField (fieldOf s i Four order) (Wrong Ends) (λ n next. Stands n next)
+
+abbrev pub thenCount : Step → (Index → Count) → Count
+thenCount (Refused r) f = Wrong r
+thenCount (Next i) f = f i
+
+unfoldable pub headStep : List ℕ → Order → Count
+headStep s order = thenCount (namesStep s order) (λ i. countStep s i order)
+
+unfoldable pub exceptionStep : List ℕ → Order → Count
+exceptionStep s order = thenCount (namesStep s order) (λ i. anyCount s i order)
+
+abbrev pub onCount : Count → (ℕ → Index → Step) → Step
+onCount (Wrong r) f = Refused r
+onCount (Stands n next) f = f n next
+
+unfoldable pub lengthStep : List ℕ → Index → Order → Step
+lengthStep s i order = onCount (countStep s i order) (λ n next. Next next)
+
+unfoldable pub textsStep : List ℕ → Order → ℕ → Index → Step
+textsStep s order zero i = Next i
+textsStep s order (suc n) i = thenStep (textStep s i order) (λ j. textsStep s order n j)
+
+unfoldable pub enumStep : List ℕ → Order → Step
+enumStep s order = onCount (headStep s order) (λ n next. textsStep s order n next)
+
+abbrev pub partFrom : Named → ℕ → ℕ → Part
+partFrom (Is order) b e = Inside b e order
+partFrom NoOrder b e = NoPart BadEncapsulation
+
+unfoldable pub partOf : List ℕ → Index → Order → Part
+partOf s i order =
+    onField (fieldOf s i Four order) (NoPart Ends) (λ n next.
+    cond (eqb n 0) (NoPart BadEncapsulation)
+    (cond (ltb (length s - next .0) n) (NoPart BadEncapsulation)
+    (partFrom (orderOf (getD s (next .0) 0)) (next .0) (next .0 + n))))
+
+unfoldable pub badDefault : ℕ → ℕ → Bool
+badDefault d n = cond (eqb d 4294967295) false (cond (leb 2147483648 d) true (leb n d))
+
+abbrev pub judged : ℕ → Count → Count
+judged d (Wrong r) = Wrong r
+judged d (Stands n next) = cond (badDefault d n) (Wrong BadUnion) (Stands n next)
+
+unfoldable pub switchStep : List ℕ → Index → Order → Count
+switchStep s i order = onField (fieldOf s i Four order) (Wrong Ends) (λ d j. judged d (countStep s j order))
+
+abbrev pub labelStep : Labels → List ℕ → List ℕ → Place → Order → ℕ → Index → Index → Step
+labelStep NoLabels v s b order done first i = Next i
+labelStep (Of size limit) v s b order done first i =
+    onField (fieldOf s i size order) (Refused Ends) (λ x next.
+    cond (outOfKind limit x) (Refused BadUnion)
+    (cond (labelAmong (Of size limit) v b order x done first) (Refused BadUnion)
+    (Next next)))

@@ -1,0 +1,3 @@
+-- The parameters of a type that hold no type.
+pub mod Refusals
+pub mod Fields

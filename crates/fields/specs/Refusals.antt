@@ -1,0 +1,19 @@
+-- "Type refusals, first fault in octet order": 01's number of each.
+--   refusalNumber    the number of a refusal
+use Prim.Native.Nat.{ℕ}
+use Rattle.fields.specs.declared.Refusal.{Refusal}
+use Rattle.fields.specs.declared.Refusal.the-variants.{Ends, NoSuchKind, BadText, BadEncapsulation, NoCount, BadUnion, BadTarget, TooManyKinds, TooDeep, Loop, BelowTop, TooLong}
+
+abbrev pub refusalNumber : Refusal → ℕ
+refusalNumber Ends = 30
+refusalNumber NoSuchKind = 31
+refusalNumber BadText = 32
+refusalNumber BadEncapsulation = 33
+refusalNumber NoCount = 34
+refusalNumber BadUnion = 35
+refusalNumber BadTarget = 36
+refusalNumber TooManyKinds = 37
+refusalNumber TooDeep = 38
+refusalNumber Loop = 39
+refusalNumber BelowTop = 40
+refusalNumber TooLong = 42

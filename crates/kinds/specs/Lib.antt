@@ -1,0 +1,4 @@
+-- Kinds of type, and the parameters that follow each.
+pub mod Forms
+pub mod Parts
+pub mod Parameters

@@ -1,0 +1,112 @@
+-- What stands at an index of an encapsulation, read from the octets of the whole TypeCode: v are these, b is the place where the
+-- encapsulation starts, its own index 0. Nothing is judged here; an indirection is followed.
+--   placeOf        a place in the whole TypeCode
+--   onField        what follows a number
+--   onSkip         what follows something passed over
+--   onSpot         what follows a type
+--   fieldIn        a number
+--   skipField      a number passed over
+--   skipCounted    counted octets passed over, as a text or an encapsulation is
+--   skipKind       what follows a kind of a form passed over
+--   behind         the place of an unsigned long that ends before an index
+--   targetOf       "the offset's own place plus the offset", a long: 2^31 and above stand for 2^32 less; if a machine word holds it
+--   aimedAt        the target's place, if there is one
+--   aimed          the target of the indirection whose offset is at an index
+--   spotAt         the place of the type that is written at an index, an indirection counting as its target; and the index after it
+--   leadIn         the label before a member's name, where members have labels, passed over
+--   memberAt       a member: a label where there are labels, a name, a type
+--   namesIn        id and name passed over, the first two parameters of all but a sequence and an array
+use Prim.Native.Nat.{ℕ, _+_, _-_, _^_}
+use mathlib.Core.List.{List}
+use mathlib.Core.Bool.{cond}
+use lib.Dec.{ltb, eqb}
+use lib.ListN.{drop}
+use Rattle.cdr.specs.declared.Index.{Index}
+use Rattle.cdr.specs.declared.Place.{Place}
+use Rattle.cdr.specs.declared.Order.{Order}
+use Rattle.cdr.specs.declared.Size.{Size}
+use Rattle.cdr.specs.declared.Size.the-variants.{Four}
+use Rattle.encapsulation.specs.declared.Field.{Field}
+use Rattle.encapsulation.specs.declared.Field.the-variants.{Value, NoField}
+use Rattle.encapsulation.specs.declared.Counted.{Counted}
+use Rattle.encapsulation.specs.declared.Counted.the-variants.{Octets, NoOctets}
+use Rattle.kinds.specs.declared.Form.{Form}
+use Rattle.kinds.specs.declared.Form.the-variants.{Unlisted, Plain, Bounded, Composite}
+use Rattle.kinds.specs.declared.Skip.{Skip}
+use Rattle.kinds.specs.declared.Skip.the-variants.{Past, NoEnd}
+use Rattle.kinds.specs.declared.Target.{Target}
+use Rattle.kinds.specs.declared.Target.the-variants.{To, Outside}
+use Rattle.kinds.specs.declared.Spot.{Spot}
+use Rattle.kinds.specs.declared.Spot.the-variants.{At, Nowhere}
+use Rattle.kinds.specs.declared.Labels.{Labels}
+use Rattle.kinds.specs.declared.Labels.the-variants.{Of, NoLabels}
+use Rattle.cdr.specs.Align.{indexOf}
+use Rattle.encapsulation.specs.Encapsulation.{fieldOf, countedOf}
+use Rattle.kinds.specs.Forms.{indirectionKind, formOf}
+
+abbrev pub placeOf : ℕ → Place
+placeOf p = record { 0 = p }
+
+abbrev pub onField : {A : Type 0} → Field → A → (ℕ → Index → A) → A
+onField (Value x next) a f = f x next
+onField NoField a f = a
+
+abbrev pub onSkip : {A : Type 0} → Skip → A → (Index → A) → A
+onSkip (Past next) a f = f next
+onSkip NoEnd a f = a
+
+abbrev pub onSpot : {A : Type 0} → Spot → A → (Place → Index → A) → A
+onSpot (At p next) a f = f p next
+onSpot Nowhere a f = a
+
+unfoldable pub fieldIn : List ℕ → Place → Index → Size → Order → Field
+fieldIn v b i size order = fieldOf (drop (b .0) v) i size order
+
+unfoldable pub skipField : List ℕ → Place → Index → Size → Order → Skip
+skipField v b i size order = onField (fieldIn v b i size order) NoEnd (λ x next. Past next)
+
+abbrev pub skipFrom : Counted → Skip
+skipFrom (Octets from n) = Past (indexOf (from .0 + n))
+skipFrom NoOctets = NoEnd
+
+unfoldable pub skipCounted : List ℕ → Place → Index → Order → Skip
+skipCounted v b i order = skipFrom (countedOf (drop (b .0) v) i order)
+
+abbrev pub skipKind : Form → List ℕ → Place → Index → Order → Skip
+skipKind Unlisted v b i order = NoEnd
+skipKind Plain v b i order = Past i
+skipKind Bounded v b i order = skipField v b i Four order
+skipKind (Composite layout) v b i order = skipCounted v b i order
+
+abbrev pub behind : Place → Index → Place
+behind b next = placeOf (b .0 + (next .0 - 4))
+
+unfoldable pub targetOf : Place → ℕ → Target
+targetOf p x =
+    cond (ltb x 2147483648) (cond (ltb (p .0 + x) (2 ^ 64)) (To (placeOf (p .0 + x))) Outside)
+    (cond (ltb (p .0) (4294967296 - x)) Outside (To (placeOf (p .0 - (4294967296 - x)))))
+
+abbrev pub aimedAt : Target → Index → Spot
+aimedAt (To p) next = At p next
+aimedAt Outside next = Nowhere
+
+unfoldable pub aimed : List ℕ → Place → Index → Order → Spot
+aimed v b i order = onField (fieldIn v b i Four order) Nowhere (λ x next. aimedAt (targetOf (behind b next) x) next)
+
+unfoldable pub spotAt : List ℕ → Place → Index → Order → Spot
+spotAt v b i order =
+    onField (fieldIn v b i Four order) Nowhere (λ kind next.
+    cond (eqb kind indirectionKind)
+    (aimed v b next order)
+    (onSkip (skipKind (formOf kind) v b next order) Nowhere (λ over. At (behind b next) over)))
+
+abbrev pub leadIn : Labels → List ℕ → Place → Index → Order → Skip
+leadIn (Of size limit) v b i order = skipField v b i size order
+leadIn NoLabels v b i order = Past i
+
+unfoldable pub memberAt : Labels → List ℕ → Place → Index → Order → Spot
+memberAt labels v b i order =
+    onSkip (leadIn labels v b i order) Nowhere (λ h. onSkip (skipCounted v b h order) Nowhere (λ j. spotAt v b j order))
+
+unfoldable pub namesIn : List ℕ → Place → Order → Skip
+namesIn v b order = onSkip (skipCounted v b (indexOf 1) order) NoEnd (λ i. skipCounted v b i order)

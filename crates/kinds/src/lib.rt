@@ -1,0 +1,218 @@
+// Kinds of type: what stands at a kind, read again by its place, its encapsulation's start and its order, without judging it. Every
+// function answers for any octets and places.
+ghost use mathlib.Core.Path.{_≡_};
+ghost use Rattle.kinds.specs.Forms.{formOf};
+ghost use Rattle.kinds.specs.Parts.{fieldIn, targetOf, spotAt, memberAt};
+ghost use Rattle.kinds.specs.Parameters.{parametersAt};
+use cdr::Index;
+use cdr::Order;
+use cdr::Place;
+use cdr::Size;
+use encapsulation::Field;
+
+mod inside;
+mod parts;
+
+// The kinds that are told from the others by name.
+pub const INDIRECTION: u64 = 0xFFFFFFFF;
+
+// What follows a kind.
+pub enum Form {
+    Unlisted,
+    Plain,
+    Bounded,
+    Composite(Layout),
+}
+
+// What an encapsulation holds.
+pub enum Layout {
+    Objref,
+    Struct,
+    Union,
+    Enum,
+    Sequence,
+    Array,
+    Alias,
+    Exception,
+}
+
+// What follows a kind, by its number.
+pub fn form_of(kind: u64) -> Form
+    ensures { λ r. ⌜ r ≡ formOf kind ⌝ }
+{
+    if kind < 11 {
+        return Form::Plain;
+    }
+    if kind == 14 {
+        return Form::Composite(Layout::Objref);
+    }
+    if kind == 15 {
+        return Form::Composite(Layout::Struct);
+    }
+    if kind == 16 {
+        return Form::Composite(Layout::Union);
+    }
+    if kind == 17 {
+        return Form::Composite(Layout::Enum);
+    }
+    if kind == 18 {
+        return Form::Bounded;
+    }
+    if kind == 19 {
+        return Form::Composite(Layout::Sequence);
+    }
+    if kind == 20 {
+        return Form::Composite(Layout::Array);
+    }
+    if kind == 21 {
+        return Form::Composite(Layout::Alias);
+    }
+    if kind == 22 {
+        return Form::Composite(Layout::Exception);
+    }
+    if kind == 23 {
+        return Form::Plain;
+    }
+    if kind == 24 {
+        return Form::Plain;
+    }
+    Form::Unlisted
+}
+
+// The index after something that is passed over, or that the octets end.
+pub enum Skip {
+    Past(Index),
+    NoEnd,
+}
+
+// Where an offset leads: to a place, or to none that there can be.
+pub enum Target {
+    To(Place),
+    Outside,
+}
+
+// The place of a type that is written at an index, an indirection counting as its target, and the index after it.
+pub enum Spot {
+    At { place: Place, next: Index },
+    Nowhere,
+}
+
+// The labels before a union's members, of a size, and below a limit of which 0 is none; a struct's members have none.
+pub enum Labels {
+    Of { size: Size, limit: u64 },
+    NoLabels,
+}
+
+// The type and the number of a sequence or an array.
+pub enum Element {
+    Holds { place: Place, number: u64 },
+    NoElement,
+}
+
+// Where members are listed: the start and order of their encapsulation, their count, and the first one's index.
+pub struct Fields {
+    pub start: Place,
+    pub order: Order,
+    pub count: u64,
+    pub first: Index,
+}
+
+// The parameters of a kind: of a leaf its kind, of a string its bound, of an enum the number of its names.
+pub enum Parameters {
+    Fault,
+    Leaf(u64),
+    Text(u64),
+    Objref,
+    Struct(Fields),
+    Exception(Fields),
+    Union {
+        fields: Fields,
+        discriminant: Place,
+        default: u64,
+    },
+    Enum(u64),
+    Sequence {
+        element: Place,
+        bound: u64,
+    },
+    Array {
+        element: Place,
+        length: u64,
+    },
+    Alias(Place),
+}
+
+// The number at an index of the encapsulation that starts at a place.
+pub fn field_in(v: &[u8], start: Place, at: Index, size: Size, order: Order) -> Field
+    ensures { λ r. ⌜ r ≡ fieldIn (now (v .entry)) start at size order ⌝ }
+{
+    let b = start.0;
+    if v.len() < b {
+        return Field::NoField;
+    }
+    encapsulation::read_field(&v[b..], at, size, order)
+}
+
+// Where an offset leads that stands at a place.
+pub fn target_of(at: Place, offset: u64) -> Target
+    ensures { λ r. ⌜ r ≡ targetOf at offset ⌝ }
+{
+    let p = at.0;
+    if offset < 2147483648 {
+        return if p <= usize::MAX - offset as usize {
+            Target::To(Place(p + offset as usize))
+        } else {
+            Target::Outside
+        };
+    }
+    let back = parts::back(offset);
+    if p < back {
+        return Target::Outside;
+    }
+    Target::To(Place(p - back))
+}
+
+// The place of the type that is written at an index of the encapsulation that starts at a place, and the index after it.
+pub fn spot_at(v: &[u8], start: Place, at: Index, order: Order) -> Spot
+    ensures { λ r. ⌜ r ≡ spotAt (now (v .entry)) start at order ⌝ }
+{
+    let Field::Value { value: kind, next } = field_in(v, start, at, Size::Four, order) else {
+        return Spot::Nowhere;
+    };
+    if kind == INDIRECTION {
+        return parts::aimed(v, start, next, order);
+    }
+    match parts::skip_kind(form_of(kind), v, start, next, order) {
+        Skip::Past(over) => Spot::At {
+            place: Place(start.0 + (next.0 - 4)),
+            next: over,
+        },
+        Skip::NoEnd => Spot::Nowhere,
+    }
+}
+
+// A member at an index, with a label before it or none: the place of its type, and the index after it.
+pub fn member_at(labels: Labels, v: &[u8], start: Place, at: Index, order: Order) -> Spot
+    ensures { λ r. ⌜ r ≡ memberAt labels (now (v .entry)) start at order ⌝ }
+{
+    let Skip::Past(name) = parts::lead_in(labels, v, start, at, order) else {
+        return Spot::Nowhere;
+    };
+    let Skip::Past(i) = parts::skip_counted(v, start, name, order) else {
+        return Spot::Nowhere;
+    };
+    spot_at(v, start, i, order)
+}
+
+// The parameters of the kind at a place, in the encapsulation that starts at a place.
+pub fn parameters_at(v: &[u8], start: Place, order: Order, place: Place) -> Parameters
+    ensures { λ r. ⌜ r ≡ parametersAt (now (v .entry)) start order place ⌝ }
+{
+    let at = parts::since(place, start);
+    match field_in(v, start, at, Size::Four, order) {
+        Field::Value { value: kind, next } => {
+            inside::parameters_after(form_of(kind), v, start, order, kind, next)
+        }
+        Field::NoField => Parameters::Fault,
+    }
+}

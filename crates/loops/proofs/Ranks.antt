@@ -1,0 +1,28 @@
+-- Where no kind returns to itself, each has a rank that falls at each step.
+use mathlib.Core.Path.{_≡_, refl}
+use mathlib.Core.Bool.{Bool, true, false}
+use Prim.Native.Nat.{ℕ, _<_, _≤_}
+use native.Mathlib.Omega.{arith}
+use Rattle.choices.proofs.Choices.{by-test, never-both}
+use Rattle.loops.specs.Loops.{closure, loopFound, rank}
+use Rattle.loops.proofs.Below.{some-any, count-lt, count-all}
+use Rattle.loops.proofs.Closing.{has-step, goes-on}
+
+module _ (n : ℕ) (step : ℕ → ℕ → Bool) (h : loopFound n step ≡ false) where
+  never : (i : ℕ) → i < n → closure step n i i ≡ false
+  unfolding loopFound
+  never i l =
+      by-test (closure step n i i)
+      (λ e. absurd (never-both (loopFound n step) (some-any n (λ j. closure step n j j) i l e) h))
+      (λ e. e)
+
+  pub rank-low : (i : ℕ) → i < n → (0 < rank n step i) × (rank n step i ≤ n)
+  unfolding rank
+  rank-low i l =
+      (omega arith, omega (arith, count-lt n (closure step n i) (λ z. true) i l (never i l) refl (λ z k e. refl), count-all n))
+
+  pub rank-falls : (i j : ℕ) → i < n → j < n → step i j ≡ true → rank n step j < rank n step i
+  unfolding rank
+  rank-falls i j a b e =
+      let s = has-step step n i j e in
+      omega (arith, count-lt n (closure step n j) (closure step n i) j b (never j b) s (λ z k q. goes-on step n i j z b s q))

@@ -1,0 +1,3 @@
+-- Loops among kinds.
+pub mod Loops
+pub mod Inner

@@ -1,0 +1,3 @@
+-- The kinds met, and what discriminants and labels are.
+pub mod Met
+pub mod Discriminants
