@@ -1,8 +1,9 @@
--- "Type refusals, first fault in octet order": 01's number of each.
+-- "Type refusals, first fault in octet order": 01's number of each. 39 is none of these: it comes "last of all", when no octet is at
+-- fault.
 --   refusalNumber    the number of a refusal
 use Prim.Native.Nat.{ℕ}
 use Rattle.fields.specs.declared.Refusal.{Refusal}
-use Rattle.fields.specs.declared.Refusal.the-variants.{Ends, NoSuchKind, BadText, BadEncapsulation, NoCount, BadUnion, BadTarget, TooManyKinds, TooDeep, Loop, BelowTop, TooLong}
+use Rattle.fields.specs.declared.Refusal.the-variants.{Ends, NoSuchKind, BadText, BadEncapsulation, NoCount, BadUnion, BadTarget, TooManyKinds, TooDeep, BelowTop, TooLong}
 
 abbrev pub refusalNumber : Refusal → ℕ
 refusalNumber Ends = 30
@@ -14,6 +15,5 @@ refusalNumber BadUnion = 35
 refusalNumber BadTarget = 36
 refusalNumber TooManyKinds = 37
 refusalNumber TooDeep = 38
-refusalNumber Loop = 39
 refusalNumber BelowTop = 40
 refusalNumber TooLong = 42

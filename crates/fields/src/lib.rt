@@ -13,7 +13,7 @@ use encapsulation::Str;
 use kinds::Form;
 use kinds::Labels;
 
-// Why a type is refused.
+// Why the octets of a type are refused.
 pub enum Refusal {
     Ends,
     NoSuchKind,
@@ -24,7 +24,6 @@ pub enum Refusal {
     BadTarget,
     TooManyKinds,
     TooDeep,
-    Loop,
     BelowTop,
     TooLong,
 }
@@ -44,7 +43,6 @@ impl Refusal {
             Refusal::BadTarget => refusals::BAD_TARGET,
             Refusal::TooManyKinds => refusals::TOO_MANY_KINDS,
             Refusal::TooDeep => refusals::TOO_DEEP,
-            Refusal::Loop => refusals::LOOP,
             Refusal::BelowTop => refusals::BELOW_TOP,
             Refusal::TooLong => refusals::TOO_LONG,
         }

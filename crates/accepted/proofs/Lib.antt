@@ -1,0 +1,4 @@
+-- Laws that other crates cite.
+pub mod Lists
+pub mod Lies
+pub mod Again

@@ -1,0 +1,4 @@
+-- What the table of steps has.
+pub mod Noting
+pub mod Members
+pub mod Filling

@@ -1,0 +1,67 @@
+-- A kind's steps to its members, one after the other.
+use mathlib.Core.Path.{_≡_}
+use mathlib.Core.List.{List}
+use mathlib.Core.Bool.{Bool, false, _||_}
+use Prim.Native.Nat.{ℕ, suc, _+_, _-_, _≤_, _<_}
+use native.Mathlib.Omega.{arith}
+use native.Mathlib.Nat.{sub-zero}
+use Rattle.cdr.specs.declared.Index.{Index}
+use Rattle.cdr.specs.declared.Place.{Place}
+use Rattle.cdr.specs.declared.Order.{Order}
+use Rattle.kinds.specs.declared.Labels.{Labels}
+use Rattle.kinds.specs.declared.Spot.the-variants.{At, Nowhere}
+use Rattle.kinds.specs.Parts.{memberAt}
+use Rattle.met.specs.declared.Met.{Met}
+use Rattle.steps.specs.Steps.{stands, memberIs}
+use Rattle.steps.specs.Inner.{kindsIn, Noted}
+use Rattle.steps.proofs.Noting.{noted-none, noted-same, noted-both}
+
+-- some of n members has the position
+abbrev pub among : Labels → List ℕ → Met → Place → Order → ℕ → Index → ℕ → Bool
+among labels v m b order n at z = memberIs labels v m b order z n at
+
+-- k of n members are done: what the others add to the table now is what all add to the table before
+pub record Members (labels : Labels) (v : List ℕ) (m : Met) (b : Place) (order : Order) (i n : ℕ) (before : List ℕ) (first : Index)
+    (now : List ℕ) (at : Index) (k : ℕ) : Type 0 where
+  pub low : k ≤ n
+  pub on : (after : List ℕ) → Noted (kindsIn m) now i (among labels v m b order (n - k) at) after
+      → Noted (kindsIn m) before i (among labels v m b order n first) after
+
+module _ {labels : Labels} {v : List ℕ} {m : Met} {b : Place} {order : Order} {i n : ℕ} {before : List ℕ} {first : Index} where
+  pub members-none : Members labels v m b order i n before first before first 0
+  members-none = record { low = omega arith; on = rw (sub-zero n) (λ after d. d) }
+
+  module _ {now : List ℕ} {at : Index} {k : ℕ} (r : Members labels v m b order i n before first now at k) where
+    left-suc : k < n → n - k ≡ suc (n - (k + 1))
+    left-suc h = omega arith
+
+    -- no member that is left gives a step
+    done : ((z : ℕ) → among labels v m b order (n - k) at z ≡ false)
+        → Noted (kindsIn m) before i (among labels v m b order n first) now
+    done h = r .on now (noted-none (kindsIn m) now i (among labels v m b order (n - k) at) (λ z l. h z))
+
+    pub members-all : n ≤ k → Noted (kindsIn m) before i (among labels v m b order n first) now
+    unfolding memberIs
+    members-all h = let e : n - k ≡ 0 = omega arith in done (λ z. rw e)
+
+    pub members-cut : k < n → memberAt labels v b at order ≡ Nowhere
+        → Noted (kindsIn m) before i (among labels v m b order n first) now
+    unfolding memberIs
+    members-cut h s = done (λ z. rw (left-suc h, s))
+
+    module _ (h : k < n) {p : Place} {next : Index} (s : memberAt labels v b at order ≡ At p next) where
+      one-more : (z : ℕ)
+          → (stands m p z || among labels v m b order (n - (k + 1)) next z) ≡ among labels v m b order (n - k) at z
+      unfolding memberIs
+      one-more z = rw (left-suc h, s)
+
+      pub members-more : {then : List ℕ} → Noted (kindsIn m) now i (stands m p) then
+          → Members labels v m b order i n before first then next (k + 1)
+      members-more {then} d =
+          record {
+            low = omega (arith, h);
+            on = λ after e.
+                r .on after
+                (noted-same (kindsIn m) now i _ (among labels v m b order (n - k) at) after (λ z l. one-more z)
+                (noted-both (kindsIn m) now i (stands m p) (among labels v m b order (n - (k + 1)) next) then after d e));
+          }

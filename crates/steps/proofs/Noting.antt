@@ -1,0 +1,84 @@
+-- What is added to a table of steps: nothing, two things, and the step to the kind at a place.
+use mathlib.Core.Path.{_≡_, refl, sym, _∙_, ap, subst}
+use mathlib.Core.List.{List}
+use mathlib.Core.Bool.{Bool, true, false, _&&_, _||_, and-false}
+use Prim.Native.Nat.{ℕ, _≤_, _<_}
+use native.Mathlib.Omega.{arith}
+use borrow.Author.Tests.{le-ltb, eq-eqb, ne-eqb, eqb-true, eqb-false, ltb-true, ltb-false}
+use lib.Dec.{ltb, eqb}
+use lib.ListN.{length}
+use Rattle.choices.proofs.Choices.{by-test}
+use Rattle.cdr.specs.declared.Place.{Place}
+use Rattle.loops.specs.declared.Steps.{Steps}
+use Rattle.loops.specs.Loops.{mostKinds, cell, withStep}
+use Rattle.loops.proofs.Cells.{with-cell}
+use Rattle.met.specs.declared.Met.{Met}
+use Rattle.met.specs.declared.Position.the-variants.{Is, NoPosition}
+use Rattle.met.specs.Met.{findPlace, positionOf}
+use Rattle.met.proofs.Finding.{position-facts, position-nowhere}
+use Rattle.steps.specs.Steps.{stands}
+use Rattle.steps.specs.Inner.{kindsIn, Noted}
+
+none-added : (c e : Bool) → c ≡ (c || (e && false))
+none-added true e = refl
+none-added false e = sym (and-false e)
+
+added-both : (c e f g : Bool) → ((c || (e && f)) || (e && g)) ≡ (c || (e && (f || g)))
+added-both true e f g = refl
+added-both false true f g = refl
+added-both false false f g = refl
+
+equal-turned : (x y : ℕ) → eqb x y ≡ eqb y x
+equal-turned x y =
+    by-test (eqb y x)
+    (λ t. eq-eqb x y (sym (eqb-true y x t)) ∙ sym t)
+    (λ t. ne-eqb x y (λ q. eqb-false y x t (sym q)) ∙ sym t)
+
+module _ (n : ℕ) (before : List ℕ) (i : ℕ) where
+  pub noted-none : (f : ℕ → Bool) → ((z : ℕ) → z < n → f z ≡ false) → Noted n before i f before
+  noted-none f h = record { cells = λ x z k. rw (h z k) (none-added (cell before x z) (eqb x i)) }
+
+  pub noted-same : (f g : ℕ → Bool) (after : List ℕ) → ((z : ℕ) → z < n → f z ≡ g z) → Noted n before i f after → Noted n before i g after
+  noted-same f g after h d =
+      record { cells = λ x z k. d .cells x z k ∙ ap (λ (b : Bool). cell before x z || (eqb x i && b)) (h z k) }
+
+  pub noted-both : (f g : ℕ → Bool) (between after : List ℕ) → Noted n before i f between → Noted n between i g after
+      → Noted n before i (λ z. f z || g z) after
+  noted-both f g between after d e =
+      record {
+        cells = λ x z k.
+            e .cells x z k ∙ ap (λ (b : Bool). b || (eqb x i && g z)) (d .cells x z k)
+            ∙ added-both (cell before x z) (eqb x i) (f z) (g z);
+      }
+
+-- a kind's step to the kind at a place
+module _ (m : Met) (p : Place) (i : ℕ) (s : Steps) where
+  pub noted-nowhere : positionOf m p ≡ NoPosition → Noted (kindsIn m) (s .rows) i (stands m p) (s .rows)
+  noted-nowhere e =
+      let past = ltb-false (findPlace m p) (m .count) (position-nowhere m p e) in
+      noted-none (kindsIn m) (s .rows) i (stands m p) (λ z k. ne-eqb (findPlace m p) z (λ q. omega (arith, k, past, q)))
+
+  module _ (j : ℕ) (e : positionOf m p ≡ Is j) where
+    stands-at : (z : ℕ) → eqb j z ≡ stands m p z
+    stands-at z = ap (λ (x : ℕ). eqb x z) (sym (position-facts m p j e .0))
+
+    -- a position past 64 is none of those that count
+    with-none : mostKinds ≤ j → withStep s i j ≡ s
+    unfolding withStep
+    with-none h = rw (le-ltb j mostKinds h, and-false (ltb i mostKinds))
+
+    pub noted-at : i < mostKinds → length (s .rows) ≡ mostKinds → (r : Steps) → r ≡ withStep s i j
+        → Noted (kindsIn m) (s .rows) i (stands m p) (r .rows)
+    noted-at h l r q =
+        rw q
+        (by-test (ltb j mostKinds)
+        (λ t.
+        record {
+          cells = λ x z k.
+              with-cell s i j h (ltb-true j mostKinds t) l x z
+              ∙ ap (λ (b : Bool). cell (s .rows) x z || (eqb x i && b)) (equal-turned z j ∙ stands-at z);
+        })
+        (λ t.
+        let far = ltb-false j mostKinds t in
+        subst (λ (r : Steps). Noted (kindsIn m) (s .rows) i (stands m p) (r .rows)) (sym (with-none far))
+        (noted-none (kindsIn m) (s .rows) i (stands m p) (λ z k. sym (stands-at z) ∙ ne-eqb j z (λ q. omega (arith, k, far, q))))))

@@ -1,0 +1,69 @@
+-- Member by member.
+use mathlib.Core.Path.{sym, _∙_}
+use Prim.Native.Nat.{_-_}
+use borrow.Author.Needs.{needs}
+use Rattle.steps.proofs.Members.{Members, members-none, members-cut, members-more, members-all}
+use Rattle.steps.proofs.member_steps.Statement.{statement}
+use Rattle.steps.proofs.member_steps.Tie as tie
+
+abbrev Inv-loop : tie.InvT-loop
+Inv-loop labels v met i start order count noted₀ at₀ k₀ noted at k =
+    Members labels v met start order i count (noted₀ .rows) at₀ (noted .rows) at k
+
+abbrev μ-loop : tie.MeasureT-loop
+μ-loop labels v met i start order count noted₀ at₀ k₀ noted at k = count - k
+
+loop-holds : tie.Need-loop-holds Inv-loop μ-loop
+loop-holds c = members-none
+
+member-at-requires : tie.Need-member-at-requires Inv-loop μ-loop
+member-at-requires c κs = search needs
+
+enum-known-place : tie.Need-enum-known-place Inv-loop μ-loop
+enum-known-place c = search needs
+
+enum-told : tie.Need-enum-told Inv-loop μ-loop
+enum-told c = search needs
+
+returns : tie.Need-returns Inv-loop μ-loop
+returns c =
+    let at-member = c .before .before in
+    let at-test = at-member .before in
+    members-cut (at-test .before .loop .inv) (at-test .loop-test .taken) (sym (at-member .member-at .ensures) ∙ c .enum-told .given .1)
+
+note-requires : tie.Need-note-requires Inv-loop μ-loop
+note-requires c κs = search needs
+
+add-k : tie.Need-add-k Inv-loop μ-loop
+add-k c = search needs
+
+loop-less : tie.Need-loop-less Inv-loop μ-loop
+loop-less c = search needs
+
+loop-again : tie.Need-loop-again Inv-loop μ-loop
+loop-again c =
+    let at-place = c .before .before in
+    let at-member = at-place .before .before in
+    let at-test = at-member .before in
+    let found = sym (at-member .member-at .ensures) ∙ at-place .place .given .1 in
+    members-more (at-test .before .loop .inv) (at-test .loop-test .taken) found (c .note .ensures)
+
+returns-2 : tie.Need-returns-2 Inv-loop μ-loop
+returns-2 c = members-all (c .before .loop .inv) (c .loop-test .left)
+
+pub member-steps-spec : {M : Type 1} → statement M
+member-steps-spec =
+    tie.close
+    (tie.spec
+    Inv-loop
+    μ-loop
+    loop-holds
+    member-at-requires
+    enum-known-place
+    enum-told
+    returns
+    note-requires
+    add-k
+    loop-less
+    loop-again
+    returns-2)

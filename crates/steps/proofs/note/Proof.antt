@@ -1,0 +1,34 @@
+-- The position that was found.
+use mathlib.Core.Path.{sym, _∙_}
+use borrow.Author.Needs.{needs}
+use Rattle.steps.proofs.Noting.{noted-nowhere, noted-at}
+use Rattle.steps.proofs.note.Statement.{statement}
+use Rattle.steps.proofs.note.Tie as tie
+
+position-requires : tie.Need-position-requires
+position-requires c κs = search needs
+
+enum-known-j : tie.Need-enum-known-j
+enum-known-j c = search needs
+
+with-requires : tie.Need-with-requires
+with-requires c κs = search needs
+
+enum-told : tie.Need-enum-told
+enum-told c = search needs
+
+returns : tie.Need-returns
+returns c =
+    let start = c .before .before .before .before .before in
+    let found = sym (c .before .before .before .before .position .ensures) ∙ c .before .before .j .given .1 in
+    noted-at _ _ _ (start .args .table) _ found (start .pre) (search (needs, start .good)) _ (c .with .ensures)
+
+returns-2 : tie.Need-returns-2
+returns-2 c =
+    let at-position = c .before .before in
+    let found = sym (at-position .position .ensures) ∙ c .enum-told .given .1 in
+    noted-nowhere _ _ _ (at-position .before .args .table) found
+
+pub note-spec : {M : Type 1} → statement M
+note-spec =
+    tie.close (tie.spec position-requires enum-known-j with-requires enum-told returns returns-2)

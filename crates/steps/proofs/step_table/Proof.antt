@@ -1,0 +1,53 @@
+-- Kind by kind.
+use Prim.Native.Nat.{_-_, _≤_}
+use borrow.Author.Needs.{needs}
+use Rattle.steps.specs.Inner.{Filled}
+use Rattle.steps.proofs.Filling.{filled-none, filled-more, filled-all}
+use Rattle.steps.proofs.step_table.Statement.{statement}
+use Rattle.steps.proofs.step_table.Tie as tie
+
+abbrev Inv-loop : tie.InvT-loop
+Inv-loop v met n table₀ i₀ table i = (i ≤ n) × Filled v met i (table .rows)
+
+abbrev μ-loop : tie.MeasureT-loop
+μ-loop v met n table₀ i₀ table i = n - i
+
+kinds-in-requires : tie.Need-kinds-in-requires Inv-loop μ-loop
+kinds-in-requires c κs = search needs
+
+none-requires : tie.Need-none-requires Inv-loop μ-loop
+none-requires c κs = search needs
+
+loop-holds : tie.Need-loop-holds Inv-loop μ-loop
+loop-holds c = (search needs, filled-none _ _ _ (c .none .ensures))
+
+steps-from-requires : tie.Need-steps-from-requires Inv-loop μ-loop
+steps-from-requires c κs = search needs
+
+add-i : tie.Need-add-i Inv-loop μ-loop
+add-i c = search needs
+
+loop-less : tie.Need-loop-less Inv-loop μ-loop
+loop-less c = search needs
+
+loop-again : tie.Need-loop-again Inv-loop μ-loop
+loop-again c = (search needs, filled-more _ _ _ _ _ (c .before .before .loop .inv .1) (c .steps-from .ensures))
+
+returns : tie.Need-returns Inv-loop μ-loop
+returns c =
+    filled-all _ _ _ _ _ (c .before .before .before .kinds-in .ensures) (c .before .loop .inv .0) (c .loop-test .left) (c .before .loop .inv .1)
+
+pub step-table-spec : {M : Type 1} → statement M
+step-table-spec =
+    tie.close
+    (tie.spec
+    Inv-loop
+    μ-loop
+    kinds-in-requires
+    none-requires
+    loop-holds
+    steps-from-requires
+    add-i
+    loop-less
+    loop-again
+    returns)

@@ -1,0 +1,3 @@
+-- The steps of the loop rule.
+pub mod Steps
+pub mod Inner

@@ -1,0 +1,2 @@
+-- The check of a TypeCode.
+pub mod TypeCode
