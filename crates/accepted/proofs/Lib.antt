@@ -2,3 +2,4 @@
 pub mod Lists
 pub mod Lies
 pub mod Again
+pub mod Exact

@@ -1,2 +1,3 @@
 -- What holds of every accepted TypeCode.
 pub mod Sound
+pub mod Accepted
