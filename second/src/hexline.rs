@@ -30,10 +30,16 @@ pub fn decode(line: &[u8]) -> Result<Vec<u8>, u32> {
 /// were there; after a refusal nothing is said of them.
 pub fn decode_into(line: &[u8], octets: &mut Vec<u8>) -> Result<(), u32> {
     demand(line.len() <= LONGEST_LINE, LINE_TOO_LONG)?;
-    demand(line.len().is_multiple_of(2), NOT_HEXADECIMAL)?;
-    octets.resize(line.len() / 2, 0);
+    digits_into(line, octets)
+}
+
+/// Turns any number of digits into octets; refusal 11. The octets are lent as
+/// for a line.
+pub fn digits_into(digits: &[u8], octets: &mut Vec<u8>) -> Result<(), u32> {
+    demand(digits.len().is_multiple_of(2), NOT_HEXADECIMAL)?;
+    octets.resize(digits.len() / 2, 0);
     let mut all_bits = 0;
-    for (octet, pair) in octets.iter_mut().zip(line.chunks_exact(2)) {
+    for (octet, pair) in octets.iter_mut().zip(digits.chunks_exact(2)) {
         let high = VALUES[usize::from(pair[0])];
         let low = VALUES[usize::from(pair[1])];
         all_bits |= high | low;
@@ -147,6 +153,15 @@ mod tests {
         let mut text = b"1 0 ".to_vec();
         encode_into(&octets, &mut text);
         assert_eq!(text, b"1 0 0102");
+    }
+
+    #[test]
+    fn digits_alone_may_be_many() {
+        let mut octets = Vec::new();
+        assert_eq!(digits_into(&[b'a'; 8_194], &mut octets), Ok(()));
+        assert_eq!(octets, [0xAA; 4_097]);
+        assert_eq!(digits_into(&[b'a'; 8_193], &mut octets), Err(11));
+        assert_eq!(digits_into(&[b'x'; 8_194], &mut octets), Err(11));
     }
 
     #[test]

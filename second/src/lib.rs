@@ -5,10 +5,13 @@
 
 pub mod frame;
 pub mod hexline;
+pub mod inspect;
 pub mod joining;
+pub mod lines;
 pub mod primitive;
 pub mod recording;
 pub mod refusal;
+pub mod typecode;
 
 pub use frame::{frame, Header};
 pub use hexline::{decode, encode};

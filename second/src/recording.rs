@@ -1,35 +1,10 @@
 //! The program over the lines of a recording.
 
-use std::fmt;
-use std::io::{self, BufRead, Read, Write};
+use std::io::{self, BufRead, Write};
 
 use crate::hexline::{decode_into, encode_into, LONGEST_LINE, LONGEST_MESSAGE};
 use crate::joining::{join, Answer, Record, CANCELLED, JOINED, PLACES, PLACE_OCTETS, WHOLE};
-
-/// The octets of a block of input or output.
-pub const BLOCK: usize = 1 << 16;
-
-/// The characters kept of a line: one more than it may have, so that an
-/// over-long line is refused as such, however long it is.
-const KEPT: usize = LONGEST_LINE + 1;
-
-/// Why the program stopped before it was done.
-#[derive(Debug)]
-pub enum Failure {
-    /// Reading the recording failed.
-    Read(io::Error),
-    /// Writing the answers failed.
-    Write(io::Error),
-}
-
-impl fmt::Display for Failure {
-    fn fmt(&self, formatter: &mut fmt::Formatter<'_>) -> fmt::Result {
-        match self {
-            Failure::Read(error) => write!(formatter, "reading failed: {error}"),
-            Failure::Write(error) => write!(formatter, "writing failed: {error}"),
-        }
-    }
-}
+use crate::lines::{next_line, Failure, BLOCK};
 
 /// A recording in the reading. Its memory does not grow with the recording.
 struct Reading {
@@ -112,9 +87,9 @@ impl Reading {
 /// If reading fails, the lines before the one it failed in are answered.
 pub fn answer_lines(mut input: impl BufRead, mut output: impl Write) -> Result<(), Failure> {
     let mut reading = Reading::new();
-    let mut line = Vec::with_capacity(KEPT);
+    let mut line = Vec::with_capacity(LONGEST_LINE + 1);
     let read = loop {
-        match next_line(&mut input, &mut line) {
+        match next_line(&mut input, LONGEST_LINE, &mut line) {
             Ok(true) => reading.take(&line).map_err(Failure::Write)?,
             Ok(false) => break reading.end().map_err(Failure::Write),
             Err(error) => break Err(Failure::Read(error)),
@@ -130,27 +105,13 @@ pub fn answer_lines(mut input: impl BufRead, mut output: impl Write) -> Result<(
     read
 }
 
-/// Reads the next line, without its LF, and keeps its first characters.
-/// Says whether there was one.
-fn next_line(input: &mut impl BufRead, line: &mut Vec<u8>) -> io::Result<bool> {
-    line.clear();
-    if input.by_ref().take(KEPT as u64).read_until(b'\n', line)? == 0 {
-        return Ok(false);
-    }
-    if line.last() == Some(&b'\n') {
-        line.pop();
-    } else if line.len() == KEPT {
-        input.skip_until(b'\n')?;
-    }
-    Ok(true)
-}
-
 #[cfg(test)]
 mod tests {
     use super::*;
-    use std::io::{BufReader, Cursor, ErrorKind};
+    use std::io::{BufReader, Cursor};
 
     use crate::hexline::encode;
+    use crate::lines::streams::{Failing, Full, Interrupted};
 
     /// The program's output, read in blocks of the given length.
     fn output_in_blocks(input: &[u8], block: usize) -> String {
@@ -165,44 +126,6 @@ mod tests {
         assert_eq!(output_in_blocks(input, 1), whole);
         assert_eq!(output_in_blocks(input, 7), whole);
         whole
-    }
-
-    /// Gives its octets, then fails.
-    struct Failing(Cursor<Vec<u8>>);
-
-    impl Read for Failing {
-        fn read(&mut self, buffer: &mut [u8]) -> io::Result<usize> {
-            match self.0.read(buffer)? {
-                0 => Err(io::Error::other("cable cut")),
-                count => Ok(count),
-            }
-        }
-    }
-
-    /// Is interrupted before every octet.
-    struct Interrupted<'a>(&'a [u8], bool);
-
-    impl Read for Interrupted<'_> {
-        fn read(&mut self, buffer: &mut [u8]) -> io::Result<usize> {
-            self.1 = !self.1;
-            match self.1 {
-                true => Err(ErrorKind::Interrupted.into()),
-                false => self.0.read(&mut buffer[..1]),
-            }
-        }
-    }
-
-    /// Takes no octet.
-    struct Full;
-
-    impl Write for Full {
-        fn write(&mut self, _: &[u8]) -> io::Result<usize> {
-            Err(io::Error::other("disk full"))
-        }
-
-        fn flush(&mut self) -> io::Result<()> {
-            Ok(())
-        }
     }
 
     #[test]
@@ -295,15 +218,6 @@ mod tests {
             output(&[lines.concat(), vec![b'\n']].concat()),
             "1 10 -\nend 1 0\n"
         );
-    }
-
-    #[test]
-    fn a_long_line_is_not_stored() {
-        let mut input = BufReader::with_capacity(BLOCK, io::repeat(b'x').take(50_000_000));
-        let mut line = Vec::with_capacity(KEPT);
-        assert!(next_line(&mut input, &mut line).expect("no failure"));
-        assert_eq!(line.len(), 8_193);
-        assert_eq!(line.capacity(), 8_193);
     }
 
     #[test]

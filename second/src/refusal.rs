@@ -38,6 +38,32 @@ pub const JOINED_TOO_LONG: u32 = 26;
 pub const OUTPUT_TOO_SHORT: u32 = 27;
 /// A lent record that no recording can have brought about.
 pub const RECORD_UNSOUND: u32 = 28;
+/// Octets of the TypeCode or of an encapsulation end.
+pub const TYPE_CUT: u32 = 30;
+/// A kind that is not listed.
+pub const KIND_UNKNOWN: u32 = 31;
+/// A string in a type of length 0, without a last zero octet or with an
+/// earlier one.
+pub const TEXT_UNFIT: u32 = 32;
+/// An encapsulation of length 0, beyond its surroundings, with an order octet
+/// above 1 or with octets after its parameters.
+pub const ENCAPSULATION_UNFIT: u32 = 33;
+/// A count or length of 0.
+pub const COUNT_ZERO: u32 = 34;
+/// A discriminant, default or label that a union cannot have.
+pub const UNION_UNFIT: u32 = 35;
+/// An indirection to what it cannot lead to.
+pub const TARGET_UNFIT: u32 = 36;
+/// A 65th kind.
+pub const TOO_MANY_KINDS: u32 = 37;
+/// Nesting over 16.
+pub const NESTED_TOO_DEEP: u32 = 38;
+/// A kind that returns to itself.
+pub const LOOP: u32 = 39;
+/// Null, void or an exception below the top.
+pub const KIND_BELOW_TOP: u32 = 40;
+/// Over 16,384 octets lent.
+pub const OCTETS_TOO_MANY: u32 = 42;
 
 /// Gives the refusal unless the demand is met.
 pub fn demand(met: bool, refusal: u32) -> Result<(), u32> {

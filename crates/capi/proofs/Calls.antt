@@ -1,6 +1,7 @@
 -- What the calls of the libraries say, as the C interface says it.
 use mathlib.Core.Path.{_≡_, ap, _∙_}
-use mathlib.Core.List.{List}
+use mathlib.Core.List.{List, [], _∷_}
+use mathlib.Core.Bool.{Bool}
 use Prim.Native.Nat.{ℕ}
 use Rattle.hexline.specs.declared.Decoded.{Decoded}
 use Rattle.hexline.specs.declared.Encoded.{Encoded}
@@ -9,6 +10,12 @@ use Rattle.hexline.specs.Encoding.{encodedInto, encodedNumber, Encodes}
 use Rattle.frame.specs.declared.Frame.{Frame}
 use Rattle.frame.specs.Frames.{frameOf, frameNumber}
 use Rattle.capi.specs.Answers.{decodedCount, encodedCount, headerAfter, DecodesC, EncodesC, JudgesC}
+use Rattle.fields.specs.declared.Refusal.{Refusal}
+use Rattle.fields.specs.Refusals.{refusalNumber}
+use Rattle.typecode.specs.declared.TypeAnswer.the-variants.{Accepted as TypeAccepted, Refused as TypeRefused, Loop}
+use Rattle.typecode.specs.declared.CheckedType.{CheckedType}
+use Rattle.typecode.specs.TypeCode.{checkedType}
+use Rattle.capi.specs.Answers.{orderIs, ChecksC}
 
 pub decodes-c : (line out : List ℕ) (count n k : ℕ) (last : List ℕ) (a : Decoded) → Decodes decodedOf line out a last
     → n ≡ decodedNumber a → k ≡ decodedCount a count → DecodesC line out count n last k
@@ -32,3 +39,19 @@ pub judges-c : (octets header : List ℕ) (n : ℕ) (last : List ℕ) (a : Frame
     → n ≡ frameNumber a → last ≡ headerAfter a header → JudgesC octets header n last
 judges-c octets header n last a d e f =
     record { number = e ∙ ap frameNumber d; values = f ∙ ap (λ (r : Frame). headerAfter r header) d }
+
+-- a type: what its answer tells
+module _ (v : List ℕ) (little : Bool) (places starts orders numbers : List ℕ) (c : CheckedType) (e : c ≡ checkedType v (orderIs little)) where
+  pub checks-accepted : (used k : ℕ) → c .answer ≡ TypeAccepted used k
+      → ChecksC v little places starts orders numbers 0 (c .met .places) (c .met .starts) (c .met .orders) (used ∷ k ∷ [])
+  checks-accepted used k a =
+      record { number = rw (← e, a); places-are = rw (← e, a); starts-are = rw (← e, a); orders-are = rw (← e, a); numbers-are = rw (← e, a) }
+
+  pub checks-refused : (r : Refusal) → c .answer ≡ TypeRefused r → (n : ℕ) → n ≡ refusalNumber r
+      → ChecksC v little places starts orders numbers n places starts orders numbers
+  checks-refused r a n q =
+      record { number = rw (← e, a) q; places-are = rw (← e, a); starts-are = rw (← e, a); orders-are = rw (← e, a); numbers-are = rw (← e, a) }
+
+  pub checks-loop : c .answer ≡ Loop → ChecksC v little places starts orders numbers 39 places starts orders numbers
+  checks-loop a =
+      record { number = rw (← e, a); places-are = rw (← e, a); starts-are = rw (← e, a); orders-are = rw (← e, a); numbers-are = rw (← e, a) }

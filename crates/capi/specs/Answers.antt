@@ -4,12 +4,17 @@
 --   encodedCount     the digits that encoding wrote
 --   headerAfter      the seven numbers of an accepted header
 --   joinedCount      how many octets joining wrote
+--   orderIs          the byte order that a flag says
+--   metAfter         what is met in an accepted type
+--   usedAfter        the octets used and the kinds written of an accepted type
 --   DecodesC         what a call of each function ensures: the number that it returns, and all that was lent after it,
 --   EncodesC         of an encoding,
 --   JudgesC          of a header
---   JoinsC           and of a line that is joined
+--   JoinsC           of a line that is joined,
+--   ChecksC          and of a type
 use mathlib.Core.Path.{_≡_}
-use mathlib.Core.List.{List}
+use mathlib.Core.List.{List, [], _∷_}
+use mathlib.Core.Bool.{Bool, cond}
 use Prim.Native.Nat.{ℕ}
 use lib.ListN.{length}
 use Rattle.hexline.specs.declared.Decoded.{Decoded}
@@ -21,6 +26,11 @@ use Rattle.hexline.specs.Encoding.{encodedOf, encodedInto, encodedNumber}
 use Rattle.frame.specs.declared.Frame.{Frame}
 use Rattle.frame.specs.declared.Frame.the-variants.{Accepted, Refused as Unaccepted}
 use Rattle.frame.specs.Frames.{frameOf, frameNumber, headerNumbers}
+use Rattle.cdr.specs.declared.Order.{Order}
+use Rattle.cdr.specs.declared.Order.the-variants.{Big, Little}
+use Rattle.typecode.specs.declared.TypeAnswer.{TypeAnswer}
+use Rattle.typecode.specs.declared.TypeAnswer.the-variants.{Accepted as TypeAccepted, Refused as TypeRefused, Loop}
+use Rattle.typecode.specs.TypeCode.{checkedType, answerNumber as typeNumber}
 use Rattle.places.specs.declared.Record.{Record}
 use Rattle.answers.specs.declared.Answer.{Answer}
 use Rattle.answers.specs.declared.Output.{Output}
@@ -47,6 +57,19 @@ abbrev pub joinedCount : Output → ℕ → ℕ
 joinedCount (Message n) before = n
 joinedCount Nothing before = before
 
+abbrev pub orderIs : Bool → Order
+orderIs little = cond little Little Big
+
+abbrev pub metAfter : TypeAnswer → List ℕ → List ℕ → List ℕ
+metAfter (TypeAccepted used kinds) met before = met
+metAfter (TypeRefused r) met before = before
+metAfter Loop met before = before
+
+abbrev pub usedAfter : TypeAnswer → List ℕ → List ℕ
+usedAfter (TypeAccepted used kinds) before = used ∷ kinds ∷ []
+usedAfter (TypeRefused r) before = before
+usedAfter Loop before = before
+
 pub record DecodesC (line out : List ℕ) (count r : ℕ) (outAfter : List ℕ) (countAfter : ℕ) : Type 0 where
   pub number : r ≡ decodedNumber (decodedOf line (length out))
   pub output : outAfter ≡ decodedInto (decodedOf line (length out)) line out
@@ -66,3 +89,10 @@ pub record JoinsC (v : List ℕ) (before : Record) (places out : List ℕ) (coun
   pub joins : Joins v before places out (record { answer = answer; after = r .after }) placesLast outLast
   pub number : r .number ≡ answerNumber answer
   pub counted : countLast ≡ joinedCount (outputIn answer) count
+
+pub record ChecksC (v : List ℕ) (little : Bool) (places starts orders numbers : List ℕ) (r : ℕ) (placesLast startsLast ordersLast numbersLast : List ℕ) : Type 0 where
+  pub number : r ≡ typeNumber (checkedType v (orderIs little) .answer)
+  pub places-are : placesLast ≡ metAfter (checkedType v (orderIs little) .answer) (checkedType v (orderIs little) .met .places) places
+  pub starts-are : startsLast ≡ metAfter (checkedType v (orderIs little) .answer) (checkedType v (orderIs little) .met .starts) starts
+  pub orders-are : ordersLast ≡ metAfter (checkedType v (orderIs little) .answer) (checkedType v (orderIs little) .met .orders) orders
+  pub numbers-are : numbersLast ≡ usedAfter (checkedType v (orderIs little) .answer) numbers

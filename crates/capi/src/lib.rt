@@ -3,15 +3,17 @@ ghost use mathlib.Core.Path.{_≡_};
 ghost use mathlib.Core.Bool.{cond};
 ghost use Rattle.frame.specs.Frames.{headerNumbers};
 ghost use Rattle.answers.specs.Answers.{outputIn};
-ghost use Rattle.capi.specs.Answers.{decodedCount, encodedCount, joinedCount, DecodesC, EncodesC, JudgesC, JoinsC};
+ghost use Rattle.capi.specs.Answers.{decodedCount, encodedCount, joinedCount, orderIs, DecodesC, EncodesC, JudgesC, JoinsC, ChecksC};
 use answers::Answer;
 use answers::Output;
+use cdr::Order;
 use frame::Frame;
 use frame::Header;
 use frame::RequestId;
 use hexline::Decoded;
 use hexline::Encoded;
 use places::Record;
+use typecode::TypeAnswer;
 
 // A line's characters to octets in `out`, and their number in `count`; 10, 11, or 27 where `out` is too short.
 #[no_mangle]
@@ -157,5 +159,44 @@ fn joined_count(answer: Answer, before: u64) -> u64
     match answer.output() {
         Output::Message(n) => n as u64,
         Output::Nothing => before,
+    }
+}
+
+// The byte order that a flag says.
+fn order_is(little: bool) -> Order
+    ensures { λ r. ⌜ r ≡ orderIs little ⌝ }
+{
+    if little { Order::Little } else { Order::Big }
+}
+
+// A TypeCode checked: 0, or 30 to 40, or 42. Of an accepted one `numbers` gets the octets used and the kinds written; `places`, `starts`
+// and `orders` get what is met of each kind, 0 past the last.
+#[no_mangle]
+pub extern "C" fn haulspar_type(
+    octets: &[u8],
+    little: bool,
+    places: &mut [u16; 64],
+    starts: &mut [u16; 64],
+    orders: &mut [u8; 64],
+    numbers: &mut [u64; 2],
+) -> u32
+    ensures { λ r. ⌜ ChecksC (now (octets .entry)) little (now (places .entry)) (now (starts .entry)) (now (orders .entry)) (now (numbers .entry)) r (now (places .exit)) (now (starts .exit)) (now (orders .exit)) (now (numbers .exit)) ⌝ }
+{
+    let c = typecode::check_type(octets, order_is(little));
+    let met = c.met;
+    let at = met.places;
+    let from = met.starts;
+    let in_order = met.orders;
+    let answer = c.answer;
+    match answer {
+        TypeAnswer::Accepted { used, kinds } => {
+            *places = at;
+            *starts = from;
+            *orders = in_order;
+            *numbers = [used as u64, kinds as u64];
+            0
+        }
+        TypeAnswer::Refused(refusal) => refusal.number(),
+        TypeAnswer::Loop => refusals::LOOP,
     }
 }

@@ -1,2 +1,3 @@
 -- The samples of paper 01 that are to be proved.
 pub mod Samples
+pub mod Slips

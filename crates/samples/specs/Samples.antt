@@ -11,33 +11,52 @@ use mathlib.Core.List.{List, [], _∷_}
 use mathlib.Core.Bool.{Bool, true, false, _&&_}
 use Prim.Native.Nat.{ℕ}
 use lib.Dec.{T, eqb}
+use Rattle.cdr.specs.declared.Order.{Order}
 use Rattle.cdr.specs.declared.Order.the-variants.{Big}
 use Rattle.cdr.specs.Number.{littleNumber, littleOctets, numberOf, octetsOf, numberAt}
 use Rattle.version.specs.Versions.{majorExists, minorExists}
 use Rattle.frame.specs.Messages.{versionExists, flagsAllowed, typeExists, bodyStartsWithId, readsFragments, isRequestOrReply, isBare, hasRequestId}
 use Rattle.frame.specs.Frames.{sizeAllowed, fragmentAllowed, eightsAllowed, sizedOf, messageOf, frameOf, frameNumbers}
+use Rattle.choices.specs.Branch.{choose}
+use Rattle.cdr.specs.Number.{readOf}
+use Rattle.texts.specs.Text.{textOf, endsText, overBound, runOf}
+use Rattle.encapsulation.specs.Encapsulation.{fieldOf, stringOf, countedOf}
+use Rattle.kinds.specs.Forms.{formOf}
+use Rattle.kinds.specs.Parts.{fieldIn, skipField, skipCounted, targetOf, aimed, spotAt, memberAt, namesIn}
+use Rattle.kinds.specs.Parameters.{countIn, typeIn, elementIn, unionIn, encapsulated, parametersAt}
+use Rattle.met.specs.Met.{added, findIn, findPlace, positionOf, parametersOf}
+use Rattle.met.specs.Discriminants.{leafLabels, labelsAfter, labelsFor, outOfKind, labelAmong}
+use Rattle.fields.specs.Fields.{belowTop, entryOf, textStep, namesStep, numberStep, countStep, anyCount, headStep, exceptionStep, lengthStep, textsStep, enumStep, partOf, badDefault, switchStep}
+use Rattle.checking.specs.Walk.{entered, closed}
+use Rattle.checking.specs.Types.{targetStep, indirectionAt, nameStep, membersAt, labelsAt, switchedAt, discriminantAt, endedAt, compositeAt, enteredAt, kindAt, enterAt, typeAt, walkedOf}
+use Rattle.loops.specs.Loops.{closure, anyBelow, loopFound}
+use Rattle.steps.specs.Steps.{memberIs, steps}
+use Rattle.typecode.specs.TypeCode.{answerNumbers, loopLast, checkedType}
 
-abbrev paper : ℕ → ℕ → List ℕ
+abbrev pub paper : ℕ → ℕ → List ℕ
 paper n digits = octetsOf Big n digits
 
 -- `frame`: octets of a message; the number, then minor, order, more, type, size, whether it has a request id, request id
+-- `type`: a byte order and the octets of a TypeCode; the number, then octets used and kinds written
 pub data Question : Type 0 where
   frame : List ℕ → Question
+  type : Order → List ℕ → Question
 
-abbrev answer : Question → List ℕ
+abbrev pub answer : Question → List ℕ
 answer (frame v) = frameNumbers (frameOf v)
+answer (type order v) = answerNumbers (checkedType v order .answer)
 
 pub record Sample : Type 0 where
   pub asked : Question
   pub given : List ℕ
 
-abbrev same : List ℕ → List ℕ → Bool
+abbrev pub same : List ℕ → List ℕ → Bool
 same [] [] = true
 same [] (y ∷ ys) = false
 same (x ∷ xs) [] = false
 same (x ∷ xs) (y ∷ ys) = eqb x y && same xs ys
 
-abbrev holds : List Sample → Bool
+abbrev pub holds : List Sample → Bool
 holds [] = true
 holds (s ∷ rest) = same (answer (s .asked)) (s .given) && holds rest
 
@@ -45,8 +64,14 @@ unfoldable pub samples : List Sample
 samples =
     -- "type 5, size 0"; minor 0, big-endian, no more flag and no request id are as the octets say
     record { asked = frame (paper 12 0x47494F500100000500000000); given = 0 ∷ 0 ∷ 0 ∷ 0 ∷ 5 ∷ 0 ∷ 0 ∷ 0 ∷ [] }
+    -- "type T: used 20, k 2"
+    ∷ record { asked = type Big (paper 20 0x000000130000000C000000000000000300000000); given = 0 ∷ 20 ∷ 2 ∷ [] }
+    -- "36"
+    ∷ record { asked = type Big (paper 24 0x000000130000001000000000FFFFFFFFFFFFFFF000000000); given = 36 ∷ 0 ∷ 0 ∷ [] }
+    -- "empty type: 30"
+    ∷ record { asked = type Big []; given = 30 ∷ 0 ∷ 0 ∷ [] }
     ∷ []
 
 pub samples-hold : T (holds samples)
-unfolding littleNumber littleOctets numberOf octetsOf numberAt majorExists minorExists versionExists flagsAllowed typeExists bodyStartsWithId readsFragments isRequestOrReply isBare hasRequestId sizeAllowed fragmentAllowed eightsAllowed sizedOf messageOf frameOf samples
+unfolding littleNumber littleOctets numberOf octetsOf numberAt majorExists minorExists versionExists flagsAllowed typeExists bodyStartsWithId readsFragments isRequestOrReply isBare hasRequestId sizeAllowed fragmentAllowed eightsAllowed sizedOf messageOf frameOf choose readOf fieldOf stringOf textOf endsText overBound runOf countedOf formOf fieldIn skipField skipCounted targetOf aimed spotAt memberAt namesIn countIn typeIn elementIn unionIn encapsulated parametersAt added findIn findPlace positionOf parametersOf leafLabels labelsAfter labelsFor outOfKind labelAmong belowTop entryOf textStep namesStep numberStep countStep anyCount headStep exceptionStep lengthStep textsStep enumStep partOf badDefault switchStep entered closed targetStep indirectionAt nameStep membersAt labelsAt switchedAt discriminantAt endedAt compositeAt enteredAt kindAt enterAt typeAt walkedOf closure anyBelow loopFound memberIs steps loopLast checkedType samples
 samples-hold = tt

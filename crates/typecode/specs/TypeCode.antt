@@ -1,6 +1,7 @@
 -- The check of octets as a TypeCode in a byte order: "the answer gives octets used and k, the number of kinds written", or the first
 -- refusal, 39 "last of all".
 --   answerNumber    01's number of an answer, 0 for an accepted type
+--   answerNumbers   an answer's number, octets used and kinds written: "a refusal's other numbers are 0"
 --   refusedWith     an answer without a type
 --   acceptedType    octets used and kinds written, and the kinds met
 --   kindsOf         the number of kinds in the list, at most 64
@@ -8,7 +9,7 @@
 --   checkedFrom     what the walk over the octets gives
 --   checkedType     the check
 use Prim.Native.Nat.{ℕ, min}
-use mathlib.Core.List.{List}
+use mathlib.Core.List.{List, [], _∷_}
 use Rattle.choices.specs.Branch.{choose}
 use Rattle.cdr.specs.declared.Index.{Index}
 use Rattle.cdr.specs.declared.Order.{Order}
@@ -28,6 +29,11 @@ abbrev pub answerNumber : TypeAnswer → ℕ
 answerNumber (Accepted used kinds) = 0
 answerNumber (Refused r) = refusalNumber r
 answerNumber Loop = 39
+
+abbrev pub answerNumbers : TypeAnswer → List ℕ
+answerNumbers (Accepted used kinds) = 0 ∷ used ∷ kinds ∷ []
+answerNumbers (Refused r) = refusalNumber r ∷ 0 ∷ 0 ∷ []
+answerNumbers Loop = 39 ∷ 0 ∷ 0 ∷ []
 
 abbrev pub refusedWith : TypeAnswer → CheckedType
 refusedWith answer = record { answer = answer; met = noKinds }

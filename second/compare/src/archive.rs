@@ -1,10 +1,25 @@
 //! The proved library, each of its functions behind one safe call.
 
 use second::joining::Record;
+use second::typecode::MOST_KINDS;
 
 /// The numbers of an accepted header: minor, order, more, type, size, whether
 /// there is a request id, request id.
 pub type HeaderNumbers = [u64; 7];
+
+/// What the archive's interface gives of an accepted type.
+#[repr(C)]
+#[derive(Clone, Copy, PartialEq, Eq, Debug)]
+pub struct Checked {
+    /// The places of the kinds met, in their order; 0 past the last.
+    pub places: [u16; MOST_KINDS],
+    /// The starts of the encapsulations they stand in; 0 past the last.
+    pub starts: [u16; MOST_KINDS],
+    /// Their byte orders, 0 big, 1 little; 0 past the last.
+    pub orders: [u8; MOST_KINDS],
+    /// The octets used and the kinds written.
+    pub numbers: [u64; 2],
+}
 
 extern "C" {
     /// A line's characters to octets: 0, or a refusal, 10, 11 or 27.
@@ -40,6 +55,18 @@ extern "C" {
         out: *mut u8,
         out_len: usize,
         count: *mut u64,
+    ) -> u32;
+
+    /// A TypeCode in a byte order: 0, or a refusal, 30 to 40 or 42. What is
+    /// lent changes at 0 only.
+    fn haulspar_type(
+        octets: *const u8,
+        count: usize,
+        little: bool,
+        places: *mut u16,
+        starts: *mut u16,
+        orders: *mut u8,
+        numbers: *mut u64,
     ) -> u32;
 }
 
@@ -97,6 +124,22 @@ pub fn join(
             out.as_mut_ptr(),
             out.len(),
             count,
+        )
+    }
+}
+
+/// A TypeCode's octets used, and its kinds.
+pub fn typecode(octets: &[u8], little: bool, checked: &mut Checked) -> u32 {
+    // SAFETY: pointers and lengths are those of live, distinct borrows.
+    unsafe {
+        haulspar_type(
+            octets.as_ptr(),
+            octets.len(),
+            little,
+            checked.places.as_mut_ptr(),
+            checked.starts.as_mut_ptr(),
+            checked.orders.as_mut_ptr(),
+            checked.numbers.as_mut_ptr(),
         )
     }
 }

@@ -20,6 +20,17 @@ pub enum Size {
     WrongOrder,
 }
 
+impl Size {
+    /// The four octets that say the length, in a byte order.
+    pub fn field(self, length: usize, little: bool) -> [u8; 4] {
+        match self {
+            Size::Off(by) => ulong_octets((length as i64 + by) as u32, little),
+            Size::Exactly(size) => ulong_octets(size, little),
+            Size::WrongOrder => ulong_octets(length as u32, !little),
+        }
+    }
+}
+
 /// The parts of a frame.
 #[derive(Clone, Copy)]
 pub struct Draft {
@@ -87,7 +98,7 @@ impl Draft {
         let mut octets = Vec::with_capacity(HEADER_LENGTH + self.body);
         octets.extend_from_slice(&self.magic);
         octets.extend_from_slice(&[self.major, self.minor, self.flags, self.kind]);
-        octets.extend_from_slice(&self.size_field());
+        octets.extend_from_slice(&self.size.field(self.body, self.little()));
         octets.extend_from_slice(&chance.octets(self.body));
         let id_octets = octets.get_mut(HEADER_LENGTH..HEADER_LENGTH + 4);
         if let (Some(id), Some(octets)) = (self.id, id_octets) {
@@ -100,16 +111,6 @@ impl Draft {
     /// Whether the flags say little-endian.
     fn little(&self) -> bool {
         self.flags & LITTLE != 0
-    }
-
-    /// The four octets of the size field.
-    fn size_field(&self) -> [u8; 4] {
-        let little = self.little();
-        match self.size {
-            Size::Off(by) => ulong_octets((self.body as i64 + by) as u32, little),
-            Size::Exactly(size) => ulong_octets(size, little),
-            Size::WrongOrder => ulong_octets(self.body as u32, !little),
-        }
     }
 }
 

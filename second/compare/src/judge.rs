@@ -4,11 +4,12 @@ use chance::Chance;
 use second::hexline::LONGEST_MESSAGE;
 use second::joining::{Answer, CANCELLED, JOINED, PLACE_OCTETS, WHOLE};
 use second::refusal::{LINE_TOO_LONG, OUTPUT_TOO_SHORT};
+use second::typecode;
 use second::Header;
 
 use crate::archive::{self, HeaderNumbers};
 use crate::joinings::Recording;
-use crate::lent::{LentHeader, LentJoining, LentOutput, Noise};
+use crate::lent::{LentChecked, LentHeader, LentJoining, LentOutput, Noise};
 use crate::tally::{Held, Section, Tally};
 
 /// Asks both programs, and keeps the tally.
@@ -21,16 +22,18 @@ pub struct Judge {
     pub tally: Tally,
 }
 
-impl Judge {
+impl Default for Judge {
     /// A judge that has seen nothing.
-    pub fn new() -> Self {
+    fn default() -> Self {
         Judge {
             seeds: Chance::new(0x5EED),
             noise: Noise::new(0x00_15E),
             tally: Tally::default(),
         }
     }
+}
 
+impl Judge {
     /// Decodes a line into an output with room for so many octets.
     pub fn decode(&mut self, line: &[u8], room: usize) {
         let mut lent = LentOutput::new(self.seeds.next(), room);
@@ -92,6 +95,22 @@ impl Judge {
         let expected = hold_output(&output, &answer);
         self.tally
             .enter(Section::Lines, "round trip", octets, number, expected);
+    }
+
+    /// Checks a TypeCode in a byte order.
+    pub fn typecode(&mut self, name: &str, octets: &[u8], little: bool) {
+        let mut expected = LentChecked::new(self.seeds.next());
+        let mut lent = expected;
+        let number = archive::typecode(octets, little, lent.lend());
+        let answer = typecode::check(octets, little);
+        if let Ok(accepted) = &answer {
+            expected.accept(accepted);
+        }
+        let held = Held {
+            number: answer.err().unwrap_or(0),
+            memory: lent.unlike(&expected),
+        };
+        self.tally.enter(Section::Types, name, octets, number, held);
     }
 
     /// Gives the lines of a recording one after the other.

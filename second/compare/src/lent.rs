@@ -3,8 +3,9 @@
 use chance::Chance;
 use second::frame::MINOR_AT;
 use second::joining::{Record, PLACE_OCTETS};
+use second::typecode;
 
-use crate::archive::HeaderNumbers;
+use crate::archive::{Checked, HeaderNumbers};
 use crate::start::Start;
 
 /// Octets on either side of the lent ones, which nobody may touch.
@@ -239,6 +240,63 @@ impl LentJoining {
         }
         unlike_octets("places", &self.places, &other.places)
             .or_else(|| unlike_octets("output", &self.output, &other.output))
+    }
+}
+
+/// What is lent with a type, with a number on either side that nobody may
+/// touch.
+#[repr(C)]
+#[derive(Clone, Copy, PartialEq, Eq, Debug)]
+pub struct LentChecked {
+    before: u64,
+    checked: Checked,
+    after: u64,
+}
+
+impl LentChecked {
+    /// All filled with a pattern.
+    pub fn new(seed: u64) -> Self {
+        let number = |index| pattern_number(seed, index as u64);
+        LentChecked {
+            before: number(0),
+            checked: Checked {
+                places: std::array::from_fn(|index| number(index + 5) as u16),
+                starts: std::array::from_fn(|index| (number(index + 5) >> 16) as u16),
+                orders: std::array::from_fn(|index| (number(index + 5) >> 32) as u8),
+                numbers: [number(1), number(2)],
+            },
+            after: number(3),
+        }
+    }
+
+    /// What is lent.
+    pub fn lend(&mut self) -> &mut Checked {
+        &mut self.checked
+    }
+
+    /// Fills the parts as an accepted type is to.
+    pub fn accept(&mut self, accepted: &typecode::Checked) {
+        let mut checked = Checked {
+            places: [0; typecode::MOST_KINDS],
+            starts: [0; typecode::MOST_KINDS],
+            orders: [0; typecode::MOST_KINDS],
+            numbers: [accepted.used as u64, accepted.kinds.len() as u64],
+        };
+        for (index, met) in accepted.kinds.iter().enumerate() {
+            checked.places[index] = met.place as u16;
+            checked.starts[index] = met.start as u16;
+            checked.orders[index] = met.little.into();
+        }
+        self.checked = checked;
+    }
+
+    /// What is not as in the other.
+    pub fn unlike(&self, other: &Self) -> Option<String> {
+        if [self.before, self.after] != [other.before, other.after] {
+            return Some("a number beside what is lent was touched".into());
+        }
+        (self.checked != other.checked)
+            .then(|| format!("checked {:?}, not {:?}", self.checked, other.checked))
     }
 }
 

@@ -1,25 +1,15 @@
 //! Holds the proved library's answers and lent memory to the second program's,
-//! over inputs that are the same at every run. With the proved program's path as
-//! an argument, holds that program's output too.
-
-mod archive;
-mod draft;
-mod fragments;
-mod frames;
-mod joinings;
-mod judge;
-mod lent;
-mod lines;
-mod recordings;
-mod start;
-mod tally;
+//! over inputs that are the same at every run. With the path of the proved
+//! program over recordings as an argument, holds that program's output too, and
+//! with that of the one over questions as a second, that one's.
 
 use std::env;
 use std::io::{self, Write};
 use std::path::Path;
 use std::process::ExitCode;
 
-use crate::judge::Judge;
+use compare::judge::Judge;
+use compare::{frames, joinings, lines, orb, questions, recordings, types};
 
 /// Judges all inputs and writes the tally; succeeds if nothing is wrong.
 fn main() -> ExitCode {
@@ -35,12 +25,17 @@ fn main() -> ExitCode {
 
 /// Judges all inputs and writes the tally; says how many things are wrong.
 fn run() -> io::Result<u64> {
-    let mut judge = Judge::new();
+    let mut judge = Judge::default();
     lines::judge(&mut judge);
     frames::judge(&mut judge);
     joinings::judge(&mut judge);
+    types::judge(&mut judge);
+    orb::judge(&mut judge);
     if let Some(program) = env::args_os().nth(1) {
         recordings::judge(&mut judge, Path::new(&program))?;
+    }
+    if let Some(program) = env::args_os().nth(2) {
+        questions::judge(&mut judge, Path::new(&program))?;
     }
     let tally = judge.tally;
     io::stdout().write_all(tally.to_string().as_bytes())?;

@@ -178,8 +178,8 @@ fn difference(found: &[u8], expected: &[u8]) -> Option<String> {
     Some(format!("output differs at line {line:?} from 0"))
 }
 
-/// What the program writes for a recording.
-fn run(program: &Path, recording: &[u8]) -> io::Result<Vec<u8>> {
+/// What the program writes for an input.
+pub fn run(program: &Path, recording: &[u8]) -> io::Result<Vec<u8>> {
     let mut child = Command::new(program)
         .stdin(Stdio::piped())
         .stdout(Stdio::piped())

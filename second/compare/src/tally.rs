@@ -6,7 +6,8 @@ use std::ops::RangeInclusive;
 
 use second::joining::{CANCELLED, WHOLE};
 use second::refusal::{
-    FRAGMENT_UNALIGNED, HEADER_CUT, ID_OPEN, LINE_TOO_LONG, OUTPUT_TOO_SHORT, RECORD_UNSOUND,
+    FRAGMENT_UNALIGNED, HEADER_CUT, ID_OPEN, KIND_BELOW_TOP, LINE_TOO_LONG, OCTETS_TOO_MANY,
+    OUTPUT_TOO_SHORT, RECORD_UNSOUND, TYPE_CUT,
 };
 
 /// How many differences are shown.
@@ -18,6 +19,9 @@ const SHOWN_DIGITS: usize = 200;
 /// How many inputs there must be.
 const ENOUGH: u64 = 200_000;
 
+/// How many types must be judged.
+const ENOUGH_TYPES: u64 = 500_000;
+
 /// The sections of the paper whose numbers are counted apart.
 #[derive(Clone, Copy, PartialEq, Eq, PartialOrd, Ord)]
 pub enum Section {
@@ -25,10 +29,12 @@ pub enum Section {
     Lines,
     /// Joining.
     Joining,
+    /// Kinds of type.
+    Types,
 }
 
-/// Both sections.
-const SECTIONS: [Section; 2] = [Section::Lines, Section::Joining];
+/// All sections.
+const SECTIONS: [Section; 3] = [Section::Lines, Section::Joining, Section::Types];
 
 /// Numbers of a section, and how often each of them must be given.
 struct Demand {
@@ -59,12 +65,20 @@ const OF_JOINING: [Demand; 4] = [
     each(ID_OPEN, RECORD_UNSOUND, 500),
 ];
 
+/// What types must bring. There is no 41.
+const OF_TYPES: [Demand; 3] = [
+    each(0, 0, 500),
+    each(TYPE_CUT, KIND_BELOW_TOP, 500),
+    each(OCTETS_TOO_MANY, OCTETS_TOO_MANY, 500),
+];
+
 impl Section {
     /// The section's numbers, each with how often it must be given.
     fn demands(self) -> impl Iterator<Item = (u32, u64)> {
         let demands: &[Demand] = match self {
             Section::Lines => &OF_LINES,
             Section::Joining => &OF_JOINING,
+            Section::Types => &OF_TYPES,
         };
         demands
             .iter()
@@ -77,6 +91,7 @@ impl fmt::Display for Section {
         formatter.write_str(match self {
             Section::Lines => "lines and frames",
             Section::Joining => "joining",
+            Section::Types => "types",
         })
     }
 }
@@ -96,6 +111,8 @@ pub struct Tally {
     passed: u64,
     /// Inputs with one.
     different: u64,
+    /// Inputs that are types.
+    types: u64,
     /// How often both programs gave a number in a section.
     given: BTreeMap<(Section, u32), u64>,
     /// The first differences.
@@ -105,6 +122,7 @@ pub struct Tally {
 impl Tally {
     /// Enters one input, the archive's number for it, and what it was held to.
     pub fn enter(&mut self, section: Section, name: &str, input: &[u8], number: u32, held: Held) {
+        self.types += u64::from(section == Section::Types);
         let difference = if number != held.number {
             Some(format!("archive gives {number}, second {}", held.number))
         } else {
@@ -158,7 +176,8 @@ impl Tally {
     /// How many things are wrong.
     pub fn failed(&self) -> u64 {
         let few = u64::from(self.total() < ENOUGH);
-        self.different + self.seldom().len() as u64 + few
+        let few_types = u64::from(self.types < ENOUGH_TYPES);
+        self.different + self.seldom().len() as u64 + few + few_types
     }
 }
 
@@ -170,6 +189,11 @@ impl fmt::Display for Tally {
                 writeln!(formatter, "{number} {}", self.given(section, number))?;
             }
         }
+        writeln!(
+            formatter,
+            "types judged {}, at least {ENOUGH_TYPES}",
+            self.types
+        )?;
         writeln!(formatter, "total {}, at least {ENOUGH}", self.total())?;
         for line in self.shown.iter().chain(&self.seldom()) {
             writeln!(formatter, "{line}")?;

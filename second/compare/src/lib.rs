@@ -1,0 +1,25 @@
+//! Holds the proved library's answers and lent memory to the second program's,
+//! over inputs that are the same at every run.
+
+pub mod archive;
+pub mod draft;
+pub mod fragments;
+pub mod frames;
+pub mod graphs;
+pub mod joinings;
+pub mod judge;
+pub mod layout;
+pub mod lent;
+pub mod limits;
+pub mod lines;
+pub mod maker;
+pub mod mutations;
+pub mod orb;
+pub mod planted;
+pub mod questions;
+pub mod recordings;
+pub mod start;
+pub mod tally;
+pub mod tree;
+pub mod types;
+pub mod unions;
