@@ -50,24 +50,24 @@ use Rattle.fields.specs.declared.Part.{Part}
 use Rattle.fields.specs.declared.Part.the-variants.{NoPart, Inside}
 use Rattle.checking.specs.declared.Walk.{Walk}
 use Rattle.checking.specs.declared.Walked.{Walked}
-use Rattle.cdr.specs.Align.{indexOf}
+use Rattle.cdr.specs.Align.{behindGap, indexOf}
 use Rattle.cdr.specs.Orders.{orderOctet, orderOf}
-use Rattle.encapsulation.specs.Encapsulation.{fieldOf}
+use Rattle.encapsulation.specs.Encapsulation.{start, fieldOf}
 use Rattle.kinds.specs.Forms.{indirectionKind, formOf}
 use Rattle.kinds.specs.Parts.{placeOf, onField, onSkip, onSpot, fieldIn, skipField, skipCounted, skipFrom, skipKind, behind, targetOf, aimedAt, aimed, spotAt, memberAt, namesIn}
 use Rattle.kinds.specs.Parameters.{fieldsOf, countIn, typeIn, elementIn, onElement, unionIn, parametersIn, onOrder, encapsulated, parametersAfter, parametersAt}
 use Rattle.met.specs.Met.{noKinds, added, findIn, findPlace, orderIn, parametersOf}
 use Rattle.met.specs.Discriminants.{labelsFor}
 use Rattle.fields.specs.Fields.{topOnly, belowTop, entryOf, nestingLimit, namesStep, numberStep, lengthStep, headStep, exceptionStep, enumStep, switchStep, partOf}
-use Rattle.checking.specs.Walk.{nothingMet, entered, closed, refusedAs, goesOn, onStep, countThen, after}
+use Rattle.checking.specs.Walk.{nothingMet, layoutBarred, isBarred, entered, closed, refusedAs, goesOn, onStep, countThen, after}
 use Rattle.checking.specs.Types.{targetStep, aimedStep, indirectionAt, Checker, Enterer, nameStep, membersAt, labelsAt, switchHead, switchedAt, discriminantAt, endedAt, partThen, compositeAt, insideAt, enteredAt, onEntry, kindAt, enterAt, typeAt}
 use Rattle.checking.specs.Types.{parametersAt as checkedIn}
 use Rattle.checking.proofs.Ways.{Entering, entry-facts, Found, part-facts}
 use Rattle.texts.proofs.Texts.{run-to}
-use Rattle.encapsulation.proofs.Fields.{counted-is}
-use Rattle.accepted.specs.Sound.{Listed, Members, Labelled, Sound, NotTop, Good}
+use Rattle.encapsulation.proofs.Fields.{field-facts}
+use Rattle.accepted.specs.Sound.{Listed, Inner, Members, Labelled, Sound, NotTop, Good}
 use Rattle.accepted.specs.Sound.Members.{none, one}
-use Rattle.accepted.proofs.Lists.{Grows, grows-none, grows-on, place-again, low-again, find-new, labels-grow, sound-grows, good-grows}
+use Rattle.accepted.proofs.Lists.{Grows, grows-none, grows-on, place-again, low-again, inner-again, parameters-again, find-new, labels-grow, sound-grows, good-grows}
 use Rattle.accepted.proofs.Lies.{field-there, Lies, lies-whole, lies-part, octet-again, field-again, field-over, counted-again, names-again, number-read, head-again, exception-again, length-read, enum-again, switch-read, name-again}
 
 -- ---- by the cases of a definition, keeping what each test said
@@ -195,6 +195,15 @@ module _ (v : List ℕ) where
       never : kind ≡ 22 → ⊥
       never q = true≢false (subst (λ (x : ℕ). topOnly x ≡ false) q t)
 
+  -- a kind that is no longer barred may stand below the top: a struct or a union
+  unbarred-not-top : (b : Place) (order : Order) (kind : ℕ) (i : Index) (form : Form) → isBarred form ≡ false → NotTop (parametersAfter form v b order kind i)
+  unbarred-not-top b order kind i Unlisted u = tt
+  unbarred-not-top b order kind i Plain u = absurd (true≢false u)
+  unbarred-not-top b order kind i Bounded u = absurd (true≢false u)
+  unbarred-not-top b order kind i (Composite layout) u =
+      on-field NotTop (fieldIn v b i Four order) _ _ (λ r. tt)
+      (λ n j r. encapsulated-not-top layout (placeOf (b .0 + j .0)) (λ q. true≢false (subst (λ (x : Layout). layoutBarred x ≡ false) q u)))
+
 abbrev Below : Met → ℕ → Type 0
 Below m x = (j : ℕ) → j < m .count → getD (m .places) j 0 < x
 
@@ -229,32 +238,55 @@ module _ (v : List ℕ) (short : length v ≤ 16384) where
   goes-over : (m m′ : Met) (x y : ℕ) → x ≤ y → Goes m m′ x → Goes m m′ y
   goes-over m m′ x y l g = record { grows = g .grows; fits = g .fits; below = λ j a. omega (arith, g .below j a); good = g .good }
 
+  -- what an indirection may lead to may stand below the top: a kind below the top, and the top if it is no longer barred
+  pub record Tops (w : Walk) : Type 0 where
+    pub long : length (w .barred) ≡ 64
+    pub below : (j : ℕ) → 0 < j → j < w .met .count → NotTop (parametersOf v (w .met) j)
+    pub top : 0 < w .met .count → getD (w .barred) 0 false ≡ false → NotTop (parametersOf v (w .met) 0)
+
+  tops-closed : (w : Walk) (here : ℕ) → 0 < here → Tops w → Tops (closed w here)
+  unfolding closed
+  tops-closed w here o t =
+      record {
+        long = simp length-set (t .long);
+        below = t .below;
+        top = λ c e. t .top c (sym (getD-set-other (w .barred) here 0 false false (λ q. omega arith)) ∙ e);
+      }
+
   -- a type at an index of the encapsulation that starts at the place b
   pub record Well (m : Met) (b : Place) (order : Order) (i : Index) (i′ : Index) (w′ : Walk) : Type 0 where
     pub on : Goes m (w′ .met) (b .0 + i′ .0)
     pub place : Place
     pub spot : spotAt v b i order ≡ At place i′
     pub low : Listed (w′ .met) place
+    pub fit : 0 < m .count → NotTop (parametersOf v (w′ .met) (findPlace (w′ .met) place))
+    pub tops : 0 < m .count → Tops w′
+    -- a kind that is met here has this place, start and order
+    pub new : m .count < w′ .met .count
+        → (getD (w′ .met .places) (m .count) 0 ≡ b .0 + behindGap start (i .0) 4) × (getD (w′ .met .starts) (m .count) 0 ≡ b .0) × (getD (w′ .met .orders) (m .count) 0 ≡ orderOctet order)
 
   pub record Run (m : Met) (labels : Labels) (b : Place) (order : Order) (n : ℕ) (i : Index) (i′ : Index) (w′ : Walk) : Type 0 where
     pub on : Goes m (w′ .met) (b .0 + i′ .0)
     pub run : Members labels v (w′ .met) b order n i
+    pub tops : Tops w′
 
   pub record Par (m : Met) (layout : Layout) (b : Place) (order : Order) (i′ : Index) (w′ : Walk) : Type 0 where
     pub on : Goes m (w′ .met) (b .0 + i′ .0)
     pub sound : Sound v (w′ .met) (parametersIn layout v b order)
+    pub tops : Tops w′
 
-  pub record In (m : Met) (form : Form) (b : Place) (order : Order) (kind : ℕ) (i : Index) (i′ : Index) (w′ : Walk) : Type 0 where
+  pub record In (here : ℕ) (m : Met) (form : Form) (b : Place) (order : Order) (kind : ℕ) (i : Index) (i′ : Index) (w′ : Walk) : Type 0 where
     pub on : Goes m (w′ .met) (b .0 + i′ .0)
     pub passes : skipKind form v b i order ≡ Past i′
     pub sound : Sound v (w′ .met) (parametersAfter form v b order kind i)
+    pub tops : 0 < here → Tops w′
 
   abbrev Checks : Checker → Type 0
   Checks go =
       (s : List ℕ) (b : Place) (order : Order) (i : Index) (w : Walk) → Lies v s (b .0) → Fits (w .met) → Below (w .met) (b .0 + i .0)
-      → Gives (Well (w .met) b order i) (go s b order i w)
+      → 0 < w .met .count → Tops w → Gives (Well (w .met) b order i) (go s b order i w)
 
-  module _ (s : List ℕ) (b : Place) (order : Order) (i : Index) (w : Walk) (h : Lies v s (b .0)) (f : Fits (w .met)) (l : Below (w .met) (b .0 + i .0)) where
+  module _ (s : List ℕ) (b : Place) (order : Order) (i : Index) (w : Walk) (h : Lies v s (b .0)) (f : Fits (w .met)) (l : Below (w .met) (b .0 + i .0)) (t₀ : Tops w) where
     module _ (kind : ℕ) (next : Index) (r : fieldOf s i Four order ≡ Value kind next) where
       abbrev over : (i .0 + 4 ≤ next .0) × (next .0 ≤ length s)
       over = field-over v s b h i Four order kind next r
@@ -265,19 +297,29 @@ module _ (v : List ℕ) (short : length v ≤ 16384) where
       unfolding targetStep spotAt aimed
       target k x j q p t =
           on-cond Q (ltb (findPlace (w .met) p) (w .met .count)) (cond (getD (w .barred) (findPlace (w .met) p) false) (refusedAs BadTarget w) (goesOn j w)) (refusedAs BadTarget w)
-          (λ e. on-cond Q (getD (w .barred) (findPlace (w .met) p) false) (refusedAs BadTarget w) (goesOn j w) (λ c. tt) (λ c. found e)) (λ e. tt)
+          (λ e. on-cond Q (getD (w .barred) (findPlace (w .met) p) false) (refusedAs BadTarget w) (goesOn j w) (λ c. tt) (λ c. found e c)) (λ e. tt)
         where
           Q : Walked → Type 0
           Q = Gives (Well (w .met) b order i)
 
-          found : ltb (findPlace (w .met) p) (w .met .count) ≡ true → Q (goesOn j w)
-          found e =
+          fitting : findPlace (w .met) p < w .met .count → getD (w .barred) (findPlace (w .met) p) false ≡ false → NotTop (parametersOf v (w .met) (findPlace (w .met) p))
+          fitting a c =
+              split 0 (findPlace (w .met) p) (λ o. t₀ .below (findPlace (w .met) p) o a)
+              (λ o. let z : 0 ≡ findPlace (w .met) p = omega arith in
+              subst (λ (x : ℕ). NotTop (parametersOf v (w .met) x)) z (t₀ .top (omega arith) (subst (λ (x : ℕ). getD (w .barred) x false ≡ false) (sym z) c)))
+
+          found : ltb (findPlace (w .met) p) (w .met .count) ≡ true → getD (w .barred) (findPlace (w .met) p) false ≡ false → Q (goesOn j w)
+          found e c =
+              let a = ltb-true (findPlace (w .met) p) (w .met .count) e in
               let o = field-over v s b h next Four order x j q in
               record {
                 on = goes-none (w .met) _ f (λ n a. omega (arith, l n a, over .0, o .0));
                 place = p;
                 spot = rw (field-again v s b h i Four order kind next r, eq-eqb kind indirectionKind k, field-again v s b h next Four order x j q, t);
-                low = ltb-true (findPlace (w .met) p) (w .met .count) e;
+                low = a;
+                fit = λ n. fitting a c;
+                tops = λ n. t₀;
+                new = λ n. absurd (omega arith);
               }
 
       target-by : kind ≡ indirectionKind → (x : ℕ) (j : Index) → fieldOf s next Four order ≡ Value x j → (t : Target) → targetOf (behind b j) x ≡ t
@@ -353,22 +395,39 @@ module _ (v : List ℕ) (short : length v ≤ 16384) where
             let z : indexOf (here .0 - b .0) ≡ indexOf (next .0 - 4) = ap indexOf (omega (arith, over .0)) in
             ap (λ (x : Index). fieldIn v b x Four order) z ∙ field-again v s b h (indexOf (next .0 - 4)) Four order kind next (field-there s i order kind next r)
 
-        module _ (i′ : Index) (w′ : Walk) (z : In m₁ (formOf kind) b order kind next i′ w′) where
+        new-start : getD (m₁ .starts) (w .met .count) 0 ≡ b .0
+        new-start = getD-set-same (w .met .starts) (w .met .count) (b .0) 0 (omega (arith, f .starts))
+
+        new-order : getD (m₁ .orders) (w .met .count) 0 ≡ orderOctet order
+        new-order = getD-set-same (w .met .orders) (w .met .count) (orderOctet order) 0 (omega (arith, f .orders))
+
+        met₁ : parametersOf v m₁ (w .met .count) ≡ parametersAfter (formOf kind) v b order kind next
+        unfolding parametersOf parametersAt
+        met₁ = rw (new-start, new-order, order-back order, new-place, there)
+
+        -- the kind that is met, and those before it
+        unfoldable w₁ : Walk
+        w₁ = record { met = m₁; barred = set (w .barred) (w .met .count) (isBarred (formOf kind)) }
+
+        tops₁ : Tops w₁
+        unfolding w₁
+        tops₁ =
+            record {
+              long = simp length-set (t₀ .long);
+              below = λ j o a. split j (w .met .count) (λ d. rw (parameters-again v (w .met) m₁ j grows₁ d) (t₀ .below j o d))
+                  (λ d. let e : w .met .count ≡ j = omega arith in subst (λ (x : ℕ). NotTop (parametersOf v m₁ x)) e (rw met₁ (after-not-top v b order kind next (top (omega arith)) (formOf kind) refl)));
+              top = λ o e. split 0 (w .met .count)
+                  (λ d. rw (parameters-again v (w .met) m₁ 0 grows₁ d) (t₀ .top d (sym (getD-set-other (w .barred) (w .met .count) 0 (isBarred (formOf kind)) false (λ q. omega arith)) ∙ e)))
+                  (λ d. let z : w .met .count ≡ 0 = omega arith in
+                  let u : isBarred (formOf kind) ≡ false =
+                  sym (getD-set-same (w .barred) (w .met .count) (isBarred (formOf kind)) false (omega (arith, t₀ .long)))
+                  ∙ subst (λ (x : ℕ). getD (set (w .barred) (w .met .count) (isBarred (formOf kind))) x false ≡ false) (sym z) e in
+                  subst (λ (x : ℕ). NotTop (parametersOf v m₁ x)) z (rw met₁ (unbarred-not-top v b order kind next (formOf kind) u)));
+            }
+
+        module _ (i′ : Index) (w′ : Walk) (z : In (w .met .count) m₁ (formOf kind) b order kind next i′ w′) where
           kept : parametersOf v (w′ .met) (w .met .count) ≡ parametersAfter (formOf kind) v b order kind next
-          unfolding parametersOf parametersAt
-          kept =
-              let g = z .on .grows in
-              let a : w .met .count < m₁ .count = omega arith in
-              rw (
-                g .starts (w .met .count) a,
-                g .orders (w .met .count) a,
-                g .places (w .met .count) a,
-                getD-set-same (w .met .starts) (w .met .count) (b .0) 0 (omega (arith, f .starts)),
-                getD-set-same (w .met .orders) (w .met .count) (orderOctet order) 0 (omega (arith, f .orders)),
-                order-back order,
-                new-place,
-                there,
-              )
+          kept = parameters-again v m₁ (w′ .met) (w .met .count) (z .on .grows) (omega arith) ∙ met₁
 
           not-top : 0 < w .met .count → NotTop (parametersOf v (w′ .met) (w .met .count))
           not-top o = rw kept (after-not-top v b order kind next (top o) (formOf kind) refl)
@@ -389,32 +448,41 @@ module _ (v : List ℕ) (short : length v ≤ 16384) where
                 place = here;
                 spot = rw (field-again v s b h i Four order kind next r, ne-eqb kind indirectionKind k, z .passes);
                 low = low-again m₁ (w′ .met) here (z .on .grows) (rw found₁ (omega arith));
+                fit = λ o. rw (place-again m₁ (w′ .met) here (z .on .grows) (rw found₁ (omega arith)), found₁) (not-top o);
+                tops = z .tops;
+                new = λ o.
+                    let g = z .on .grows in
+                    let a : w .met .count < m₁ .count = omega arith in
+                    let e = field-facts s i Four order kind next r .ends in
+                    let q : here .0 ≡ b .0 + behindGap start (i .0) 4 = omega (arith, e) in
+                    (g .places (w .met .count) a ∙ new-place ∙ q, g .starts (w .met .count) a ∙ new-start, g .orders (w .met .count) a ∙ new-order);
               }
 
   -- ---- the check, one level on
 
   module _ (go : Checker) (hold : Checks go) where
     module _ (s : List ℕ) (b : Place) (order : Order) (h : Lies v s (b .0)) where
-      members : (labels : Labels) (first : Index) (n done : ℕ) (i : Index) (w : Walk) → Fits (w .met) → Below (w .met) (b .0 + i .0)
+      members : (labels : Labels) (first : Index) (n done : ℕ) (i : Index) (w : Walk) → Fits (w .met) → Below (w .met) (b .0 + i .0) → 0 < w .met .count → Tops w
           → Gives (Run (w .met) labels b order n i) (membersAt v go labels s b order first n done i w)
       unfolding membersAt
-      members labels first zero done i w f l = record { on = goes-none (w .met) _ f l; run = none }
-      members labels first (suc n) done i w f l =
+      members labels first zero done i w f l o t = record { on = goes-none (w .met) _ f l; run = none; tops = t }
+      members labels first (suc n) done i w f l o t =
           on-step (Gives (Run (w .met) labels b order (suc n) i)) (nameStep labels v s b order done first i) w
           (λ j. after (go s b order j w) (λ k w′. membersAt v go labels s b order first n (done + 1) k w′)) (λ r e. tt) (λ j e.
           let a = name-again v s b h order labels done first i j e in
           gives-then (Well (w .met) b order j) (Run (w .met) labels b order (suc n) i) (go s b order j w) (λ k w′. membersAt v go labels s b order first n (done + 1) k w′)
-          (hold s b order j w h f (λ x y. omega (arith, l x y, a .1)))
+          (hold s b order j w h f (λ x y. omega (arith, l x y, a .1)) o t)
           (λ k y.
           let w₁ = go s b order j w .walk in
           gives-map (Run (w₁ .met) labels b order n k) (Run (w .met) labels b order (suc n) i) (membersAt v go labels s b order first n (done + 1) k w₁)
           (λ i′ z. record {
             on = goes-on (w .met) (w₁ .met) _ _ _ (y .on) (z .on);
-            run = one (y .place) k (a .0 ∙ y .spot) (low-again (w₁ .met) _ (y .place) (z .on .grows) (y .low)) (z .run);
+            run = one (y .place) k (a .0 ∙ y .spot) (inner-again v (w₁ .met) _ (y .place) (z .on .grows) (y .low, y .fit o)) (z .run);
+            tops = z .tops;
           })
-          (members labels first n (done + 1) k w₁ (y .on .fits) (y .on .below))))
+          (members labels first n (done + 1) k w₁ (y .on .fits) (y .on .below) (omega (arith, o, y .on .grows .count)) (y .tops o))))
 
-      module _ (w : Walk) (f : Fits (w .met)) (l : Below (w .met) (b .0 + 1)) where
+      module _ (w : Walk) (f : Fits (w .met)) (l : Below (w .met) (b .0 + 1)) (some : 0 < w .met .count) (t₀ : Tops w) where
         still : (i : Index) → 1 ≤ i .0 → Goes (w .met) (w .met) (b .0 + i .0)
         still i o = goes-none (w .met) _ f (λ j a. omega (arith, l j a))
 
@@ -422,29 +490,29 @@ module _ (v : List ℕ) (short : length v ≤ 16384) where
         objrefs = on-step (Gives (Par (w .met) objref b order)) (namesStep s order) w (λ i. goesOn i w) (λ r e. tt) (λ i e. named i e)
           where
             named : (i : Index) → namesStep s order ≡ Next i → Par (w .met) objref b order i w
-            named i e = record { on = still i (names-again v s b h order i e .1); sound = tt }
+            named i e = record { on = still i (names-again v s b h order i e .1); sound = tt; tops = t₀ }
 
         enums : Gives (Par (w .met) enum b order) (checkedIn v go enum s b order w)
         enums = on-step (Gives (Par (w .met) enum b order)) (enumStep s order) w (λ i. goesOn i w) (λ r e. tt) (λ i e. named i e)
           where
             named : (i : Index) → enumStep s order ≡ Next i → Par (w .met) enum b order i w
-            named i e = let a = enum-again v s b h order i e in record { on = still i (a .4); sound = rw (a .2) (a .3) }
+            named i e = let a = enum-again v s b h order i e in record { on = still i (a .4); sound = rw (a .2) (a .3); tops = t₀ }
 
         structs : Gives (Par (w .met) struct b order) (checkedIn v go struct s b order w)
         structs =
             on-count (Gives (Par (w .met) struct b order)) (headStep s order) w (λ n i. membersAt v go NoLabels s b order i n 0 i w) (λ r e. tt) (λ n i e.
             let a = head-again v s b h order n i e in
             gives-map (Run (w .met) NoLabels b order n i) (Par (w .met) struct b order) (membersAt v go NoLabels s b order i n 0 i w)
-            (λ i′ z. record { on = z .on; sound = rw (a .0) (a .1, z .run) })
-            (members NoLabels i n 0 i w f (λ j c. omega (arith, l j c, a .2))))
+            (λ i′ z. record { on = z .on; sound = rw (a .0) (a .1, z .run); tops = z .tops })
+            (members NoLabels i n 0 i w f (λ j c. omega (arith, l j c, a .2)) some t₀))
 
         exceptions : Gives (Par (w .met) exception b order) (checkedIn v go exception s b order w)
         exceptions =
             on-count (Gives (Par (w .met) exception b order)) (exceptionStep s order) w (λ n i. membersAt v go NoLabels s b order i n 0 i w) (λ r e. tt) (λ n i e.
             let a = exception-again v s b h order n i e in
             gives-map (Run (w .met) NoLabels b order n i) (Par (w .met) exception b order) (membersAt v go NoLabels s b order i n 0 i w)
-            (λ i′ z. record { on = z .on; sound = rw (a .0) (z .run) })
-            (members NoLabels i n 0 i w f (λ j c. omega (arith, l j c, a .1))))
+            (λ i′ z. record { on = z .on; sound = rw (a .0) (z .run); tops = z .tops })
+            (members NoLabels i n 0 i w f (λ j c. omega (arith, l j c, a .1)) some t₀))
 
         aliases : Gives (Par (w .met) alias b order) (checkedIn v go alias s b order w)
         unfolding typeIn
@@ -452,8 +520,8 @@ module _ (v : List ℕ) (short : length v ≤ 16384) where
             on-step (Gives (Par (w .met) alias b order)) (namesStep s order) w (λ i. go s b order i w) (λ r e. tt) (λ i e.
             let a = names-again v s b h order i e in
             gives-map (Well (w .met) b order i) (Par (w .met) alias b order) (go s b order i w)
-            (λ i′ y. record { on = y .on; sound = rw (a .0, y .spot) (y .low) })
-            (hold s b order i w h f (λ j c. omega (arith, l j c, a .1))))
+            (λ i′ y. record { on = y .on; sound = rw (a .0, y .spot) (y .low, y .fit some); tops = y .tops some })
+            (hold s b order i w h f (λ j c. omega (arith, l j c, a .1)) some t₀))
 
         sequenced : (w′ : Walk) (i next : Index) → Well (w .met) b order (indexOf 1) i w′ → numberStep s i order ≡ Next next → Par (w .met) sequence b order next w′
         unfolding elementIn
@@ -461,13 +529,14 @@ module _ (v : List ℕ) (short : length v ≤ 16384) where
             let x = number-read v s b h order i next e in
             record {
               on = goes-over (w .met) (w′ .met) _ _ (omega (arith, field-over v s b h i Four order (x .0) next (x .1) .0)) (y .on);
-              sound = rw (y .spot, field-again v s b h i Four order (x .0) next (x .1)) (y .low);
+              sound = rw (y .spot, field-again v s b h i Four order (x .0) next (x .1)) (y .low, y .fit some);
+              tops = y .tops some;
             }
 
         sequences : Gives (Par (w .met) sequence b order) (checkedIn v go sequence s b order w)
         sequences =
             gives-then (Well (w .met) b order (indexOf 1)) (Par (w .met) sequence b order) (go s b order (indexOf 1) w)
-            (λ i w′. onStep (numberStep s i order) w′ (λ next. goesOn next w′)) (hold s b order (indexOf 1) w h f l)
+            (λ i w′. onStep (numberStep s i order) w′ (λ next. goesOn next w′)) (hold s b order (indexOf 1) w h f l some t₀)
             (λ i y.
             let w₁ = go s b order (indexOf 1) w .walk in
             on-step (Gives (Par (w .met) sequence b order)) (numberStep s i order) w₁ (λ next. goesOn next w₁) (λ r e. tt) (λ next e. sequenced w₁ i next y e))
@@ -478,13 +547,14 @@ module _ (v : List ℕ) (short : length v ≤ 16384) where
             let x = length-read v s b h order i next e in
             record {
               on = goes-over (w .met) (w′ .met) _ _ (omega (arith, field-over v s b h i Four order (x .0) next (x .1) .0)) (y .on);
-              sound = rw (y .spot, field-again v s b h i Four order (x .0) next (x .1)) (x .2, y .low);
+              sound = rw (y .spot, field-again v s b h i Four order (x .0) next (x .1)) (x .2, (y .low, y .fit some));
+              tops = y .tops some;
             }
 
         arrays : Gives (Par (w .met) array b order) (checkedIn v go array s b order w)
         arrays =
             gives-then (Well (w .met) b order (indexOf 1)) (Par (w .met) array b order) (go s b order (indexOf 1) w)
-            (λ i w′. onStep (lengthStep s i order) w′ (λ next. goesOn next w′)) (hold s b order (indexOf 1) w h f l)
+            (λ i w′. onStep (lengthStep s i order) w′ (λ next. goesOn next w′)) (hold s b order (indexOf 1) w h f l some t₀)
             (λ i y.
             let w₁ = go s b order (indexOf 1) w .walk in
             on-step (Gives (Par (w .met) array b order)) (lengthStep s i order) w₁ (λ next. goesOn next w₁) (λ r e. tt) (λ next e. repeated w₁ i next y e))
@@ -507,7 +577,8 @@ module _ (v : List ℕ) (short : length v ≤ 16384) where
                 on = goes-on (w .met) (w₁ .met) (w′ .met) _ _ (y .on) (z .on);
                 sound =
                     rw (names, y .spot, field-again v s b h j Four order (x .0) (x .1) (x .2), field-again v s b h (x .1) Four order n next (x .3))
-                    (low-again (w₁ .met) (w′ .met) (y .place) g (y .low), subst Labelled (sym u′) t, x .4, rw u′ (z .run));
+                    (inner-again v (w₁ .met) (w′ .met) (y .place) g (y .low, y .fit some), subst Labelled (sym u′) t, x .4, x .5, rw u′ (z .run));
+                tops = z .tops;
               }
 
           switched-by : (labels : Labels) → labelsAt v (w₁ .met) b i order ≡ labels
@@ -519,7 +590,7 @@ module _ (v : List ℕ) (short : length v ≤ 16384) where
               gives-map (Run (w₁ .met) (Of size limit) b order n next) (Par (w .met) union b order) (membersAt v go (Of size limit) s b order next n 0 next w₁)
               (λ i′ z. unioned (Of size limit) q tt n next e i′ _ z)
               (members (Of size limit) next n 0 next w₁ (y .on .fits)
-              (λ k c. omega (arith, y .on .below k c, field-over v s b h j Four order (x .0) (x .1) (x .2) .0, field-over v s b h (x .1) Four order n next (x .3) .0))))
+              (λ k c. omega (arith, y .on .below k c, field-over v s b h j Four order (x .0) (x .1) (x .2) .0, field-over v s b h (x .1) Four order n next (x .3) .0)) (omega (arith, some, y .on .grows .count)) (y .tops some)))
 
           switched : Gives (Par (w .met) union b order) (switchedAt v go (labelsAt v (w₁ .met) b i order) s b order j w₁)
           unfolding switchedAt
@@ -532,7 +603,7 @@ module _ (v : List ℕ) (short : length v ≤ 16384) where
             (λ i. after (go s b order i w) (λ j w′. switchedAt v go (labelsAt v (w′ .met) b i order) s b order j w′)) (λ r e. tt) (λ i e.
             let a = names-again v s b h order i e in
             gives-then (Well (w .met) b order i) (Par (w .met) union b order) (go s b order i w)
-            (λ j w′. switchedAt v go (labelsAt v (w′ .met) b i order) s b order j w′) (hold s b order i w h f (λ j c. omega (arith, l j c, a .1)))
+            (λ j w′. switchedAt v go (labelsAt v (w′ .met) b i order) s b order j w′) (hold s b order i w h f (λ j c. omega (arith, l j c, a .1)) some t₀)
             (λ j y. switched i (a .0) _ j y))
 
         parameters : (layout : Layout) → Gives (Par (w .met) layout b order) (checkedIn v go layout s b order w)
@@ -546,12 +617,12 @@ module _ (v : List ℕ) (short : length v ≤ 16384) where
         parameters exception = exceptions
 
     -- what follows a kind
-    module _ (s : List ℕ) (b : Place) (order : Order) (i : Index) (w : Walk) (kind here : ℕ) (h : Lies v s (b .0)) (f : Fits (w .met)) (l : Below (w .met) (b .0 + i .0)) where
-      plain : formOf kind ≡ Plain → In (w .met) Plain b order kind i i (closed w here)
+    module _ (s : List ℕ) (b : Place) (order : Order) (i : Index) (w : Walk) (kind here : ℕ) (h : Lies v s (b .0)) (f : Fits (w .met)) (l : Below (w .met) (b .0 + i .0)) (some : 0 < w .met .count) (t₀ : Tops w) where
+      plain : formOf kind ≡ Plain → In here (w .met) Plain b order kind i i (closed w here)
       unfolding closed
-      plain e = record { on = goes-none (w .met) _ f l; passes = refl; sound = e }
+      plain e = record { on = goes-none (w .met) _ f l; passes = refl; sound = e; tops = λ o. tops-closed w here o t₀ }
 
-      bounded : (next : Index) → numberStep s i order ≡ Next next → In (w .met) Bounded b order kind i next (closed w here)
+      bounded : (next : Index) → numberStep s i order ≡ Next next → In here (w .met) Bounded b order kind i next (closed w here)
       unfolding closed skipField
       bounded next e =
           let x = number-read v s b h order i next e in
@@ -560,11 +631,12 @@ module _ (v : List ℕ) (short : length v ≤ 16384) where
             on = goes-none (w .met) _ f (λ j c. omega (arith, l j c, field-over v s b h i Four order (x .0) next (x .1) .0));
             passes = rw a;
             sound = rw a tt;
+            tops = λ o. tops-closed w here o t₀;
           }
 
       module _ (layout : Layout) (x e : ℕ) (o : Order) (d : Found s i order x e o) where
         ended : (i′ : Index) (w′ : Walk) → i′ .0 ≡ e - x → Par (w .met) layout (placeOf (b .0 + x)) o i′ w′
-            → In (w .met) (Composite layout) b order kind i (indexOf e) (closed w′ here)
+            → In here (w .met) (Composite layout) b order kind i (indexOf e) (closed w′ here)
         unfolding closed encapsulated
         ended i′ w′ z y =
             let a = field-again v s b h i Four order (d .size) (d .from) (d .read) in
@@ -574,39 +646,40 @@ module _ (v : List ℕ) (short : length v ≤ 16384) where
               on = goes-over (w .met) (w′ .met) _ _ (omega (arith, d .some)) (y .on);
               passes = counted-again v s b h i order (d .size) (d .from) (d .read) (omega (arith, d .start, d .size-is, d .ends)) ∙ ap Past k;
               sound = rw (a, d .start, lt-ltb (b .0 + x) (length v) (omega (arith, d .some, d .ends, h .long)), n) (y .sound);
+              tops = λ o. tops-closed w′ here o (y .tops);
             }
 
-        part : Gives (In (w .met) (Composite layout) b order kind i)
+        part : Gives (In here (w .met) (Composite layout) b order kind i)
             (endedAt here (e - x) e (checkedIn v go layout (take (e - x) (drop x s)) (placeOf (b .0 + x)) o w))
         unfolding endedAt
         part =
-            gives-then (Par (w .met) layout (placeOf (b .0 + x)) o) (In (w .met) (Composite layout) b order kind i) (checkedIn v go layout (take (e - x) (drop x s)) (placeOf (b .0 + x)) o w)
+            gives-then (Par (w .met) layout (placeOf (b .0 + x)) o) (In here (w .met) (Composite layout) b order kind i) (checkedIn v go layout (take (e - x) (drop x s)) (placeOf (b .0 + x)) o w)
             (λ i′ w′. cond (eqb (i′ .0) (e - x)) (goesOn (indexOf e) (closed w′ here)) (refusedAs BadEncapsulation w′))
             (parameters (take (e - x) (drop x s)) (placeOf (b .0 + x)) o (lies-part v s (b .0) x e h (omega (arith, d .some)) (d .ends)) w f
-            (λ j c. omega (arith, l j c, field-over v s b h i Four order (d .size) (d .from) (d .read) .0, d .start)) layout)
+            (λ j c. omega (arith, l j c, field-over v s b h i Four order (d .size) (d .from) (d .read) .0, d .start)) some t₀ layout)
             (λ i′ y.
             let w′ = checkedIn v go layout (take (e - x) (drop x s)) (placeOf (b .0 + x)) o w .walk in
-            on-cond (Gives (In (w .met) (Composite layout) b order kind i)) (eqb (i′ .0) (e - x)) (goesOn (indexOf e) (closed w′ here)) (refusedAs BadEncapsulation w′)
+            on-cond (Gives (In here (w .met) (Composite layout) b order kind i)) (eqb (i′ .0) (e - x)) (goesOn (indexOf e) (closed w′ here)) (refusedAs BadEncapsulation w′)
             (λ z. ended i′ w′ (eqb-true (i′ .0) (e - x) z) y) (λ z. tt))
 
-      inside : (form : Form) → formOf kind ≡ form → Gives (In (w .met) form b order kind i) (insideAt v go form s b order i w here)
+      inside : (form : Form) → formOf kind ≡ form → Gives (In here (w .met) form b order kind i) (insideAt v go form s b order i w here)
       unfolding compositeAt
       inside Unlisted q = tt
       inside Plain q = plain q
-      inside Bounded q = on-step (Gives (In (w .met) Bounded b order kind i)) (numberStep s i order) w (λ next. goesOn next (closed w here)) (λ r e. tt) (λ next e. bounded next e)
+      inside Bounded q = on-step (Gives (In here (w .met) Bounded b order kind i)) (numberStep s i order) w (λ next. goesOn next (closed w here)) (λ r e. tt) (λ next e. bounded next e)
       inside (Composite layout) q =
-          on-part (Gives (In (w .met) (Composite layout) b order kind i)) (partOf s i order) w
+          on-part (Gives (In here (w .met) (Composite layout) b order kind i)) (partOf s i order) w
           (λ x e o. endedAt here (e - x) e (checkedIn v go layout (take (e - x) (drop x s)) (placeOf (b .0 + x)) o w)) (λ r e. tt) (λ x e o p. part layout x e o (part-facts s i order x e o p))
 
   -- ---- all levels
 
   -- a type by its kind: an indirection, or what `enter` does with a kind that may stand there
-  kind-well : (left : ℕ) (enter : Enterer) (s : List ℕ) (b : Place) (order : Order) (i : Index) (w : Walk) → Lies v s (b .0) → Fits (w .met) → Below (w .met) (b .0 + i .0)
+  kind-well : (left : ℕ) (enter : Enterer) (s : List ℕ) (b : Place) (order : Order) (i : Index) (w : Walk) → Lies v s (b .0) → Fits (w .met) → Below (w .met) (b .0 + i .0) → Tops w
       → ((kind : ℕ) (next : Index) → fieldOf s i Four order ≡ Value kind next → (kind ≡ indirectionKind → ⊥) → Entering (formOf kind) kind left (w .met .count)
       → Gives (Well (w .met) b order i) (enter (formOf kind) s b order next w))
       → Gives (Well (w .met) b order i) (kindAt left enter s b order i w)
   unfolding kindAt
-  kind-well left enter s b order i w h f l g =
+  kind-well left enter s b order i w h f l t₀ g =
       on-field Q (fieldOf s i Four order) (refusedAs Ends w)
       (λ kind next.
       choose (eqb kind indirectionKind) (λ _. indirectionAt s b order next w)
@@ -615,7 +688,7 @@ module _ (v : List ℕ) (short : length v ≤ 16384) where
       (λ kind next r.
       on-choice Q (eqb kind indirectionKind) (λ _. indirectionAt s b order next w)
       (λ _. onEntry (entryOf (formOf kind) kind left (w .met .count)) w (λ _. enter (formOf kind) s b order next w))
-      (λ t. indirection s b order i w h f l kind next r (eqb-true kind indirectionKind t))
+      (λ t. indirection s b order i w h f l t₀ kind next r (eqb-true kind indirectionKind t))
       (λ t. on-entry Q (entryOf (formOf kind) kind left (w .met .count)) w (λ _. enter (formOf kind) s b order next w) (λ n e. tt)
       (λ e. g kind next r (eqb-false kind indirectionKind t) (entry-facts (formOf kind) kind left (w .met .count) e))))
     where
@@ -623,20 +696,19 @@ module _ (v : List ℕ) (short : length v ≤ 16384) where
       Q = Gives (Well (w .met) b order i)
 
   -- a kind that is met, and what follows it
-  enter-well : (go : Checker) → Checks go → (s : List ℕ) (b : Place) (order : Order) (i : Index) (w : Walk) → Lies v s (b .0) → Fits (w .met) → Below (w .met) (b .0 + i .0)
+  enter-well : (go : Checker) → Checks go → (s : List ℕ) (b : Place) (order : Order) (i : Index) (w : Walk) → Lies v s (b .0) → Fits (w .met) → Below (w .met) (b .0 + i .0) → Tops w
       → (kind : ℕ) (next : Index) → fieldOf s i Four order ≡ Value kind next → (kind ≡ indirectionKind → ⊥) → w .met .count < 64
       → (0 < w .met .count → topOnly kind ≡ false) → Gives (Well (w .met) b order i) (enteredAt v go (formOf kind) s b order next w)
-  unfolding enteredAt entered
-  enter-well go hold s b order i w h f l kind next r k c top =
-      let w₁ = entered w (behind b next) b order (formOf kind) in
-      let e = added-is s b order i w h f l kind next r k c top in
-      gives-map (In (m₁ s b order i w h f l kind next r k c top) (formOf kind) b order kind next) (Well (w .met) b order i)
-      (insideAt v go (formOf kind) s b order next w₁ (w .met .count))
-      (λ i′ z. well s b order i w h f l kind next r k c top i′ _ z)
-      (subst (λ (m : Met). Gives (In m (formOf kind) b order kind next) (insideAt v go (formOf kind) s b order next w₁ (w .met .count))) e
-      (inside go hold s b order next w₁ kind (w .met .count) h
-      (subst Fits (sym e) (fits₁ s b order i w h f l kind next r k c top))
-      (subst (λ (m : Met). Below m (b .0 + next .0)) (sym e) (below₁ s b order i w h f l kind next r k c top))
+  unfolding enteredAt entered w₁
+  enter-well go hold s b order i w h f l t₀ kind next r k c top =
+      let e : entered w (behind b next) b order (formOf kind) ≡ w₁ s b order i w h f l t₀ kind next r k c top =
+      ap (λ (m : Met). record { met = m; barred = set (w .barred) (w .met .count) (isBarred (formOf kind)) }) (added-is s b order i w h f l t₀ kind next r k c top) in
+      subst (λ (x : Walk). Gives (Well (w .met) b order i) (insideAt v go (formOf kind) s b order next x (w .met .count))) (sym e)
+      (gives-map (In (w .met .count) (m₁ s b order i w h f l t₀ kind next r k c top) (formOf kind) b order kind next) (Well (w .met) b order i)
+      (insideAt v go (formOf kind) s b order next (w₁ s b order i w h f l t₀ kind next r k c top) (w .met .count))
+      (λ i′ z. well s b order i w h f l t₀ kind next r k c top i′ _ z)
+      (inside go hold s b order next (w₁ s b order i w h f l t₀ kind next r k c top) kind (w .met .count) h
+      (fits₁ s b order i w h f l t₀ kind next r k c top) (below₁ s b order i w h f l t₀ kind next r k c top) (omega arith) (tops₁ s b order i w h f l t₀ kind next r k c top)
       (formOf kind) refl))
 
   below-is : (kind left : ℕ) (n : ℕ) → (left ≡ 16 → n ≡ 0) → belowTop kind left ≡ false → 0 < n → topOnly kind ≡ false
@@ -644,22 +716,22 @@ module _ (v : List ℕ) (short : length v ≤ 16384) where
   below-is kind left n t e o =
       by-test (eqb left 16) (λ a. absurd (omega (arith, t (eqb-true left 16 a)))) (λ a. rw a at e)
 
-  entering : (left : ℕ) → left ≤ 16 → (s : List ℕ) (b : Place) (order : Order) (i : Index) (w : Walk) → Lies v s (b .0) → Fits (w .met) → Below (w .met) (b .0 + i .0)
+  entering : (left : ℕ) → left ≤ 16 → (s : List ℕ) (b : Place) (order : Order) (i : Index) (w : Walk) → Lies v s (b .0) → Fits (w .met) → Below (w .met) (b .0 + i .0) → Tops w
       → (left ≡ 16 → w .met .count ≡ 0)
       → (kind : ℕ) (next : Index) → fieldOf s i Four order ≡ Value kind next → (kind ≡ indirectionKind → ⊥) → Entering (formOf kind) kind left (w .met .count)
       → Gives (Well (w .met) b order i) (enterAt v left (formOf kind) s b order next w)
   unfolding enterAt
-  entering zero a s b order i w h f l t kind next r k e = tt
-  entering (suc left) a s b order i w h f l t kind next r k e =
+  entering zero a s b order i w h f l t₀ t kind next r k e = tt
+  entering (suc left) a s b order i w h f l t₀ t kind next r k e =
       enter-well (kindAt left (enterAt v left))
-      (λ s b order i w h f l. kind-well left (enterAt v left) s b order i w h f l (entering left (omega arith) s b order i w h f l (λ z. absurd (omega arith))))
-      s b order i w h f l kind next r k (e .room) (below-is kind (suc left) (w .met .count) t (e .placed))
+      (λ s b order i w h f l o t₀. kind-well left (enterAt v left) s b order i w h f l t₀ (entering left (omega arith) s b order i w h f l t₀ (λ z. absurd (omega arith))))
+      s b order i w h f l t₀ kind next r k (e .room) (below-is kind (suc left) (w .met .count) t (e .placed))
 
   -- what the check accepts is read again, at every level
-  pub type-well : (left : ℕ) → left ≤ 16 → (s : List ℕ) (b : Place) (order : Order) (i : Index) (w : Walk) → Lies v s (b .0) → Fits (w .met) → Below (w .met) (b .0 + i .0)
+  pub type-well : (left : ℕ) → left ≤ 16 → (s : List ℕ) (b : Place) (order : Order) (i : Index) (w : Walk) → Lies v s (b .0) → Fits (w .met) → Below (w .met) (b .0 + i .0) → Tops w
       → (left ≡ 16 → w .met .count ≡ 0) → Gives (Well (w .met) b order i) (typeAt v left s b order i w)
   unfolding typeAt
-  type-well left a s b order i w h f l t = kind-well left (enterAt v left) s b order i w h f l (entering left a s b order i w h f l t)
+  type-well left a s b order i w h f l t₀ t = kind-well left (enterAt v left) s b order i w h f l t₀ (entering left a s b order i w h f l t₀ t)
 
   -- the whole, from a list that has no kind
   module _ (order : Order) (w : Walk) (z : w ≡ nothingMet) where
@@ -678,10 +750,18 @@ module _ (v : List ℕ) (short : length v ≤ 16384) where
           count = omega (arith, empty);
         }
 
+    empty-tops : Tops w
+    empty-tops =
+        record {
+          long = ap (λ (x : Walk). length (x .barred)) z;
+          below = λ j o a. absurd (omega (arith, empty));
+          top = λ o e. absurd (omega (arith, empty));
+        }
+
     whole-well : (i : Index) → whole .step ≡ Next i → Well (w .met) (placeOf 0) order (indexOf 0) i (whole .walk)
     whole-well i e =
         subst (IfNext (λ j. Well (w .met) (placeOf 0) order (indexOf 0) j (whole .walk))) e
-        (type-well nestingLimit (omega arith) v (placeOf 0) order (indexOf 0) w (lies-whole v) empty-fits (λ j l. absurd (omega (arith, empty))) (λ q. empty))
+        (type-well nestingLimit (omega arith) v (placeOf 0) order (indexOf 0) w (lies-whole v) empty-fits (λ j l. absurd (omega (arith, empty))) empty-tops (λ q. empty))
 
     -- every kind of an accepted type is good
     pub all-good : (i : Index) → whole .step ≡ Next i → (j : ℕ) → j < whole .walk .met .count → Good v (whole .walk .met) j
@@ -690,3 +770,10 @@ module _ (v : List ℕ) (short : length v ≤ 16384) where
     -- there is a first kind, and at most 64 are there
     pub some-kind : (i : Index) → whole .step ≡ Next i → (0 < whole .walk .met .count) × (whole .walk .met .count ≤ 64)
     some-kind i e = let w = whole-well i e in (omega (arith, w .low), w .on .fits .count)
+
+    -- the first kind is the top: it stands at the place 0, and is read in the order that is asked for
+    pub first-kind : (i : Index) → whole .step ≡ Next i
+        → (getD (whole .walk .met .places) 0 0 ≡ 0) × (getD (whole .walk .met .starts) 0 0 ≡ 0) × (getD (whole .walk .met .orders) 0 0 ≡ orderOctet order)
+    first-kind i e =
+        subst (λ (x : ℕ). (getD (whole .walk .met .places) x 0 ≡ 0) × (getD (whole .walk .met .starts) x 0 ≡ 0) × (getD (whole .walk .met .orders) x 0 ≡ orderOctet order))
+        empty (whole-well i e .new (omega (arith, empty, some-kind i e .0)))

@@ -7,7 +7,7 @@ use native.Mathlib.Nat.{min-eq-left}
 use native.Mathlib.Omega.{arith}
 use borrow.Author.Tests.{eqb-true, le-ltb, lt-ltb, ltb-true, ltb-false}
 use lib.Dec.{ltb, eqb}
-use lib.ListN.{length}
+use lib.ListN.{length, getD}
 use Rattle.choices.specs.Branch.{choose}
 use Rattle.choices.proofs.Choices.{by-test, clash}
 use Rattle.cdr.specs.declared.Index.{Index}
@@ -28,6 +28,7 @@ use Rattle.typecode.specs.declared.TypeAnswer.{TypeAnswer}
 use Rattle.typecode.specs.declared.TypeAnswer.the-variants.{Accepted, Refused, Loop}
 use Rattle.typecode.specs.declared.CheckedType.{CheckedType}
 use Rattle.cdr.specs.Align.{indexOf}
+use Rattle.cdr.specs.Orders.{orderOctet}
 use Rattle.kinds.specs.Parts.{placeOf, onSpot, memberAt}
 use Rattle.loops.specs.Loops.{Reaches, Returns, loopFound, rank}
 use Rattle.loops.proofs.Deciding.{loop-decided}
@@ -42,7 +43,7 @@ use Rattle.typecode.specs.TypeCode.{refusedWith, acceptedType, kindsOf, loopLas
 use Rattle.accepted.specs.Sound.{Listed, Members, Sound, Good}
 use Rattle.accepted.specs.Sound.Members.{none, one}
 use Rattle.accepted.specs.Accepted.{Returning, AcceptedAs}
-use Rattle.accepted.proofs.Again.{all-good, some-kind}
+use Rattle.accepted.proofs.Again.{all-good, some-kind, first-kind}
 
 -- ---- a step leads to a kind of the list
 
@@ -58,7 +59,7 @@ member-low : {labels : Labels} {v : List ℕ} {m : Met} {b : Place} {order : Ord
 unfolding memberIs
 member-low k none e = absurd (false≢true e)
 member-low {labels = labels} {v = v} {m = m} {b = b} {order = order} k (one {n = n} p next q l r) e =
-    either-of (stands m p k) (memberIs labels v m b order k n next) (rw q at e) (λ z. stands-low m p k l z) (λ z. member-low k r z)
+    either-of (stands m p k) (memberIs labels v m b order k n next) (rw q at e) (λ z. stands-low m p k (l .0) z) (λ z. member-low k r z)
 
 leads-low : (v : List ℕ) (m : Met) (k : ℕ) (x : Parameters) → Sound v m x → leads v m k x ≡ true → k < m .count
 leads-low v m k Fault s e = absurd s
@@ -68,11 +69,11 @@ leads-low v m k Objref s e = absurd (false≢true e)
 leads-low v m k (Struct f) s e = member-low k (s .1) e
 leads-low v m k (Exception f) s e = member-low k s e
 leads-low v m k (Union f d n) s e =
-    either-of (stands m d k) (fieldIs (labelsFor v m d) v m f k) e (λ z. stands-low m d k (s .0) z) (λ z. member-low k (s .3) z)
+    either-of (stands m d k) (fieldIs (labelsFor v m d) v m f k) e (λ z. stands-low m d k (s .0 .0) z) (λ z. member-low k (s .4) z)
 leads-low v m k (Enum n) s e = absurd (false≢true e)
 leads-low v m k (Sequence p n) s e = absurd (false≢true e)
-leads-low v m k (Array p n) s e = stands-low m p k (s .1) e
-leads-low v m k (Alias p) s e = stands-low m p k s e
+leads-low v m k (Array p n) s e = stands-low m p k (s .1 .0) e
+leads-low v m k (Alias p) s e = stands-low m p k (s .0) e
 
 pub step-low : (v : List ℕ) (m : Met) (i j : ℕ) → Good v m i → steps v m i j ≡ true → j < m .count
 unfolding steps
@@ -115,6 +116,15 @@ module _ (v : List ℕ) (order : Order) where
     walked-count : (0 < m .count) × (m .count ≤ 64)
     walked-count = counts nothingMet refl (walked-short short)
 
+    firsts : (w : Walk) → w ≡ nothingMet → walkedOf v order ≡ typeAt v nestingLimit v (placeOf 0) order (indexOf 0) w
+        → (getD (m .places) 0 0 ≡ 0) × (getD (m .starts) 0 0 ≡ 0) × (getD (m .orders) 0 0 ≡ orderOctet order)
+    firsts w z q =
+        subst (λ (c : Walked). (getD (c .walk .met .places) 0 0 ≡ 0) × (getD (c .walk .met .starts) 0 0 ≡ 0) × (getD (c .walk .met .orders) 0 0 ≡ orderOctet order)) (sym q)
+        (first-kind v short order w z i (sym (ap (λ (c : Walked). c .step) q) ∙ e))
+
+    walked-first : (getD (m .places) 0 0 ≡ 0) × (getD (m .starts) 0 0 ≡ 0) × (getD (m .orders) 0 0 ≡ orderOctet order)
+    walked-first = firsts nothingMet refl (walked-short short)
+
     kinds-are : kindsOf m ≡ m .count
     kinds-are = min-eq-left (walked-count .1)
 
@@ -149,12 +159,13 @@ module _ (v : List ℕ) (order : Order) where
 
   -- ---- what an accepted type promises
 
-  promises : (i : Index) → walkedOf v order .step ≡ Next i → loopFound (m .count) (steps v m) ≡ false → AcceptedAs v (m .count) m
+  promises : (i : Index) → walkedOf v order .step ≡ Next i → loopFound (m .count) (steps v m) ≡ false → AcceptedAs v order (m .count) m
   promises i e t =
       record {
         kinds = refl;
         some = walked-count i e .0;
         most = walked-count i e .1;
+        first = walked-first i e;
         good = walked-good i e;
         low = low;
         ranked = λ x l. rank-low (m .count) (steps v m) t x l;
@@ -164,7 +175,7 @@ module _ (v : List ℕ) (order : Order) where
       low : (x y : ℕ) → x < m .count → steps v m x y ≡ true → y < m .count
       low x y l q = step-low v m x y (walked-good i e x l) q
 
-  accepted-by : (used k : ℕ) (t : Step) → walkedOf v order .step ≡ t → checkedType v order .answer ≡ Accepted used k → AcceptedAs v k (checkedType v order .met)
+  accepted-by : (used k : ℕ) (t : Step) → walkedOf v order .step ≡ t → checkedType v order .answer ≡ Accepted used k → AcceptedAs v order k (checkedType v order .met)
   unfolding checkedType
   accepted-by used k (refused n) e q = let z : Refused n ≡ Accepted used k = rw e at q in clash cc
   accepted-by used k (Next i) e q =
@@ -174,8 +185,8 @@ module _ (v : List ℕ) (order : Order) where
       let p = passes i e t in
       let z : Accepted (i .0) (m .count) ≡ Accepted used k = sym (ap (λ (c : CheckedType). c .answer) p) ∙ q in
       let n : m .count ≡ k = cc in
-      subst (λ (x : ℕ). AcceptedAs v x (checkedType v order .met)) n (subst (AcceptedAs v (m .count)) (sym (ap (λ (c : CheckedType). c .met) p)) (promises i e t)))
+      subst (λ (x : ℕ). AcceptedAs v order x (checkedType v order .met)) n (subst (AcceptedAs v order (m .count)) (sym (ap (λ (c : CheckedType). c .met) p)) (promises i e t)))
 
   -- in an accepted type every kind's parameters are read again without a fault and lead to kinds of its list, and ranks fall
-  pub accepted-as : (used k : ℕ) → checkedType v order .answer ≡ Accepted used k → AcceptedAs v k (checkedType v order .met)
+  pub accepted-as : (used k : ℕ) → checkedType v order .answer ≡ Accepted used k → AcceptedAs v order k (checkedType v order .met)
   accepted-as used k q = accepted-by used k (walkedOf v order .step) refl q

@@ -239,19 +239,24 @@ module _ (v s : List ℕ) (b : Place) (h : Lies v s (b .0)) where
     unfolding enumStep
     enum-again j e = enum-by j (headStep s order) refl e
 
-    default-by : (d n : ℕ) (j : Index) (t : Count) → judged d t ≡ Stands n j → t ≡ Stands n j
+    default-by : (d n : ℕ) (j : Index) (t : Count) → judged d t ≡ Stands n j → (t ≡ Stands n j) × (badDefault d n ≡ false)
     default-by d n j (Stands x next) e =
-        by-test (badDefault d x) (λ a. let q : Wrong BadUnion ≡ Stands n j = rw a at e in clash cc) (λ a. rw a at e)
+        by-test (badDefault d x) (λ a. let q : Wrong BadUnion ≡ Stands n j = rw a at e in clash cc) (λ a.
+        let q : Stands x next ≡ Stands n j = rw a at e in
+        let y : x ≡ n = cc in
+        (q, subst (λ (k : ℕ). badDefault d k ≡ false) y a))
     default-by d n j (Wrong x) e = clash cc
 
     switch-by : (i : Index) (n : ℕ) (j : Index) (f : Field) → fieldOf s i Four order ≡ f → onField f (Wrong Ends) (λ d k. judged d (countStep s k order)) ≡ Stands n j
-        → (d : ℕ) × (k : Index) × (fieldOf s i Four order ≡ Value d k) × (fieldOf s k Four order ≡ Value n j) × (0 < n)
+        → (d : ℕ) × (k : Index) × (fieldOf s i Four order ≡ Value d k) × (fieldOf s k Four order ≡ Value n j) × (0 < n) × (badDefault d n ≡ false)
     switch-by i n j (Value d k) r e =
-        let c = count-read k n j (default-by d n j (countStep s k order) e) in (d, k, r, c .0, c .1)
+        let a = default-by d n j (countStep s k order) e in
+        let c = count-read k n j (a .0) in
+        (d, k, r, c .0, c .1, a .1)
     switch-by i n j NoField r e = clash cc
 
     pub switch-read : (i : Index) (n : ℕ) (j : Index) → switchStep s i order ≡ Stands n j
-        → (d : ℕ) × (k : Index) × (fieldOf s i Four order ≡ Value d k) × (fieldOf s k Four order ≡ Value n j) × (0 < n)
+        → (d : ℕ) × (k : Index) × (fieldOf s i Four order ≡ Value d k) × (fieldOf s k Four order ≡ Value n j) × (0 < n) × (badDefault d n ≡ false)
     unfolding switchStep
     switch-read i n j e = switch-by i n j (fieldOf s i Four order) refl e
 

@@ -20,7 +20,7 @@ use Rattle.met.specs.declared.Discriminant.{Discriminant}
 use Rattle.met.specs.declared.Discriminant.the-variants.{Through, Says}
 use Rattle.met.specs.Met.{findIn, findPlace, parametersOf}
 use Rattle.met.specs.Discriminants.{discriminantOf, onDiscriminant, labelsAfter, labelsFor}
-use Rattle.accepted.specs.Sound.{Listed, Members, Labelled, Sound, Good}
+use Rattle.accepted.specs.Sound.{Listed, Inner, Members, Labelled, Sound, Good}
 use Rattle.accepted.specs.Sound.Members.{none, one}
 
 pub record Grows (m m′ : Met) : Type 0 where
@@ -77,13 +77,17 @@ find-new ps p (suc n) i h e =
     let r = find-new ps p n (i + 1) (λ j a b. h j (omega arith) (omega arith)) e′ in
     rw (ne-eqb (getD ps i 0) p (λ q. omega (arith, h i (omega arith) (omega arith)))) (r ∙ sym z)
 
-members-grow : {labels : Labels} {v : List ℕ} {m m′ : Met} {b : Place} {order : Order} {n : ℕ} {i : Index} → Grows m m′ → Members labels v m b order n i → Members labels v m′ b order n i
-members-grow g none = none
-members-grow {m = m} {m′ = m′} g (one p next e l r) = one p next e (low-again m m′ p g l) (members-grow g r)
-
 pub parameters-again : (v : List ℕ) (m m′ : Met) (j : ℕ) → Grows m m′ → j < m .count → parametersOf v m′ j ≡ parametersOf v m j
 unfolding parametersOf
 parameters-again v m m′ j g l = rw (g .starts j l, g .orders j l, g .places j l)
+
+pub inner-again : (v : List ℕ) (m m′ : Met) (p : Place) → Grows m m′ → Inner v m p → Inner v m′ p
+inner-again v m m′ p g h =
+    (low-again m m′ p g (h .0), rw (place-again m m′ p g (h .0), parameters-again v m m′ (findPlace m p) g (h .0)) (h .1))
+
+members-grow : {labels : Labels} {v : List ℕ} {m m′ : Met} {b : Place} {order : Order} {n : ℕ} {i : Index} → Grows m m′ → Members labels v m b order n i → Members labels v m′ b order n i
+members-grow g none = none
+members-grow {v = v} {m = m} {m′ = m′} g (one p next e l r) = one p next e (inner-again v m m′ p g l) (members-grow g r)
 
 -- labels that were said stay the same when the list has grown
 labels-again : (v : List ℕ) (m m′ : Met) (l : ℕ) (p : Place) → Grows m m′ → Labelled (labelsAfter v m l p) → labelsAfter v m′ l p ≡ labelsAfter v m l p
@@ -121,11 +125,11 @@ sound-grows v m m′ Objref g h = tt
 sound-grows v m m′ (Struct f) g h = (h .0, members-grow g (h .1))
 sound-grows v m m′ (Exception f) g h = members-grow g h
 sound-grows v m m′ (Union f d n) g h =
-    let e = labels-grow v m m′ d g (h .1) in (low-again m m′ d g (h .0), rw e (h .1), h .2, rw e (members-grow g (h .3)))
+    let e = labels-grow v m m′ d g (h .1) in (inner-again v m m′ d g (h .0), rw e (h .1), h .2, h .3, rw e (members-grow g (h .4)))
 sound-grows v m m′ (Enum n) g h = h
-sound-grows v m m′ (Sequence p n) g h = low-again m m′ p g h
-sound-grows v m m′ (Array p n) g h = (h .0, low-again m m′ p g (h .1))
-sound-grows v m m′ (Alias p) g h = low-again m m′ p g h
+sound-grows v m m′ (Sequence p n) g h = inner-again v m m′ p g h
+sound-grows v m m′ (Array p n) g h = (h .0, inner-again v m m′ p g (h .1))
+sound-grows v m m′ (Alias p) g h = inner-again v m m′ p g h
 
 pub good-grows : (v : List ℕ) (m m′ : Met) (j : ℕ) → Grows m m′ → j < m .count → Good v m j → Good v m′ j
 good-grows v m m′ j g l h =
