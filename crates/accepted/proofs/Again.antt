@@ -60,8 +60,7 @@ use Rattle.met.specs.Met.{noKinds, added, findIn, findPlace, orderIn, parameter
 use Rattle.met.specs.Discriminants.{labelsFor}
 use Rattle.fields.specs.Fields.{topOnly, belowTop, entryOf, nestingLimit, namesStep, numberStep, lengthStep, headStep, exceptionStep, enumStep, switchStep, partOf}
 use Rattle.checking.specs.Walk.{nothingMet, layoutBarred, isBarred, entered, closed, refusedAs, goesOn, onStep, countThen, after}
-use Rattle.checking.specs.Types.{targetStep, aimedStep, indirectionAt, Checker, Enterer, nameStep, membersAt, labelsAt, switchHead, switchedAt, discriminantAt, endedAt, partThen, compositeAt, insideAt, enteredAt, onEntry, kindAt, enterAt, typeAt}
-use Rattle.checking.specs.Types.{parametersAt as checkedIn}
+use Rattle.checking.specs.Types.{targetStep, aimedStep, indirectionAt, Checker, Enterer, nameStep, membersAt, labelsAt, switchHead, switchedAt, discriminantAt, contentsAt, endedAt, partThen, compositeAt, insideAt, enteredAt, onEntry, kindAt, enterAt, typeAt}
 use Rattle.checking.proofs.Ways.{Entering, entry-facts, Found, part-facts}
 use Rattle.texts.proofs.Texts.{run-to}
 use Rattle.encapsulation.proofs.Fields.{field-facts}
@@ -486,19 +485,19 @@ module _ (v : List ℕ) (short : length v ≤ 16384) where
         still : (i : Index) → 1 ≤ i .0 → Goes (w .met) (w .met) (b .0 + i .0)
         still i o = goes-none (w .met) _ f (λ j a. omega (arith, l j a))
 
-        objrefs : Gives (Par (w .met) objref b order) (checkedIn v go objref s b order w)
+        objrefs : Gives (Par (w .met) objref b order) (contentsAt v go objref s b order w)
         objrefs = on-step (Gives (Par (w .met) objref b order)) (namesStep s order) w (λ i. goesOn i w) (λ r e. tt) (λ i e. named i e)
           where
             named : (i : Index) → namesStep s order ≡ Next i → Par (w .met) objref b order i w
             named i e = record { on = still i (names-again v s b h order i e .1); sound = tt; tops = t₀ }
 
-        enums : Gives (Par (w .met) enum b order) (checkedIn v go enum s b order w)
+        enums : Gives (Par (w .met) enum b order) (contentsAt v go enum s b order w)
         enums = on-step (Gives (Par (w .met) enum b order)) (enumStep s order) w (λ i. goesOn i w) (λ r e. tt) (λ i e. named i e)
           where
             named : (i : Index) → enumStep s order ≡ Next i → Par (w .met) enum b order i w
             named i e = let a = enum-again v s b h order i e in record { on = still i (a .4); sound = rw (a .2) (a .3); tops = t₀ }
 
-        structs : Gives (Par (w .met) struct b order) (checkedIn v go struct s b order w)
+        structs : Gives (Par (w .met) struct b order) (contentsAt v go struct s b order w)
         structs =
             on-count (Gives (Par (w .met) struct b order)) (headStep s order) w (λ n i. membersAt v go NoLabels s b order i n 0 i w) (λ r e. tt) (λ n i e.
             let a = head-again v s b h order n i e in
@@ -506,7 +505,7 @@ module _ (v : List ℕ) (short : length v ≤ 16384) where
             (λ i′ z. record { on = z .on; sound = rw (a .0) (a .1, z .run); tops = z .tops })
             (members NoLabels i n 0 i w f (λ j c. omega (arith, l j c, a .2)) some t₀))
 
-        exceptions : Gives (Par (w .met) exception b order) (checkedIn v go exception s b order w)
+        exceptions : Gives (Par (w .met) exception b order) (contentsAt v go exception s b order w)
         exceptions =
             on-count (Gives (Par (w .met) exception b order)) (exceptionStep s order) w (λ n i. membersAt v go NoLabels s b order i n 0 i w) (λ r e. tt) (λ n i e.
             let a = exception-again v s b h order n i e in
@@ -514,7 +513,7 @@ module _ (v : List ℕ) (short : length v ≤ 16384) where
             (λ i′ z. record { on = z .on; sound = rw (a .0) (z .run); tops = z .tops })
             (members NoLabels i n 0 i w f (λ j c. omega (arith, l j c, a .1)) some t₀))
 
-        aliases : Gives (Par (w .met) alias b order) (checkedIn v go alias s b order w)
+        aliases : Gives (Par (w .met) alias b order) (contentsAt v go alias s b order w)
         unfolding typeIn
         aliases =
             on-step (Gives (Par (w .met) alias b order)) (namesStep s order) w (λ i. go s b order i w) (λ r e. tt) (λ i e.
@@ -533,7 +532,7 @@ module _ (v : List ℕ) (short : length v ≤ 16384) where
               tops = y .tops some;
             }
 
-        sequences : Gives (Par (w .met) sequence b order) (checkedIn v go sequence s b order w)
+        sequences : Gives (Par (w .met) sequence b order) (contentsAt v go sequence s b order w)
         sequences =
             gives-then (Well (w .met) b order (indexOf 1)) (Par (w .met) sequence b order) (go s b order (indexOf 1) w)
             (λ i w′. onStep (numberStep s i order) w′ (λ next. goesOn next w′)) (hold s b order (indexOf 1) w h f l some t₀)
@@ -551,7 +550,7 @@ module _ (v : List ℕ) (short : length v ≤ 16384) where
               tops = y .tops some;
             }
 
-        arrays : Gives (Par (w .met) array b order) (checkedIn v go array s b order w)
+        arrays : Gives (Par (w .met) array b order) (contentsAt v go array s b order w)
         arrays =
             gives-then (Well (w .met) b order (indexOf 1)) (Par (w .met) array b order) (go s b order (indexOf 1) w)
             (λ i w′. onStep (lengthStep s i order) w′ (λ next. goesOn next w′)) (hold s b order (indexOf 1) w h f l some t₀)
@@ -596,7 +595,7 @@ module _ (v : List ℕ) (short : length v ≤ 16384) where
           unfolding switchedAt
           switched = switched-by (labelsAt v (w₁ .met) b i order) refl
 
-        unions : Gives (Par (w .met) union b order) (checkedIn v go union s b order w)
+        unions : Gives (Par (w .met) union b order) (contentsAt v go union s b order w)
         unfolding discriminantAt
         unions =
             on-step (Gives (Par (w .met) union b order)) (namesStep s order) w
@@ -606,7 +605,7 @@ module _ (v : List ℕ) (short : length v ≤ 16384) where
             (λ j w′. switchedAt v go (labelsAt v (w′ .met) b i order) s b order j w′) (hold s b order i w h f (λ j c. omega (arith, l j c, a .1)) some t₀)
             (λ j y. switched i (a .0) _ j y))
 
-        parameters : (layout : Layout) → Gives (Par (w .met) layout b order) (checkedIn v go layout s b order w)
+        parameters : (layout : Layout) → Gives (Par (w .met) layout b order) (contentsAt v go layout s b order w)
         parameters objref = objrefs
         parameters struct = structs
         parameters union = unions
@@ -650,15 +649,15 @@ module _ (v : List ℕ) (short : length v ≤ 16384) where
             }
 
         part : Gives (In here (w .met) (Composite layout) b order kind i)
-            (endedAt here (e - x) e (checkedIn v go layout (take (e - x) (drop x s)) (placeOf (b .0 + x)) o w))
+            (endedAt here (e - x) e (contentsAt v go layout (take (e - x) (drop x s)) (placeOf (b .0 + x)) o w))
         unfolding endedAt
         part =
-            gives-then (Par (w .met) layout (placeOf (b .0 + x)) o) (In here (w .met) (Composite layout) b order kind i) (checkedIn v go layout (take (e - x) (drop x s)) (placeOf (b .0 + x)) o w)
+            gives-then (Par (w .met) layout (placeOf (b .0 + x)) o) (In here (w .met) (Composite layout) b order kind i) (contentsAt v go layout (take (e - x) (drop x s)) (placeOf (b .0 + x)) o w)
             (λ i′ w′. cond (eqb (i′ .0) (e - x)) (goesOn (indexOf e) (closed w′ here)) (refusedAs BadEncapsulation w′))
             (parameters (take (e - x) (drop x s)) (placeOf (b .0 + x)) o (lies-part v s (b .0) x e h (omega (arith, d .some)) (d .ends)) w f
             (λ j c. omega (arith, l j c, field-over v s b h i Four order (d .size) (d .from) (d .read) .0, d .start)) some t₀ layout)
             (λ i′ y.
-            let w′ = checkedIn v go layout (take (e - x) (drop x s)) (placeOf (b .0 + x)) o w .walk in
+            let w′ = contentsAt v go layout (take (e - x) (drop x s)) (placeOf (b .0 + x)) o w .walk in
             on-cond (Gives (In here (w .met) (Composite layout) b order kind i)) (eqb (i′ .0) (e - x)) (goesOn (indexOf e) (closed w′ here)) (refusedAs BadEncapsulation w′)
             (λ z. ended i′ w′ (eqb-true (i′ .0) (e - x) z) y) (λ z. tt))
 
@@ -669,7 +668,7 @@ module _ (v : List ℕ) (short : length v ≤ 16384) where
       inside Bounded q = on-step (Gives (In here (w .met) Bounded b order kind i)) (numberStep s i order) w (λ next. goesOn next (closed w here)) (λ r e. tt) (λ next e. bounded next e)
       inside (Composite layout) q =
           on-part (Gives (In here (w .met) (Composite layout) b order kind i)) (partOf s i order) w
-          (λ x e o. endedAt here (e - x) e (checkedIn v go layout (take (e - x) (drop x s)) (placeOf (b .0 + x)) o w)) (λ r e. tt) (λ x e o p. part layout x e o (part-facts s i order x e o p))
+          (λ x e o. endedAt here (e - x) e (contentsAt v go layout (take (e - x) (drop x s)) (placeOf (b .0 + x)) o w)) (λ r e. tt) (λ x e o p. part layout x e o (part-facts s i order x e o p))
 
   -- ---- all levels
 

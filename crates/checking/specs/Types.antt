@@ -1,6 +1,8 @@
--- "A type nested in another is itself a TypeCode and is checked by the same rules": the check of a TypeCode in the octets s of its
--- encapsulation, which starts at the place b of the whole octets v and has an order; and of all that stands inside it, in octet order.
---   targetStep        36: "target not the place of a kind already met, or one still being read that is neither struct nor union"
+-- "A type nested in another is itself a TypeCode and is checked by the same rules": the check of a TypeCode in the octets s of the
+-- encapsulation it stands in, which starts at the place b of the whole octets v and has an order; and of all that stands inside it, in
+-- octet order.
+--   targetStep        36: "target not the place of a kind already met (an indirection is none), or one still being read that is neither
+--                     struct nor union"; the list of kinds met has no indirections
 --   aimedStep         the same of an offset's target
 --   indirectionAt     "at an indirection itself, 30 and 36 alone"
 --   Checker           a check of the types one level down
@@ -10,13 +12,16 @@
 --   switchHead        35 for a discriminant of another kind, then default and count
 --   switchedAt        what follows a discriminant: default, count and members
 --   discriminantAt    a union's discriminant and what follows it
---   parametersAt      "objref: id, name. Alias: id, name, type." and so on
+--   contentsAt        what an encapsulation of a layout holds: "objref: id, name. Alias: id, name, type." and so on
 --   endedAt           33: "parameters that don't end with it"
+--   partThen          what follows the head of an encapsulation, unless that is refused
 --   compositeAt       an encapsulation, whose octets "go on to the next reader as that part alone"
---   insideAt          what follows a kind of a form
+--   insideAt          what follows a kind of a form; one that is not listed is not entered
 --   enteredAt         a kind is met, and what follows it is checked
+--   Enterer           a check of what follows a kind of a form
+--   onEntry           what follows where a kind may stand, unless it may not
 --   kindAt            an indirection, or a kind that may stand there
---   enterAt           a kind of a form with so many levels left
+--   enterAt           a kind of a form with so many levels left; with none left no kind may stand there
 --   typeAt            a TypeCode with so many levels left
 --   octetsLimit       the most octets
 --   walkedOf          the check of octets as a TypeCode: "42 over 16,384 octets (before all else)"
@@ -99,19 +104,19 @@ unfoldable pub discriminantAt : List ℕ → Checker → List ℕ → Place → 
 discriminantAt v go s b order i w =
     after (go s b order i w) (λ j w′. switchedAt v go (labelsAt v (w′ .met) b i order) s b order j w′)
 
-abbrev pub parametersAt : List ℕ → Checker → Layout → List ℕ → Place → Order → Walk → Walked
-parametersAt v go Objref s b order w = onStep (namesStep s order) w (λ i. goesOn i w)
-parametersAt v go Alias s b order w = onStep (namesStep s order) w (λ i. go s b order i w)
-parametersAt v go Struct s b order w =
+abbrev pub contentsAt : List ℕ → Checker → Layout → List ℕ → Place → Order → Walk → Walked
+contentsAt v go Objref s b order w = onStep (namesStep s order) w (λ i. goesOn i w)
+contentsAt v go Alias s b order w = onStep (namesStep s order) w (λ i. go s b order i w)
+contentsAt v go Struct s b order w =
     countThen (headStep s order) w (λ n next. membersAt v go NoLabels s b order next n 0 next w)
-parametersAt v go Exception s b order w =
+contentsAt v go Exception s b order w =
     countThen (exceptionStep s order) w (λ n next. membersAt v go NoLabels s b order next n 0 next w)
-parametersAt v go Union s b order w =
+contentsAt v go Union s b order w =
     onStep (namesStep s order) w (λ i. discriminantAt v go s b order i w)
-parametersAt v go Enum s b order w = onStep (enumStep s order) w (λ i. goesOn i w)
-parametersAt v go Sequence s b order w =
+contentsAt v go Enum s b order w = onStep (enumStep s order) w (λ i. goesOn i w)
+contentsAt v go Sequence s b order w =
     after (go s b order (indexOf 1) w) (λ i w′. onStep (numberStep s i order) w′ (λ next. goesOn next w′))
-parametersAt v go Array s b order w =
+contentsAt v go Array s b order w =
     after (go s b order (indexOf 1) w) (λ i w′. onStep (lengthStep s i order) w′ (λ next. goesOn next w′))
 
 unfoldable pub endedAt : ℕ → ℕ → ℕ → Walked → Walked
@@ -124,7 +129,7 @@ partThen (Inside x e order) w f = f x e order
 unfoldable pub compositeAt : List ℕ → Checker → Layout → List ℕ → Place → Order → Index → Walk → ℕ → Walked
 compositeAt v go layout s b order i w here =
     partThen (partOf s i order) w (λ x e o.
-    endedAt here (e - x) e (parametersAt v go layout (take (e - x) (drop x s)) (placeOf (b .0 + x)) o w))
+    endedAt here (e - x) e (contentsAt v go layout (take (e - x) (drop x s)) (placeOf (b .0 + x)) o w))
 
 abbrev pub insideAt : List ℕ → Checker → Form → List ℕ → Place → Order → Index → Walk → ℕ → Walked
 insideAt v go Unlisted s b order i w here = refusedAs NoSuchKind w
@@ -135,7 +140,6 @@ insideAt v go (Composite layout) s b order i w here = compositeAt v go layout s 
 unfoldable pub enteredAt : List ℕ → Checker → Form → List ℕ → Place → Order → Index → Walk → Walked
 enteredAt v go form s b order next w = insideAt v go form s b order next (entered w (behind b next) b order form) (w .met .count)
 
--- a check of what follows a kind of a form
 abbrev pub Enterer : Type 0
 Enterer = Form → List ℕ → Place → Order → Index → Walk → Walked
 

@@ -1,6 +1,7 @@
 -- What a check has met so far, and how it goes on.
 --   nothingMet     no kind met
---   isBarred       a kind that is no target while it is read: "one still being read that is neither struct nor union"
+--   layoutBarred   a layout whose kinds are no target while they are read: "one still being read that is neither struct nor union"
+--   isBarred       the same of a form; what holds no type is read to its end before an indirection can follow
 --   entered        one more kind met, still being read
 --   closed         the kind at a position is read to its end
 --   refusedAs      the check ends with a refusal

@@ -1,8 +1,8 @@
-// The check of a TypeCode, octet by octet: 30 to 38 and 40. A type nested in another is checked by the same function, one level on.
+// The check of a TypeCode, octet by octet: 42, 30 to 38 and 40. A type nested in another is checked by the same function, one level on.
 ghost use mathlib.Core.Path.{_≡_};
 ghost use Prim.Native.Nat.{_+_, _≤_, _<_};
 ghost use lib.ListN.{length};
-ghost use Rattle.checking.specs.Types.{indirectionAt, discriminantAt, membersAt, labelsAt, parametersAt, insideAt, typeAt, walkedOf};
+ghost use Rattle.checking.specs.Types.{indirectionAt, discriminantAt, membersAt, labelsAt, contentsAt, insideAt, typeAt, walkedOf};
 use cdr::Index;
 use cdr::Order;
 use cdr::Place;
@@ -34,10 +34,8 @@ pub struct Walked {
     pub walk: Walk,
 }
 
-// The most octets, and the levels left at the top.
+// The most octets.
 const OCTETS_LIMIT: usize = 16384;
-
-const NESTING: u8 = 16;
 
 // Checks octets as a TypeCode in a byte order: where it ends or why it is refused, 42 and 30 to 38 and 40, and the kinds met.
 pub fn walk_type(v: &[u8], order: Order) -> Walked
@@ -47,7 +45,7 @@ pub fn walk_type(v: &[u8], order: Order) -> Walked
     if OCTETS_LIMIT < v.len() {
         return walks::refused(Refusal::TooLong, walk);
     }
-    check(v, v, Place(0), order, Index::START, NESTING, walk)
+    check(v, v, Place(0), order, Index::START, fields::NESTING, walk)
 }
 
 // Where an indirection leads whose offset stands at an index.
@@ -147,7 +145,7 @@ fn parameters(
     walk: Walk,
 ) -> Walked
     requires { ⌜ start .0 + length (now s) ≤ 16384 ⌝ }
-    ensures { λ r. ⌜ r ≡ parametersAt (now (v .entry)) (typeAt (now (v .entry)) left) layout (now (s .entry)) start order walk ⌝ }
+    ensures { λ r. ⌜ r ≡ contentsAt (now (v .entry)) (typeAt (now (v .entry)) left) layout (now (s .entry)) start order walk ⌝ }
 {
     match layout {
         Layout::Objref => walks::on(fields::names_step(s, order), walk),

@@ -4,11 +4,11 @@
 --   isListed         a kind that is listed
 --   nestingLimit     "nesting over 16 (the top is 1)": the levels left at the top
 --   kindsLimit       the most kinds
---   belowTop         a kind of the top where other levels are left
+--   belowTop         a kind that only the top may have, where fewer levels are left than at the top
 --   entryOf          whether a kind may stand where it does, with so many levels left and kinds met: "at one kind the order is 31, 40,
 --                    38, 37"
 --   thenStep         what follows, unless it is refused
---   stepFrom         what a string gives: "length 0, end, zeros; in types 32, 30, 32"
+--   stepFrom         what a string gives: "in types 32, 30, 32 likewise"
 --   textStep         a text
 --   namesStep        id and name
 --   numberStep       an unsigned long, as a bound is
@@ -17,17 +17,20 @@
 --   thenCount        a count after something else, unless that is refused
 --   headStep         id, name and count
 --   exceptionStep    the same of an exception
+--   onCount          what follows a count, unless that is refused
 --   lengthStep       an array's length, 34 for 0
 --   textsStep        n names one after the other
 --   enumStep         id, name, count, names
 --   partFrom         an encapsulation by its order octet: 33 "above 1"
 --   partOf           "a length, then an order octet": where an encapsulation starts and ends, and its order; 33 for "length 0 or beyond
 --                    its surroundings"
+--   noDefault        "-1 for none", as an unsigned long
 --   badDefault       "default below -1 or not below count", a long
 --   judged           a default "tested after the count"
 --   switchStep       default and count of a union
---   labelStep        a label before a member: 30, then 35 "out of its kind" or equal to one of those `done` from `first` on
-use Prim.Native.Nat.{ℕ, zero, suc, _+_, _-_}
+--   labelStep        a label before a member: 30, then 35 "out of its kind" or equal to one of those `done` from `first` on, which are
+--                    read again over the whole octets v, from the place b on
+use Prim.Native.Nat.{ℕ, zero, suc, _+_, _-_, _/_}
 use mathlib.Core.List.{List}
 use mathlib.Core.Bool.{Bool, true, false, cond, not, _||_}
 use lib.Dec.{ltb, leb, eqb}
@@ -57,7 +60,7 @@ use Rattle.fields.specs.declared.Part.the-variants.{NoPart, Inside}
 use Rattle.cdr.specs.Align.{indexOf}
 use Rattle.cdr.specs.Orders.{orderOf}
 use Rattle.encapsulation.specs.Encapsulation.{fieldOf, stringOf}
-use Rattle.kinds.specs.Parts.{onField}
+use Rattle.kinds.specs.Parts.{onField, longRange}
 use Rattle.met.specs.Discriminants.{outOfKind, labelAmong}
 
 abbrev pub topOnly : ℕ → Bool
@@ -145,8 +148,11 @@ partOf s i order =
     (cond (ltb (length s - next .0) n) (NoPart BadEncapsulation)
     (partFrom (orderOf (getD s (next .0) 0)) (next .0) (next .0 + n))))
 
+abbrev pub noDefault : ℕ
+noDefault = longRange - 1
+
 unfoldable pub badDefault : ℕ → ℕ → Bool
-badDefault d n = cond (eqb d 4294967295) false (cond (leb 2147483648 d) true (leb n d))
+badDefault d n = cond (eqb d noDefault) false (cond (leb (longRange / 2) d) true (leb n d))
 
 abbrev pub judged : ℕ → Count → Count
 judged d (Wrong r) = Wrong r

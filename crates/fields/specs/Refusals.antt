@@ -1,5 +1,5 @@
--- "Type refusals, first fault in octet order": 01's number of each. 39 is none of these: it comes "last of all", when no octet is at
--- fault.
+-- "Type refusals, first fault in octet order: 42 over 16,384 octets (before all else)" and so on: 01's number of each. 39 is none of
+-- these: it comes "last of all", when no octet is at fault.
 --   refusalNumber    the number of a refusal
 use Prim.Native.Nat.{ℕ}
 use Rattle.fields.specs.declared.Refusal.{Refusal}

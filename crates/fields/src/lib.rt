@@ -77,10 +77,8 @@ pub enum Part {
     },
 }
 
-// The levels left at the top, and the most kinds.
-const NESTING: u8 = 16;
-
-const KINDS: usize = 64;
+// The levels left at the top.
+pub const NESTING: u8 = 16;
 
 // Whether a kind stands at the top alone.
 fn top_only(kind: u64) -> bool
@@ -130,7 +128,7 @@ pub fn entry_of(form: Form, kind: u64, left: u8, count: usize) -> Entry
     if left == 0 {
         return Entry::Barred(Refusal::TooDeep);
     }
-    if KINDS <= count {
+    if met::KINDS_LIMIT <= count {
         return Entry::Barred(Refusal::TooManyKinds);
     }
     Entry::Enters

@@ -1,11 +1,14 @@
--- What a kind's parameters are, by its place, the place where its encapsulation starts, and that encapsulation's order, over the
--- octets v of the whole TypeCode. A type inside is given by its place, an indirection's by its target's.
+-- What a kind's parameters are, by its place, and the start and order of the encapsulation it stands in, over the octets v of the whole
+-- TypeCode. A type inside is given by its place, an indirection's by its target's. From `countIn` to `encapsulated`, b is the start of the
+-- kind's own encapsulation.
 --   fieldsOf            where members are listed: the encapsulation, their count, and the index of the first
 --   countIn             the count after id and name
 --   typeIn              the type after id and name
 --   elementIn           the type and the number after it, of a sequence or an array
+--   onElement           what follows a type and a number
 --   unionIn             default and count after a union's discriminant
 --   parametersIn        what an encapsulation of a layout holds: "objref: id, name. Alias: id, name, type." and so on
+--   onOrder             what follows an order octet
 --   encapsulated        the same behind its order octet
 --   parametersAfter     what follows a kind that was read
 --   parametersAt        the parameters of the kind at a place

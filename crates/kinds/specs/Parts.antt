@@ -1,22 +1,26 @@
 -- What stands at an index of an encapsulation, read from the octets of the whole TypeCode: v are these, b is the place where the
--- encapsulation starts, its own index 0. Nothing is judged here; an indirection is followed.
+-- encapsulation starts, its own index 0. Nothing is judged here; an indirection is followed. The octets from b on go further than the
+-- encapsulation does: of a kind that was read to its end all of it lies inside, and of a union that is asked for its own discriminant
+-- it only matters that it is none.
 --   placeOf        a place in the whole TypeCode
 --   onField        what follows a number
 --   onSkip         what follows something passed over
 --   onSpot         what follows a type
 --   fieldIn        a number
 --   skipField      a number passed over
---   skipCounted    counted octets passed over, as a text or an encapsulation is
+--   skipFrom       counted octets as something passed over
+--   skipCounted    a text or an encapsulation passed over by its length
 --   skipKind       what follows a kind of a form passed over
 --   behind         the place of an unsigned long that ends before an index
---   targetOf       "the offset's own place plus the offset", a long: 2^31 and above stand for 2^32 less; if a machine word holds it
+--   longRange      how many longs there are; those from half of it on are negative
+--   targetOf       "the offset's own place plus the offset", a long, if a machine word holds it
 --   aimedAt        the target's place, if there is one
 --   aimed          the target of the indirection whose offset is at an index
 --   spotAt         the place of the type that is written at an index, an indirection counting as its target; and the index after it
 --   leadIn         the label before a member's name, where members have labels, passed over
 --   memberAt       a member: a label where there are labels, a name, a type
 --   namesIn        id and name passed over, the first two parameters of all but a sequence and an array
-use Prim.Native.Nat.{ℕ, _+_, _-_, _^_}
+use Prim.Native.Nat.{ℕ, _+_, _-_, _/_, _^_}
 use mathlib.Core.List.{List}
 use mathlib.Core.Bool.{cond}
 use lib.Dec.{ltb, eqb}
@@ -81,10 +85,13 @@ skipKind (Composite layout) v b i order = skipCounted v b i order
 abbrev pub behind : Place → Index → Place
 behind b next = placeOf (b .0 + (next .0 - 4))
 
+abbrev pub longRange : ℕ
+longRange = 2 ^ 32
+
 unfoldable pub targetOf : Place → ℕ → Target
 targetOf p x =
-    cond (ltb x 2147483648) (cond (ltb (p .0 + x) (2 ^ 64)) (To (placeOf (p .0 + x))) Outside)
-    (cond (ltb (p .0) (4294967296 - x)) Outside (To (placeOf (p .0 - (4294967296 - x)))))
+    cond (ltb x (longRange / 2)) (cond (ltb (p .0 + x) (2 ^ 64)) (To (placeOf (p .0 + x))) Outside)
+    (cond (ltb (p .0) (longRange - x)) Outside (To (placeOf (p .0 - (longRange - x)))))
 
 abbrev pub aimedAt : Target → Index → Spot
 aimedAt (To p) next = At p next

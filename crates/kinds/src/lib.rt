@@ -13,7 +13,7 @@ use encapsulation::Field;
 mod inside;
 mod parts;
 
-// The kinds that are told from the others by name.
+// The kind of an indirection.
 pub const INDIRECTION: u64 = 0xFFFFFFFF;
 
 // What follows a kind.
@@ -117,7 +117,8 @@ pub struct Fields {
     pub first: Index,
 }
 
-// The parameters of a kind: of a leaf its kind, of a string its bound, of an enum the number of its names.
+// The parameters of a kind: of a leaf its kind, of a string its bound, of an enum the number of its names; a union's default as the
+// unsigned long that is recorded. A fault is what octets give that are no kind's parameters.
 pub enum Parameters {
     Fault,
     Leaf(u64),

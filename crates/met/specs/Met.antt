@@ -1,6 +1,7 @@
 -- "A list of at most 64 kinds met, with place, start and byte order": the first `count` entries of three arrays.
 --   noKinds         nothing met
---   roomFor         there is room for one more kind, at a place and in an encapsulation that the arrays can hold
+--   roomFor         there is room for one more kind, at a place and in an encapsulation that the arrays can hold, as every one of a type
+--                   of at most 16,384 octets is
 --   added           the list and one more kind
 --   findIn          the first of n positions from i on whose entry is p, else the one after them
 --   findPlace       the position of the kind at a place, the count where none is there

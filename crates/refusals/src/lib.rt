@@ -75,7 +75,7 @@ pub const NO_COUNT: u32 = 34;
 // A discriminant has another kind, a label is out of its kind or there twice, or a default is out of range.
 pub const BAD_UNION: u32 = 35;
 
-// An indirection's target is no kind met, or one that is still being read.
+// An indirection's target is no kind met, or one still being read that is neither struct nor union.
 pub const BAD_TARGET: u32 = 36;
 
 // A TypeCode has a 65th kind.

@@ -1,6 +1,6 @@
 -- "From a kind written at a place one steps to the kinds directly inside it, an indirection counting as its target; from a sequence
 -- there is no step." Steps go from position to position in the list of kinds met, by the kinds' parameters.
---   stands        the kind at a place has the position k
+--   stands        the kind at a place has the position k, of those that the list has
 --   memberIs      some of n members from an index on has the position k
 --   fieldIs       some of a kind's members has the position k
 --   leads         parameters lead to the kind at the position k: a struct's and an exception's members, a union's discriminant and

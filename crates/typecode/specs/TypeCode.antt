@@ -4,7 +4,7 @@
 --   answerNumbers   an answer's number, octets used and kinds written: "a refusal's other numbers are 0"
 --   refusedWith     an answer without a type
 --   acceptedType    octets used and kinds written, and the kinds met
---   kindsOf         the number of kinds in the list, at most 64
+--   kindsOf         the number of kinds in the list, of which a type that is walked to its end has at most 64
 --   loopLast        39: some kind returns to itself
 --   checkedFrom     what the walk over the octets gives
 --   checkedType     the check
