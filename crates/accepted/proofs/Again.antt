@@ -2,7 +2,7 @@
 use mathlib.Core.Path.{_≡_, refl, sym, _∙_, ap, subst}
 use mathlib.Core.List.{List}
 use mathlib.Core.Bool.{Bool, true, false, cond, true≢false}
-use mathlib.Core.Logic.{_⊎_, inl, inr, ⊎-elim}
+use mathlib.Core.Logic.{_⊎_, ⊎-elim}
 use Prim.Native.Nat.{ℕ, zero, suc, _+_, _-_, _≤_, _<_}
 use native.Mathlib.Omega.{arith}
 use native.Mathlib.Nat.{eq-or-lt-of-le}
@@ -54,19 +54,18 @@ use Rattle.cdr.specs.Align.{behindGap, indexOf}
 use Rattle.cdr.specs.Orders.{orderOctet, orderOf}
 use Rattle.encapsulation.specs.Encapsulation.{start, fieldOf}
 use Rattle.kinds.specs.Forms.{indirectionKind, formOf}
-use Rattle.kinds.specs.Parts.{placeOf, onField, onSkip, onSpot, fieldIn, skipField, skipCounted, skipFrom, skipKind, behind, targetOf, aimedAt, aimed, spotAt, memberAt, namesIn}
-use Rattle.kinds.specs.Parameters.{fieldsOf, countIn, typeIn, elementIn, onElement, unionIn, parametersIn, onOrder, encapsulated, parametersAfter, parametersAt}
-use Rattle.met.specs.Met.{noKinds, added, findIn, findPlace, orderIn, parametersOf}
+use Rattle.kinds.specs.Parts.{placeOf, onField, onSpot, fieldIn, skipField, skipKind, behind, targetOf, aimed, spotAt, namesIn}
+use Rattle.kinds.specs.Parameters.{countIn, typeIn, elementIn, onElement, unionIn, parametersIn, onOrder, encapsulated, parametersAfter, parametersAt}
+use Rattle.met.specs.Met.{added, findIn, findPlace, orderIn, parametersOf}
 use Rattle.met.specs.Discriminants.{labelsFor}
 use Rattle.fields.specs.Fields.{topOnly, belowTop, entryOf, nestingLimit, namesStep, numberStep, lengthStep, headStep, exceptionStep, enumStep, switchStep, partOf}
 use Rattle.checking.specs.Walk.{nothingMet, layoutBarred, isBarred, entered, closed, refusedAs, goesOn, onStep, countThen, after}
 use Rattle.checking.specs.Types.{targetStep, aimedStep, indirectionAt, Checker, Enterer, nameStep, membersAt, labelsAt, switchHead, switchedAt, discriminantAt, contentsAt, endedAt, partThen, compositeAt, insideAt, enteredAt, onEntry, kindAt, enterAt, typeAt}
 use Rattle.checking.proofs.Ways.{Entering, entry-facts, Found, part-facts}
-use Rattle.texts.proofs.Texts.{run-to}
 use Rattle.encapsulation.proofs.Fields.{field-facts}
-use Rattle.accepted.specs.Sound.{Listed, Inner, Members, Labelled, Sound, NotTop, Good}
+use Rattle.accepted.specs.Sound.{Listed, Members, Labelled, Sound, NotTop, Good}
 use Rattle.accepted.specs.Sound.Members.{none, one}
-use Rattle.accepted.proofs.Lists.{Grows, grows-none, grows-on, place-again, low-again, inner-again, parameters-again, find-new, labels-grow, sound-grows, good-grows}
+use Rattle.accepted.proofs.Lists.{Grows, grows-none, grows-on, place-again, low-again, inner-again, parameters-again, find-new, labels-grow, good-grows}
 use Rattle.accepted.proofs.Lies.{field-there, Lies, lies-whole, lies-part, octet-again, field-again, field-over, counted-again, names-again, number-read, head-again, exception-again, length-read, enum-again, switch-read, name-again}
 
 -- ---- by the cases of a definition, keeping what each test said

@@ -2,11 +2,10 @@
 use mathlib.Core.Path.{_≡_, refl, sym, _∙_, ap, subst}
 use mathlib.Core.List.{List}
 use mathlib.Core.Bool.{Bool, true, false, _||_, false≢true}
-use Prim.Native.Nat.{ℕ, zero, suc, _≤_, _<_, min}
+use Prim.Native.Nat.{ℕ, _≤_, _<_}
 use native.Mathlib.Nat.{min-eq-left}
-use native.Mathlib.Omega.{arith}
 use borrow.Author.Tests.{eqb-true, le-ltb, lt-ltb, ltb-true, ltb-false}
-use lib.Dec.{ltb, eqb}
+use lib.Dec.{ltb}
 use lib.ListN.{length, getD}
 use Rattle.choices.specs.Branch.{choose}
 use Rattle.choices.proofs.Choices.{by-test, clash}
@@ -14,32 +13,29 @@ use Rattle.cdr.specs.declared.Index.{Index}
 use Rattle.cdr.specs.declared.Place.{Place}
 use Rattle.cdr.specs.declared.Order.{Order}
 use Rattle.kinds.specs.declared.Labels.{Labels}
-use Rattle.kinds.specs.declared.Labels.the-variants.{NoLabels}
 use Rattle.kinds.specs.declared.Parameters.{Parameters}
 use Rattle.kinds.specs.declared.Parameters.the-variants.{Fault, Leaf, Text, Objref, Struct, Exception, Union, Enum, Sequence, Array, Alias}
 use Rattle.met.specs.declared.Met.{Met}
-use Rattle.fields.specs.declared.Refusal.{Refusal}
 use Rattle.fields.specs.declared.Refusal.the-variants.{TooLong}
 use Rattle.fields.specs.declared.Step.{Step}
 use Rattle.fields.specs.declared.Step.the-variants.{Refused as refused, Next}
 use Rattle.checking.specs.declared.Walk.{Walk}
 use Rattle.checking.specs.declared.Walked.{Walked}
-use Rattle.typecode.specs.declared.TypeAnswer.{TypeAnswer}
 use Rattle.typecode.specs.declared.TypeAnswer.the-variants.{Accepted, Refused, Loop}
 use Rattle.typecode.specs.declared.CheckedType.{CheckedType}
 use Rattle.cdr.specs.Align.{indexOf}
 use Rattle.cdr.specs.Orders.{orderOctet}
-use Rattle.kinds.specs.Parts.{placeOf, onSpot, memberAt}
-use Rattle.loops.specs.Loops.{Reaches, Returns, loopFound, rank}
+use Rattle.kinds.specs.Parts.{placeOf}
+use Rattle.loops.specs.Loops.{Returns, loopFound}
 use Rattle.loops.proofs.Deciding.{loop-decided}
 use Rattle.loops.proofs.Ranks.{rank-low, rank-falls}
 use Rattle.met.specs.Met.{findPlace, parametersOf}
 use Rattle.met.specs.Discriminants.{labelsFor}
 use Rattle.fields.specs.Fields.{nestingLimit}
-use Rattle.checking.specs.Walk.{nothingMet, refusedAs}
+use Rattle.checking.specs.Walk.{nothingMet}
 use Rattle.checking.specs.Types.{typeAt, walkedOf}
 use Rattle.steps.specs.Steps.{stands, memberIs, fieldIs, leads, steps}
-use Rattle.typecode.specs.TypeCode.{refusedWith, acceptedType, kindsOf, loopLast, checkedFrom, checkedType}
+use Rattle.typecode.specs.TypeCode.{refusedWith, acceptedType, kindsOf, loopLast, checkedType}
 use Rattle.accepted.specs.Sound.{Listed, Members, Sound, Good}
 use Rattle.accepted.specs.Sound.Members.{none, one}
 use Rattle.accepted.specs.Accepted.{Returning, AcceptedAs}

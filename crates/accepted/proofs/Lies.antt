@@ -1,7 +1,7 @@
 -- The octets of an encapsulation lie in the octets of the whole: what was read in them is read again by place.
 use mathlib.Core.Path.{_≡_, refl, sym, _∙_, ap, subst}
 use mathlib.Core.List.{List, [], _∷_}
-use mathlib.Core.Bool.{Bool, true, false}
+use mathlib.Core.Bool.{false}
 use Prim.Native.Nat.{ℕ, zero, suc, _+_, _-_, _≤_, _<_}
 use native.Mathlib.Omega.{arith}
 use borrow.Author.Tests.{eqb-false}
@@ -18,11 +18,9 @@ use Rattle.encapsulation.specs.declared.Field.{Field}
 use Rattle.encapsulation.specs.declared.Field.the-variants.{Value, NoField}
 use Rattle.encapsulation.specs.declared.Str.{Str}
 use Rattle.encapsulation.specs.declared.Str.the-variants.{Characters, BadText, NoText}
-use Rattle.kinds.specs.declared.Skip.{Skip}
-use Rattle.kinds.specs.declared.Skip.the-variants.{Past, NoEnd}
+use Rattle.kinds.specs.declared.Skip.the-variants.{Past}
 use Rattle.kinds.specs.declared.Labels.{Labels}
 use Rattle.kinds.specs.declared.Labels.the-variants.{Of, NoLabels}
-use Rattle.fields.specs.declared.Refusal.{Refusal}
 use Rattle.fields.specs.declared.Refusal.the-variants.{Ends, BadUnion, NoCount}
 use Rattle.fields.specs.declared.Step.{Step}
 use Rattle.fields.specs.declared.Step.the-variants.{Refused, Next}
@@ -34,7 +32,7 @@ use Rattle.texts.proofs.Texts.{run-to}
 use Rattle.encapsulation.specs.Encapsulation.{start, fieldOf, stringOf}
 use Rattle.encapsulation.proofs.Fields.{field-facts, field-is, counted-is}
 use Rattle.cdr.proofs.Alignment.{read-number}
-use Rattle.kinds.specs.Parts.{placeOf, onField, onSkip, fieldIn, skipField, skipFrom, skipCounted, leadIn, spotAt, memberAt, namesIn}
+use Rattle.kinds.specs.Parts.{onField, fieldIn, skipField, skipFrom, skipCounted, leadIn, spotAt, memberAt, namesIn}
 use Rattle.kinds.specs.Parameters.{countIn}
 use Rattle.met.specs.Discriminants.{outOfKind, labelAmong}
 use Rattle.fields.specs.Fields.{stepFrom, textStep, thenStep, namesStep, numberStep, countStep, anyCount, thenCount, headStep, exceptionStep, onCount, lengthStep, textsStep, enumStep, badDefault, judged, switchStep, labelStep}

@@ -2,7 +2,7 @@
 use mathlib.Core.Path.{_≡_, refl, sym, _∙_, ap, subst}
 use mathlib.Core.List.{List}
 use mathlib.Core.Bool.{Bool, true, false, not}
-use Prim.Native.Nat.{ℕ, zero, suc, _+_, _-_, _≤_, _<_}
+use Prim.Native.Nat.{ℕ, suc, _+_, _-_, _≤_, _<_}
 use native.Mathlib.Omega.{arith}
 use borrow.Author.Tests.{eq-eqb, ne-eqb, eqb-false, leb-false, ltb-false}
 use lib.Dec.{eqb, leb, ltb}
@@ -19,12 +19,10 @@ use Rattle.kinds.specs.declared.Form.{Form}
 use Rattle.kinds.specs.declared.Labels.{Labels}
 use Rattle.fields.specs.declared.Refusal.{Refusal}
 use Rattle.fields.specs.declared.Refusal.the-variants.{Ends, NoSuchKind, BadEncapsulation, BelowTop, TooDeep, TooManyKinds}
-use Rattle.fields.specs.declared.Entry.{Entry}
 use Rattle.fields.specs.declared.Entry.the-variants.{Barred, Enters}
 use Rattle.fields.specs.declared.Step.{Step}
 use Rattle.fields.specs.declared.Step.the-variants.{Refused, Next}
 use Rattle.fields.specs.declared.Count.the-variants.{Wrong, Stands}
-use Rattle.fields.specs.declared.Part.{Part}
 use Rattle.fields.specs.declared.Part.the-variants.{NoPart, Inside}
 use Rattle.cdr.specs.declared.Named.{Named}
 use Rattle.cdr.specs.declared.Named.the-variants.{Is, NoOrder}
@@ -36,7 +34,7 @@ use Rattle.kinds.specs.Parts.{behind}
 use Rattle.fields.specs.Fields.{isListed, belowTop, entryOf, partFrom, partOf}
 use Rattle.cdr.specs.Orders.{orderOf}
 use Rattle.encapsulation.proofs.Fields.{field-facts}
-use Rattle.checking.specs.Walk.{entered, refusedAs, goesOn, onStep, after}
+use Rattle.checking.specs.Walk.{entered, refusedAs, goesOn, onStep}
 use Rattle.checking.specs.Types.{Checker, indirectionAt, nameStep, membersAt, labelsAt, switchHead, switchedAt, discriminantAt, insideAt, enteredAt, kindAt, enterAt, typeAt}
 
 -- a step and what was met

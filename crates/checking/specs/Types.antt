@@ -27,7 +27,7 @@
 --   walkedOf          the check of octets as a TypeCode: "42 over 16,384 octets (before all else)"
 use Prim.Native.Nat.{ℕ, zero, suc, _+_, _-_}
 use mathlib.Core.List.{List}
-use mathlib.Core.Bool.{Bool, true, false, cond}
+use mathlib.Core.Bool.{false, cond}
 use lib.Dec.{ltb, eqb}
 use lib.ListN.{length, getD, take, drop}
 use Rattle.choices.specs.Branch.{choose}

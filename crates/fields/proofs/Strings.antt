@@ -1,7 +1,6 @@
 -- A text that was read: its length stands before it, and it ends in the octets.
-use mathlib.Core.Path.{_≡_, refl, sym, _∙_, ap, subst}
+use mathlib.Core.Path.{_≡_, refl, subst}
 use mathlib.Core.List.{List}
-use mathlib.Core.Bool.{Bool, true, false}
 use Prim.Native.Nat.{ℕ, _+_, _-_, _≤_}
 use native.Mathlib.Omega.{arith}
 use borrow.Author.Tests.{eqb-false, ltb-false}
@@ -13,7 +12,7 @@ use Rattle.cdr.specs.declared.Order.{Order}
 use Rattle.cdr.specs.declared.Size.the-variants.{Four}
 use Rattle.encapsulation.specs.declared.Field.{Field}
 use Rattle.encapsulation.specs.declared.Field.the-variants.{Value, NoField}
-use Rattle.encapsulation.specs.declared.Str.the-variants.{Characters, BadText, NoText}
+use Rattle.encapsulation.specs.declared.Str.the-variants.{Characters}
 use Rattle.texts.specs.declared.Text.{Text}
 use Rattle.texts.specs.declared.Text.the-variants.{Chars, Empty, Over, Short, Zeros}
 use Rattle.texts.specs.Text.{textOf, overBound, endsText}

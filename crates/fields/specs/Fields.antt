@@ -47,7 +47,6 @@ use Rattle.kinds.specs.declared.Form.{Form}
 use Rattle.kinds.specs.declared.Form.the-variants.{Unlisted, Plain, Bounded, Composite}
 use Rattle.kinds.specs.declared.Labels.{Labels}
 use Rattle.kinds.specs.declared.Labels.the-variants.{Of, NoLabels}
-use Rattle.fields.specs.declared.Refusal.{Refusal}
 use Rattle.fields.specs.declared.Refusal.the-variants.{Ends, NoSuchKind, BadText, BadEncapsulation, NoCount, BadUnion, TooManyKinds, TooDeep, BelowTop}
 use Rattle.fields.specs.declared.Entry.{Entry}
 use Rattle.fields.specs.declared.Entry.the-variants.{Barred, Enters}

@@ -1,7 +1,6 @@
 -- What is read in an encapsulation lies in the octets of the whole.
-use mathlib.Core.Path.{_≡_, refl, sym, _∙_, ap, subst}
+use mathlib.Core.Path.{_≡_, refl, subst}
 use mathlib.Core.List.{List}
-use mathlib.Core.Bool.{Bool, true, false}
 use Prim.Native.Nat.{ℕ, _+_, _-_, _≤_, _<_, _^_}
 use native.Mathlib.Omega.{arith}
 use borrow.Author.Tests.{lt-ltb, le-ltb}
@@ -15,17 +14,15 @@ use Rattle.cdr.specs.declared.Size.{Size}
 use Rattle.cdr.specs.declared.Size.the-variants.{One, Two, Four, Eight}
 use Rattle.encapsulation.specs.declared.Field.{Field}
 use Rattle.encapsulation.specs.declared.Field.the-variants.{Value, NoField}
-use Rattle.encapsulation.specs.declared.Counted.{Counted}
 use Rattle.encapsulation.specs.declared.Counted.the-variants.{Octets, NoOctets}
 use Rattle.texts.specs.declared.Run.{Run}
 use Rattle.texts.specs.declared.Run.the-variants.{To as Upto, Past as Beyond}
 use Rattle.texts.specs.Text.{runOf}
-use Rattle.cdr.specs.Align.{octets, behindGap, indexOf}
+use Rattle.cdr.specs.Align.{octets}
 use Rattle.encapsulation.specs.Encapsulation.{start, fieldOf, countedOf, countedAfter, countedFrom}
-use Rattle.encapsulation.proofs.Fields.{field-facts, field-none, counted-none, counted-is}
+use Rattle.encapsulation.proofs.Fields.{field-facts, field-none, counted-none}
 use Rattle.cdr.proofs.Alignment.{read-ends}
 use Rattle.texts.proofs.Texts.{run-facts}
-use Rattle.kinds.specs.declared.Target.{Target}
 use Rattle.kinds.specs.declared.Target.the-variants.{To, Outside}
 use Rattle.kinds.specs.Parts.{placeOf, fieldIn, targetOf}
 

@@ -4,8 +4,8 @@ use mathlib.Core.List.{List}
 use mathlib.Core.Bool.{Bool, true, false}
 use Prim.Native.Nat.{ℕ, zero, suc, _+_, _-_, _≤_, _<_}
 use native.Mathlib.Omega.{arith}
-use borrow.Author.Tests.{lt-ltb, le-ltb, eq-eqb, ne-eqb, ltb-true, ltb-false}
-use lib.Dec.{ltb, eqb}
+use borrow.Author.Tests.{lt-ltb, le-ltb, eq-eqb, ne-eqb, ltb-true}
+use lib.Dec.{ltb}
 use lib.ListN.{getD}
 use Rattle.choices.specs.Branch.{choose}
 use Rattle.choices.proofs.Choices.{clash}
@@ -13,11 +13,10 @@ use Rattle.cdr.specs.declared.Index.{Index}
 use Rattle.cdr.specs.declared.Place.{Place}
 use Rattle.cdr.specs.declared.Order.{Order}
 use Rattle.kinds.specs.declared.Labels.{Labels}
-use Rattle.kinds.specs.declared.Labels.the-variants.{Of, NoLabels}
+use Rattle.kinds.specs.declared.Labels.the-variants.{NoLabels}
 use Rattle.kinds.specs.declared.Spot.the-variants.{At, Nowhere}
-use Rattle.kinds.specs.Parts.{memberAt, onSpot}
+use Rattle.kinds.specs.Parts.{memberAt}
 use Rattle.met.specs.declared.Met.{Met}
-use Rattle.met.specs.declared.Position.{Position}
 use Rattle.met.specs.declared.Position.the-variants.{Is, NoPosition}
 use Rattle.met.specs.declared.Discriminant.{Discriminant}
 use Rattle.met.specs.declared.Discriminant.the-variants.{Through, Says}

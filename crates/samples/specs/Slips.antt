@@ -2,7 +2,6 @@
 --   slips         the table
 --   slips-hold    the statement
 use mathlib.Core.List.{List, [], _∷_}
-use Prim.Native.Nat.{ℕ}
 use lib.Dec.{T}
 use Rattle.cdr.specs.declared.Order.the-variants.{Big}
 use Rattle.cdr.specs.Number.{littleNumber, littleOctets, numberOf, octetsOf, numberAt}

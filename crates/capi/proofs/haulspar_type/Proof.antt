@@ -1,48 +1,36 @@
+-- A TypeCode checked: 0, or 30 to 40, or 42. Of an accepted one `numbers` gets the octets used and the kinds written; `places`, `starts`
+-- and `orders` get what is met of each kind, 0 past the last.
 use borrow.Author.Needs.{needs}
 use Rattle.capi.proofs.haulspar_type.Statement.{statement}
 use Rattle.capi.proofs.haulspar_type.Tie as tie
-use Rattle.capi.proofs.haulspar_type.Reads as reads
-use Rattle.capi.proofs.haulspar_type.Lts as lts
-use Rattle.capi.proofs.order_is.Reads as order-is-reads
-use Rattle.fields.proofs.Refusal.number.Reads as number-reads
-use Rattle.typecode.proofs.check_type.Reads as check-type-reads
-use mathlib.Core.Path.{_≡_, sym, _∙_, ap}
+use mathlib.Core.Path.{_∙_, ap}
 use Rattle.typecode.specs.TypeCode.{checkedType}
 use Rattle.capi.proofs.Calls.{checks-accepted, checks-refused, checks-loop}
 
--- src/lib.rt:185:42
 order-is-requires : tie.Need-order-is-requires
 order-is-requires c κs = search needs
 
--- src/lib.rt:185:9
 check-type-requires : tie.Need-check-type-requires
 check-type-requires c κs = search needs
 
--- src/lib.rt:192:32
 enum-known-answer : tie.Need-enum-known-answer
 enum-known-answer c = search needs
 
--- src/lib.rt:199:29
 enum-known-answer-2 : tie.Need-enum-known-answer-2
 enum-known-answer-2 c = search needs
 
--- src/lib.rt:199:41
 number-requires : tie.Need-number-requires
 number-requires c κs = search needs
 
--- src/lib.rt:200:29
 enum-told : tie.Need-enum-told
 enum-told c = search needs
 
--- src/lib.rt:174:1
 returns : tie.Need-returns
 returns c = checks-accepted (c .before .before .before .before .before .before .before .before .before .before .before .args .octets .now) (c .before .before .before .before .before .before .before .before .before .before .before .args .little) _ _ _ _ (c .before .before .before .before .before .before .before .before .check-type .result) (c .before .before .before .before .before .before .before .before .check-type .ensures ∙ ap (checkedType (c .before .before .before .before .before .before .before .before .before .before .before .args .octets .now)) (c .before .before .before .before .before .before .before .before .before .order-is .ensures)) _ _ (c .before .before .answer .given .1)
 
--- src/lib.rt:174:1
 returns-2 : tie.Need-returns-2
 returns-2 c = checks-refused (c .before .before .before .before .before .before .before .before .before .before .before .args .octets .now) (c .before .before .before .before .before .before .before .before .before .before .before .args .little) _ _ _ _ (c .before .before .before .before .before .before .before .before .check-type .result) (c .before .before .before .before .before .before .before .before .check-type .ensures ∙ ap (checkedType (c .before .before .before .before .before .before .before .before .before .before .before .args .octets .now)) (c .before .before .before .before .before .before .before .before .before .order-is .ensures)) _ (c .before .before .answer2 .given .1) _ (c .number .ensures)
 
--- src/lib.rt:174:1
 returns-3 : tie.Need-returns-3
 returns-3 c = checks-loop (c .before .before .before .before .before .before .before .before .before .args .octets .now) (c .before .before .before .before .before .before .before .before .before .args .little) _ _ _ _ (c .before .before .before .before .before .before .check-type .result) (c .before .before .before .before .before .before .check-type .ensures ∙ ap (checkedType (c .before .before .before .before .before .before .before .before .before .args .octets .now)) (c .before .before .before .before .before .before .before .order-is .ensures)) (c .enum-told .given .1)
 

@@ -1,3 +1,4 @@
+-- The cycle of the check: a type, what follows its kind, what an encapsulation holds, a union, and members.
 use borrow.Author.Needs.{needs}
 use Prim.Native.Nat.{ℕ, _<_}
 use mathlib.Core.Path.{_≡_, sym, _∙_, ap}
@@ -107,183 +108,139 @@ switched-below t =
 abbrev check-of : ℕ → check-lts.Claims
 check-of t = (read-field-reads.Asked, read-field-reads.Learnt, refused-reads.Asked, refused-reads.Learnt, indirection-reads.Asked, indirection-reads.Learnt, form-of-reads.Asked, form-of-reads.Learnt, count-reads.Asked, count-reads.Learnt, entry-of-reads.Asked, entry-of-reads.Learnt, enter-reads.Asked, enter-reads.Learnt, inside-below t, inside.Post)
 
--- src/lib.rt:78:46
 check-read-field-requires : (t : ℕ) → check-lts.Need-read-field-requires (check-of t) (check-at t) check.Post
 check-read-field-requires t c κs = search needs
 
--- src/lib.rt:78:31
 check-enum-known-kind : (t : ℕ) → check-lts.Need-enum-known-kind (check-of t) (check-at t) check.Post
 check-enum-known-kind t c = search needs
 
--- src/lib.rt:80:31
 check-enum-told : (t : ℕ) → check-lts.Need-enum-told (check-of t) (check-at t) check.Post
 check-enum-told t c = search needs
 
--- src/lib.rt:80:9
 check-refused-requires : (t : ℕ) → check-lts.Need-refused-requires (check-of t) (check-at t) check.Post
 check-refused-requires t c κs = search needs
 
--- src/lib.rt:80:9
 check-returns : (t : ℕ) → check-lts.Need-returns (check-of t) (check-at t) check.Post
 check-returns t c = c .refused .ensures ∙ type-ends (c .before .before .before .before .before .before .args .v .now) (c .before .before .before .before .before .before .args .left) (c .before .before .before .before .before .before .args .s .now) (c .before .before .before .before .before .before .args .start) (c .before .before .before .before .before .before .args .order) (c .before .before .before .before .before .before .args .at) (c .before .before .before .before .before .before .args .walk) (sym (c .before .before .before .read-field .ensures) ∙ c .before .enum-told .given .1)
 
--- src/lib.rt:83:9
 check-indirection-requires : (t : ℕ) → check-lts.Need-indirection-requires (check-of t) (check-at t) check.Post
 check-indirection-requires t c κs = search needs
 
--- src/lib.rt:83:9
 check-returns-2 : (t : ℕ) → check-lts.Need-returns-2 (check-of t) (check-at t) check.Post
 check-returns-2 t c = c .indirection .ensures ∙ type-indirection (c .before .before .before .before .before .before .before .before .args .v .now) (c .before .before .before .before .before .before .before .before .args .left) (c .before .before .before .before .before .before .before .before .args .s .now) (c .before .before .before .before .before .before .before .before .args .start) (c .before .before .before .before .before .before .before .before .args .order) (c .before .before .before .before .before .before .before .before .args .at) (c .before .before .before .before .before .before .before .before .args .walk) _ _ (sym (c .before .before .before .before .before .read-field .ensures) ∙ c .before .before .before .kind .given .1) (c .before .if1 .taken)
 
--- src/lib.rt:85:9
 check-form-of-requires : (t : ℕ) → check-lts.Need-form-of-requires (check-of t) (check-at t) check.Post
 check-form-of-requires t c κs = search needs
 
--- src/lib.rt:86:9
 check-count-requires : (t : ℕ) → check-lts.Need-count-requires (check-of t) (check-at t) check.Post
 check-count-requires t c κs = search needs
 
--- src/lib.rt:87:11
 check-entry-of-requires : (t : ℕ) → check-lts.Need-entry-of-requires (check-of t) (check-at t) check.Post
 check-entry-of-requires t c κs = search needs
 
--- src/lib.rt:88:23
 check-enum-known-refusal : (t : ℕ) → check-lts.Need-enum-known-refusal (check-of t) (check-at t) check.Post
 check-enum-known-refusal t c = search needs
 
--- src/lib.rt:88:35
 check-refused-requires-2 : (t : ℕ) → check-lts.Need-refused-requires-2 (check-of t) (check-at t) check.Post
 check-refused-requires-2 t c κs = search needs
 
--- src/lib.rt:90:42
 check-enum-told-2 : (t : ℕ) → check-lts.Need-enum-told-2 (check-of t) (check-at t) check.Post
 check-enum-told-2 t c = search needs
 
--- src/lib.rt:90:42
 check-sub-t21 : (t : ℕ) → check-lts.Need-sub-t21 (check-of t) (check-at t) check.Post
 check-sub-t21 t c = omega (arith, field-facts (c .before .before .before .before .before .before .before .before .before .before .before .before .before .args .s .now) (c .before .before .before .before .before .before .before .before .before .before .before .before .before .args .at) Four (c .before .before .before .before .before .before .before .before .before .before .before .before .before .args .order) _ _ (sym (c .before .before .before .before .before .before .before .before .before .before .read-field .ensures) ∙ c .before .before .before .before .before .before .before .before .kind .given .1) .ends)
 
--- src/lib.rt:90:31
 check-add-t22 : (t : ℕ) → check-lts.Need-add-t22 (check-of t) (check-at t) check.Post
 check-add-t22 t c = omega (arith, field-facts (c .before .before .before .before .before .before .before .before .before .before .before .before .before .before .args .s .now) (c .before .before .before .before .before .before .before .before .before .before .before .before .before .before .args .at) Four (c .before .before .before .before .before .before .before .before .before .before .before .before .before .before .args .order) _ _ (sym (c .before .before .before .before .before .before .before .before .before .before .before .read-field .ensures) ∙ c .before .before .before .before .before .before .before .before .before .kind .given .1) .fits, field-facts (c .before .before .before .before .before .before .before .before .before .before .before .before .before .before .args .s .now) (c .before .before .before .before .before .before .before .before .before .before .before .before .before .before .args .at) Four (c .before .before .before .before .before .before .before .before .before .before .before .before .before .before .args .order) _ _ (sym (c .before .before .before .before .before .before .before .before .before .before .before .read-field .ensures) ∙ c .before .before .before .before .before .before .before .before .before .kind .given .1) .ends, c .before .before .before .before .before .before .before .before .before .before .before .before .before .before .pre .1)
 
--- src/lib.rt:91:17
 check-enter-requires : (t : ℕ) → check-lts.Need-enter-requires (check-of t) (check-at t) check.Post
 check-enter-requires t c κs = omega (arith, entry-facts (c .before .before .before .before .before .before .form-of .result) _ (c .before .before .before .before .before .before .before .before .before .before .before .before .before .before .args .left) (c .before .before .before .before .before .count .result) (sym (c .before .before .before .before .entry-of .ensures) ∙ c .before .before .enum-told2 .given .1) .room, c .before .before .before .before .before .count .ensures)
 
--- src/lib.rt:92:52
 check-sub-inside : (t : ℕ) → check-lts.Need-sub-inside (check-of t) (check-at t) check.Post
 check-sub-inside t c = omega (arith, entry-facts (c .before .before .before .before .before .before .before .form-of .result) _ (c .before .before .before .before .before .before .before .before .before .before .before .before .before .before .before .args .left) (c .before .before .before .before .before .before .count .result) (sym (c .before .before .before .before .before .entry-of .ensures) ∙ c .before .before .before .enum-told2 .given .1) .some)
 
--- src/lib.rt:92:13
 check-inside-requires : (t : ℕ) → check-lts.Need-inside-requires (check-of t) (check-at t) check.Post
 check-inside-requires t c κs = (omega (arith, entry-facts (c .before .before .before .before .before .before .before .form-of .result) _ (c .before .before .before .before .before .before .before .before .before .before .before .before .before .before .before .args .left) (c .before .before .before .before .before .before .count .result) (sym (c .before .before .before .before .before .entry-of .ensures) ∙ c .before .before .before .enum-told2 .given .1) .some, c .before .before .before .before .before .before .before .before .before .before .before .before .before .before .before .pre .0), (omega (arith, c .before .before .before .before .before .before .before .before .before .before .before .before .before .before .before .pre .1), omega (arith, entry-facts (c .before .before .before .before .before .before .before .form-of .result) _ (c .before .before .before .before .before .before .before .before .before .before .before .before .before .before .before .args .left) (c .before .before .before .before .before .before .count .result) (sym (c .before .before .before .before .before .entry-of .ensures) ∙ c .before .before .before .enum-told2 .given .1) .room)))
 
--- src/lib.rt:66:1
 check-returns-3 : (t : ℕ) → check-lts.Need-returns-3 (check-of t) (check-at t) check.Post
 check-returns-3 t c = c .refused2 .ensures ∙ type-barred (c .before .before .before .before .before .before .before .before .before .before .before .before .before .before .args .v .now) (c .before .before .before .before .before .before .before .before .before .before .before .before .before .before .args .left) (c .before .before .before .before .before .before .before .before .before .before .before .before .before .before .args .s .now) (c .before .before .before .before .before .before .before .before .before .before .before .before .before .before .args .start) (c .before .before .before .before .before .before .before .before .before .before .before .before .before .before .args .order) (c .before .before .before .before .before .before .before .before .before .before .before .before .before .before .args .at) (c .before .before .before .before .before .before .before .before .before .before .before .before .before .before .args .walk) _ _ (sym (c .before .before .before .before .before .before .before .before .before .before .before .read-field .ensures) ∙ c .before .before .before .before .before .before .before .before .before .kind .given .1) (c .before .before .before .before .before .before .before .if1 .left) (c .before .before .before .before .before .before .form-of .result) (c .before .before .before .before .before .before .form-of .ensures) (c .before .before .before .before .before .count .result) (c .before .before .before .before .before .count .ensures) _ (sym (c .before .before .before .before .entry-of .ensures) ∙ c .before .before .refusal .given .1)
 
--- src/lib.rt:66:1
 check-returns-4 : (t : ℕ) → check-lts.Need-returns-4 (check-of t) (check-at t) check.Post
 check-returns-4 t c = c .inside .ensures ∙ type-enters (c .before .before .before .before .before .before .before .before .before .before .before .before .before .before .before .before .args .v .now) (c .before .before .before .before .before .before .before .before .before .before .before .before .before .before .before .before .args .left) (c .before .before .before .before .before .before .before .before .before .before .before .before .before .before .before .before .args .s .now) (c .before .before .before .before .before .before .before .before .before .before .before .before .before .before .before .before .args .start) (c .before .before .before .before .before .before .before .before .before .before .before .before .before .before .before .before .args .order) (c .before .before .before .before .before .before .before .before .before .before .before .before .before .before .before .before .args .at) (c .before .before .before .before .before .before .before .before .before .before .before .before .before .before .before .before .args .walk) _ _ (sym (c .before .before .before .before .before .before .before .before .before .before .before .before .before .read-field .ensures) ∙ c .before .before .before .before .before .before .before .before .before .before .before .kind .given .1) (c .before .before .before .before .before .before .before .before .before .if1 .left) (c .before .before .before .before .before .before .before .before .form-of .result) (c .before .before .before .before .before .before .before .before .form-of .ensures) (c .before .before .before .before .before .before .before .count .result) (c .before .before .before .before .before .before .before .count .ensures) (sym (c .before .before .before .before .before .before .entry-of .ensures) ∙ c .before .before .before .before .enum-told2 .given .1) (c .before .enter .result) (c .before .enter .ensures)
 
 abbrev inside-of : ℕ → inside-lts.Claims
 inside-of t = (refused-reads.Asked, refused-reads.Learnt, close-reads.Asked, close-reads.Learnt, goes-on-reads.Asked, goes-on-reads.Learnt, bounded-reads.Asked, bounded-reads.Learnt, part-at-reads.Asked, part-at-reads.Learnt, parameters-below t, parameters.Post, ended-reads.Asked, ended-reads.Learnt)
 
--- src/lib.rt:113:42
 inside-enum-told : (t : ℕ) → inside-lts.Need-enum-told (inside-of t) (inside-at t) inside.Post
 inside-enum-told t c = search needs
 
--- src/lib.rt:113:27
 inside-refused-requires : (t : ℕ) → inside-lts.Need-refused-requires (inside-of t) (inside-at t) inside.Post
 inside-refused-requires t c κs = search needs
 
--- src/lib.rt:114:43
 inside-enum-told-2 : (t : ℕ) → inside-lts.Need-enum-told-2 (inside-of t) (inside-at t) inside.Post
 inside-enum-told-2 t c = search needs
 
--- src/lib.rt:114:43
 inside-close-requires : (t : ℕ) → inside-lts.Need-close-requires (inside-of t) (inside-at t) inside.Post
 inside-close-requires t c κs = search needs
 
--- src/lib.rt:114:24
 inside-goes-on-requires : (t : ℕ) → inside-lts.Need-goes-on-requires (inside-of t) (inside-at t) inside.Post
 inside-goes-on-requires t c κs = search needs
 
--- src/lib.rt:115:26
 inside-enum-told-3 : (t : ℕ) → inside-lts.Need-enum-told-3 (inside-of t) (inside-at t) inside.Post
 inside-enum-told-3 t c = search needs
 
--- src/lib.rt:115:26
 inside-bounded-requires : (t : ℕ) → inside-lts.Need-bounded-requires (inside-of t) (inside-at t) inside.Post
 inside-bounded-requires t c κs = search needs
 
--- src/lib.rt:116:25
 inside-enum-known-form : (t : ℕ) → inside-lts.Need-enum-known-form (inside-of t) (inside-at t) inside.Post
 inside-enum-known-form t c = search needs
 
--- src/lib.rt:116:42
 inside-part-at-requires : (t : ℕ) → inside-lts.Need-part-at-requires (inside-of t) (inside-at t) inside.Post
 inside-part-at-requires t c κs = search needs
 
--- src/lib.rt:117:26
 inside-enum-known-refusal : (t : ℕ) → inside-lts.Need-enum-known-refusal (inside-of t) (inside-at t) inside.Post
 inside-enum-known-refusal t c = search needs
 
--- src/lib.rt:117:38
 inside-refused-requires-2 : (t : ℕ) → inside-lts.Need-refused-requires-2 (inside-of t) (inside-at t) inside.Post
 inside-refused-requires-2 t c κs = search needs
 
--- src/lib.rt:119:24
 inside-enum-known-from : (t : ℕ) → inside-lts.Need-enum-known-from (inside-of t) (inside-at t) inside.Post
 inside-enum-known-from t c = search needs
 
--- src/lib.rt:123:35
 inside-add-parameters : (t : ℕ) → inside-lts.Need-add-parameters (inside-of t) (inside-at t) inside.Post
 inside-add-parameters t c = omega (arith, c .before .before .before .before .before .before .before .before .before .before .pre .1 .0, part-facts (c .before .before .before .before .before .before .before .before .before .before .args .s .now) (c .before .before .before .before .before .before .before .before .before .before .args .at) (c .before .before .before .before .before .before .before .before .before .before .args .order) _ _ _ (sym (c .before .before .before .before .part-at .ensures) ∙ c .before .before .from .given .1) .ends, part-facts (c .before .before .before .before .before .before .before .before .before .before .args .s .now) (c .before .before .before .before .before .before .before .before .before .before .args .at) (c .before .before .before .before .before .before .before .before .before .before .args .order) _ _ _ (sym (c .before .before .before .before .part-at .ensures) ∙ c .before .before .from .given .1) .some)
 
--- src/lib.rt:124:47
 inside-sub-parameters : (t : ℕ) → inside-lts.Need-sub-parameters (inside-of t) (inside-at t) inside.Post
 inside-sub-parameters t c = omega (arith, part-facts (c .before .before .before .before .before .before .before .before .before .before .args .s .now) (c .before .before .before .before .before .before .before .before .before .before .args .at) (c .before .before .before .before .before .before .before .before .before .before .args .order) _ _ _ (sym (c .before .before .before .before .part-at .ensures) ∙ c .before .before .from .given .1) .some)
 
--- src/lib.rt:124:47
 inside-part-parameters-start : (t : ℕ) → inside-lts.Need-part-parameters-start (inside-of t) (inside-at t) inside.Post
 inside-part-parameters-start t c = omega (arith, part-facts (c .before .before .before .before .before .before .before .before .before .before .args .s .now) (c .before .before .before .before .before .before .before .before .before .before .args .at) (c .before .before .before .before .before .before .before .before .before .before .args .order) _ _ _ (sym (c .before .before .before .before .part-at .ensures) ∙ c .before .before .from .given .1) .some)
 
--- src/lib.rt:124:47
 inside-part-parameters-end : (t : ℕ) → inside-lts.Need-part-parameters-end (inside-of t) (inside-at t) inside.Post
 inside-part-parameters-end t c = omega (arith, part-facts (c .before .before .before .before .before .before .before .before .before .before .args .s .now) (c .before .before .before .before .before .before .before .before .before .before .args .at) (c .before .before .before .before .before .before .before .before .before .before .args .order) _ _ _ (sym (c .before .before .before .before .part-at .ensures) ∙ c .before .before .from .given .1) .ends)
 
--- src/lib.rt:124:21
 inside-parameters-requires : (t : ℕ) → inside-lts.Need-parameters-requires (inside-of t) (inside-at t) inside.Post
 inside-parameters-requires t c κs = (omega (arith, c .before .before .before .before .before .before .before .before .before .before .before .pre .0), omega (arith, c .before .before .before .before .before .before .before .before .before .before .before .pre .1 .0, c .parameters-arg .given, part-facts (c .before .before .before .before .before .before .before .before .before .before .before .args .s .now) (c .before .before .before .before .before .before .before .before .before .before .before .args .at) (c .before .before .before .before .before .before .before .before .before .before .before .args .order) _ _ _ (sym (c .before .before .before .before .before .part-at .ensures) ∙ c .before .before .before .from .given .1) .ends, part-facts (c .before .before .before .before .before .before .before .before .before .before .before .args .s .now) (c .before .before .before .before .before .before .before .before .before .before .before .args .at) (c .before .before .before .before .before .before .before .before .before .before .before .args .order) _ _ _ (sym (c .before .before .before .before .before .part-at .ensures) ∙ c .before .before .before .from .given .1) .some))
 
--- src/lib.rt:125:39
 inside-sub-ended : (t : ℕ) → inside-lts.Need-sub-ended (inside-of t) (inside-at t) inside.Post
 inside-sub-ended t c = omega (arith, part-facts (c .before .before .before .before .before .before .before .before .before .before .before .before .args .s .now) (c .before .before .before .before .before .before .before .before .before .before .before .before .args .at) (c .before .before .before .before .before .before .before .before .before .before .before .before .args .order) _ _ _ (sym (c .before .before .before .before .before .before .part-at .ensures) ∙ c .before .before .before .before .from .given .1) .some)
 
--- src/lib.rt:125:17
 inside-ended-requires : (t : ℕ) → inside-lts.Need-ended-requires (inside-of t) (inside-at t) inside.Post
 inside-ended-requires t c κs = search needs
 
--- src/lib.rt:98:1
 inside-returns : (t : ℕ) → inside-lts.Need-returns (inside-of t) (inside-at t) inside.Post
 inside-returns t c = rw (c .before .enum-told .given .1) (c .refused .ensures)
 
--- src/lib.rt:98:1
 inside-returns-2 : (t : ℕ) → inside-lts.Need-returns-2 (inside-of t) (inside-at t) inside.Post
 inside-returns-2 t c = rw (c .before .before .enum-told2 .given .1, ← c .before .close .ensures) (c .goes-on .ensures)
 
--- src/lib.rt:98:1
 inside-returns-3 : (t : ℕ) → inside-lts.Need-returns-3 (inside-of t) (inside-at t) inside.Post
 inside-returns-3 t c = rw (c .before .enum-told3 .given .1) (c .bounded .ensures)
 
--- src/lib.rt:98:1
 inside-returns-4 : (t : ℕ) → inside-lts.Need-returns-4 (inside-of t) (inside-at t) inside.Post
 unfolding compositeAt
 inside-returns-4 t c = rw (c .before .before .before .before .before .before .form .given .1, sym (c .before .before .before .before .part-at .ensures) ∙ c .before .before .refusal .given .1) (c .refused2 .ensures)
 
--- src/lib.rt:98:1
 inside-returns-5 : (t : ℕ) → inside-lts.Need-returns-5 (inside-of t) (inside-at t) inside.Post
 unfolding compositeAt
 inside-returns-5 t c = rw (c .before .before .before .before .before .before .before .before .before .form .given .1, sym (c .before .before .before .before .before .before .before .part-at .ensures) ∙ c .before .before .before .before .before .from .given .1, ← c .before .parameters .ensures) (c .ended .ensures)
@@ -298,317 +255,240 @@ member-types-Inv-loop v labels s start order first count left w₀ at₀ k₀ w 
 abbrev member-types-μ-loop : member-types-lts.MeasureT-loop
 member-types-μ-loop v labels s start order first count left w₀ at₀ k₀ w at k = count - k
 
--- src/lib.rt:227:5
 member-types-loop-holds : (t : ℕ) → member-types-lts.Need-loop-holds (member-types-of t) (member-types-at t) member-types.Post member-types-Inv-loop member-types-μ-loop
 member-types-loop-holds t c = (omega arith, ap (λ (x : ℕ). membersAt (c .before .before .args .v .now) (typeAt (c .before .before .args .v .now) (c .before .before .args .left)) (c .before .before .args .labels) (c .before .before .args .s .now) (c .before .before .args .start) (c .before .before .args .order) (c .before .before .args .first) x 0 (c .before .before .args .first) (c .before .before .args .walk)) (sub-zero (c .before .before .args .count)))
 
--- src/lib.rt:228:13
 member-types-name-after-requires : (t : ℕ) → member-types-lts.Need-name-after-requires (member-types-of t) (member-types-at t) member-types.Post member-types-Inv-loop member-types-μ-loop
 member-types-name-after-requires t c κs = search needs
 
--- src/lib.rt:230:27
 member-types-enum-known-name : (t : ℕ) → member-types-lts.Need-enum-known-name (member-types-of t) (member-types-at t) member-types.Post member-types-Inv-loop member-types-μ-loop
 member-types-enum-known-name t c = search needs
 
--- src/lib.rt:231:17
 member-types-refused-requires : (t : ℕ) → member-types-lts.Need-refused-requires (member-types-of t) (member-types-at t) member-types.Post member-types-Inv-loop member-types-μ-loop
 member-types-refused-requires t c κs = search needs
 
--- src/lib.rt:231:17
 member-types-returns : (t : ℕ) → member-types-lts.Need-returns (member-types-of t) (member-types-at t) member-types.Post member-types-Inv-loop member-types-μ-loop
 member-types-returns t c = c .refused .ensures ∙ members-refused (c .before .before .before .before .before .before .before .before .before .args .v .now) (typeAt (c .before .before .before .before .before .before .before .before .before .args .v .now) (c .before .before .before .before .before .before .before .before .before .args .left)) (c .before .before .before .before .before .before .before .before .before .args .labels) (c .before .before .before .before .before .before .before .before .before .args .s .now) (c .before .before .before .before .before .before .before .before .before .args .start) (c .before .before .before .before .before .before .before .before .before .args .order) (c .before .before .before .before .before .before .before .before .before .args .first) (c .before .before .before .before .before .before .before .before .before .args .count) (c .before .before .before .before .before .before .loop .k) (c .before .before .before .before .before .before .loop .at) (c .before .before .before .before .before .before .loop .w) (c .before .before .before .before .before .loop-test .taken) _ (sym (c .before .before .before .before .name-after .ensures) ∙ c .before .before .name .given .1) ∙ c .before .before .before .before .before .before .loop .inv .1
 
--- src/lib.rt:233:24
 member-types-enum-known-name-2 : (t : ℕ) → member-types-lts.Need-enum-known-name-2 (member-types-of t) (member-types-at t) member-types.Post member-types-Inv-loop member-types-μ-loop
 member-types-enum-known-name-2 t c = search needs
 
--- src/lib.rt:234:21
 member-types-check-requires : (t : ℕ) → member-types-lts.Need-check-requires (member-types-of t) (member-types-at t) member-types.Post member-types-Inv-loop member-types-μ-loop
 member-types-check-requires t c κs = search needs
 
--- src/lib.rt:238:35
 member-types-enum-known-step : (t : ℕ) → member-types-lts.Need-enum-known-step (member-types-of t) (member-types-at t) member-types.Post member-types-Inv-loop member-types-μ-loop
 member-types-enum-known-step t c = search needs
 
--- src/lib.rt:239:25
 member-types-refused-requires-2 : (t : ℕ) → member-types-lts.Need-refused-requires-2 (member-types-of t) (member-types-at t) member-types.Post member-types-Inv-loop member-types-μ-loop
 member-types-refused-requires-2 t c κs = search needs
 
--- src/lib.rt:239:25
 member-types-returns-2 : (t : ℕ) → member-types-lts.Need-returns-2 (member-types-of t) (member-types-at t) member-types.Post member-types-Inv-loop member-types-μ-loop
 member-types-returns-2 t c = c .refused2 .ensures ∙ members-cut (c .before .before .before .before .before .before .before .before .before .before .before .before .before .before .args .v .now) (typeAt (c .before .before .before .before .before .before .before .before .before .before .before .before .before .before .args .v .now) (c .before .before .before .before .before .before .before .before .before .before .before .before .before .before .args .left)) (c .before .before .before .before .before .before .before .before .before .before .before .before .before .before .args .labels) (c .before .before .before .before .before .before .before .before .before .before .before .before .before .before .args .s .now) (c .before .before .before .before .before .before .before .before .before .before .before .before .before .before .args .start) (c .before .before .before .before .before .before .before .before .before .before .before .before .before .before .args .order) (c .before .before .before .before .before .before .before .before .before .before .before .before .before .before .args .first) (c .before .before .before .before .before .before .before .before .before .before .before .before .before .before .args .count) (c .before .before .before .before .before .before .before .before .before .before .before .loop .k) (c .before .before .before .before .before .before .before .before .before .before .before .loop .at) (c .before .before .before .before .before .before .before .before .before .before .before .loop .w) (c .before .before .before .before .before .before .before .before .before .before .loop-test .taken) _ (sym (c .before .before .before .before .before .before .before .before .before .name-after .ensures) ∙ c .before .before .before .before .before .before .before .name2 .given .1) (c .before .before .before .before .before .check .result) (c .before .before .before .before .before .check .ensures) _ (c .before .before .step .given .1) ∙ c .before .before .before .before .before .before .before .before .before .before .before .loop .inv .1
 
--- src/lib.rt:241:32
 member-types-enum-known-step-2 : (t : ℕ) → member-types-lts.Need-enum-known-step-2 (member-types-of t) (member-types-at t) member-types.Post member-types-Inv-loop member-types-μ-loop
 member-types-enum-known-step-2 t c = search needs
 
--- src/lib.rt:247:9
 member-types-add-k : (t : ℕ) → member-types-lts.Need-add-k (member-types-of t) (member-types-at t) member-types.Post member-types-Inv-loop member-types-μ-loop
 member-types-add-k t c = search needs
 
--- src/lib.rt:227:5
 member-types-loop-less : (t : ℕ) → member-types-lts.Need-loop-less (member-types-of t) (member-types-at t) member-types.Post member-types-Inv-loop member-types-μ-loop
 member-types-loop-less t c = search needs
 
--- src/lib.rt:227:5
 member-types-loop-again : (t : ℕ) → member-types-lts.Need-loop-again (member-types-of t) (member-types-at t) member-types.Post member-types-Inv-loop member-types-μ-loop
 member-types-loop-again t c = (omega (arith, c .before .before .before .before .before .before .before .before .before .loop-test .taken), members-on (c .before .before .before .before .before .before .before .before .before .before .before .before .before .args .v .now) (typeAt (c .before .before .before .before .before .before .before .before .before .before .before .before .before .args .v .now) (c .before .before .before .before .before .before .before .before .before .before .before .before .before .args .left)) (c .before .before .before .before .before .before .before .before .before .before .before .before .before .args .labels) (c .before .before .before .before .before .before .before .before .before .before .before .before .before .args .s .now) (c .before .before .before .before .before .before .before .before .before .before .before .before .before .args .start) (c .before .before .before .before .before .before .before .before .before .before .before .before .before .args .order) (c .before .before .before .before .before .before .before .before .before .before .before .before .before .args .first) (c .before .before .before .before .before .before .before .before .before .before .before .before .before .args .count) (c .before .before .before .before .before .before .before .before .before .before .loop .k) (c .before .before .before .before .before .before .before .before .before .before .loop .at) (c .before .before .before .before .before .before .before .before .before .before .loop .w) (c .before .before .before .before .before .before .before .before .before .loop-test .taken) _ (sym (c .before .before .before .before .before .before .before .before .name-after .ensures) ∙ c .before .before .before .before .before .before .name2 .given .1) (c .before .before .before .before .check .result) (c .before .before .before .before .check .ensures) _ (c .before .step2 .given .1) ∙ c .before .before .before .before .before .before .before .before .before .before .loop .inv .1)
 
--- src/lib.rt:249:5
 member-types-goes-on-requires : (t : ℕ) → member-types-lts.Need-goes-on-requires (member-types-of t) (member-types-at t) member-types.Post member-types-Inv-loop member-types-μ-loop
 member-types-goes-on-requires t c κs = search needs
 
--- src/lib.rt:210:1
 member-types-returns-3 : (t : ℕ) → member-types-lts.Need-returns-3 (member-types-of t) (member-types-at t) member-types.Post member-types-Inv-loop member-types-μ-loop
 member-types-returns-3 t c = c .goes-on .ensures ∙ members-done (c .before .before .before .before .before .args .v .now) (typeAt (c .before .before .before .before .before .args .v .now) (c .before .before .before .before .before .args .left)) (c .before .before .before .before .before .args .labels) (c .before .before .before .before .before .args .s .now) (c .before .before .before .before .before .args .start) (c .before .before .before .before .before .args .order) (c .before .before .before .before .before .args .first) (c .before .before .before .before .before .args .count) (c .before .before .loop .k) (c .before .before .loop .at) (c .before .before .loop .w) (c .before .loop-test .left) ∙ c .before .before .loop .inv .1
 
 abbrev parameters-of : ℕ → parameters-lts.Claims
 parameters-of t = (names-step-reads.Asked, names-step-reads.Learnt, on-reads.Asked, on-reads.Learnt, enum-step-reads.Asked, enum-step-reads.Learnt, head-step-reads.Asked, head-step-reads.Learnt, refused-reads.Asked, refused-reads.Learnt, member-types-below t, member-types.Post, exception-step-reads.Asked, exception-step-reads.Learnt, check-below t, check.Post, then-number-reads.Asked, then-number-reads.Learnt, then-length-reads.Asked, then-length-reads.Learnt, switched-below t, switched.Post)
 
--- src/lib.rt:145:37
 parameters-enum-told : (t : ℕ) → parameters-lts.Need-enum-told (parameters-of t) (parameters-at t) parameters.Post
 parameters-enum-told t c = search needs
 
--- src/lib.rt:145:37
 parameters-names-step-requires : (t : ℕ) → parameters-lts.Need-names-step-requires (parameters-of t) (parameters-at t) parameters.Post
 parameters-names-step-requires t c κs = search needs
 
--- src/lib.rt:145:27
 parameters-on-requires : (t : ℕ) → parameters-lts.Need-on-requires (parameters-of t) (parameters-at t) parameters.Post
 parameters-on-requires t c κs = search needs
 
--- src/lib.rt:146:35
 parameters-enum-told-2 : (t : ℕ) → parameters-lts.Need-enum-told-2 (parameters-of t) (parameters-at t) parameters.Post
 parameters-enum-told-2 t c = search needs
 
--- src/lib.rt:146:35
 parameters-enum-step-requires : (t : ℕ) → parameters-lts.Need-enum-step-requires (parameters-of t) (parameters-at t) parameters.Post
 parameters-enum-step-requires t c κs = search needs
 
--- src/lib.rt:146:25
 parameters-on-requires-2 : (t : ℕ) → parameters-lts.Need-on-requires-2 (parameters-of t) (parameters-at t) parameters.Post
 parameters-on-requires-2 t c κs = search needs
 
--- src/lib.rt:147:33
 parameters-enum-told-3 : (t : ℕ) → parameters-lts.Need-enum-told-3 (parameters-of t) (parameters-at t) parameters.Post
 parameters-enum-told-3 t c = search needs
 
--- src/lib.rt:147:33
 parameters-head-step-requires : (t : ℕ) → parameters-lts.Need-head-step-requires (parameters-of t) (parameters-at t) parameters.Post
 parameters-head-step-requires t c κs = search needs
 
--- src/lib.rt:148:26
 parameters-enum-known-refusal : (t : ℕ) → parameters-lts.Need-enum-known-refusal (parameters-of t) (parameters-at t) parameters.Post
 parameters-enum-known-refusal t c = search needs
 
--- src/lib.rt:148:38
 parameters-refused-requires : (t : ℕ) → parameters-lts.Need-refused-requires (parameters-of t) (parameters-at t) parameters.Post
 parameters-refused-requires t c κs = search needs
 
--- src/lib.rt:149:29
 parameters-enum-known-count : (t : ℕ) → parameters-lts.Need-enum-known-count (parameters-of t) (parameters-at t) parameters.Post
 parameters-enum-known-count t c = search needs
 
--- src/lib.rt:150:17
 parameters-member-types-requires : (t : ℕ) → parameters-lts.Need-member-types-requires (parameters-of t) (parameters-at t) parameters.Post
 parameters-member-types-requires t c κs = search needs
 
--- src/lib.rt:153:36
 parameters-enum-told-4 : (t : ℕ) → parameters-lts.Need-enum-told-4 (parameters-of t) (parameters-at t) parameters.Post
 parameters-enum-told-4 t c = search needs
 
--- src/lib.rt:153:36
 parameters-exception-step-requires : (t : ℕ) → parameters-lts.Need-exception-step-requires (parameters-of t) (parameters-at t) parameters.Post
 parameters-exception-step-requires t c κs = search needs
 
--- src/lib.rt:154:26
 parameters-enum-known-refusal-2 : (t : ℕ) → parameters-lts.Need-enum-known-refusal-2 (parameters-of t) (parameters-at t) parameters.Post
 parameters-enum-known-refusal-2 t c = search needs
 
--- src/lib.rt:154:38
 parameters-refused-requires-2 : (t : ℕ) → parameters-lts.Need-refused-requires-2 (parameters-of t) (parameters-at t) parameters.Post
 parameters-refused-requires-2 t c κs = search needs
 
--- src/lib.rt:155:29
 parameters-enum-known-count-2 : (t : ℕ) → parameters-lts.Need-enum-known-count-2 (parameters-of t) (parameters-at t) parameters.Post
 parameters-enum-known-count-2 t c = search needs
 
--- src/lib.rt:156:17
 parameters-member-types-requires-2 : (t : ℕ) → parameters-lts.Need-member-types-requires-2 (parameters-of t) (parameters-at t) parameters.Post
 parameters-member-types-requires-2 t c κs = search needs
 
--- src/lib.rt:160:47
 parameters-enum-told-5 : (t : ℕ) → parameters-lts.Need-enum-told-5 (parameters-of t) (parameters-at t) parameters.Post
 parameters-enum-told-5 t c = search needs
 
--- src/lib.rt:160:17
 parameters-check-requires : (t : ℕ) → parameters-lts.Need-check-requires (parameters-of t) (parameters-at t) parameters.Post
 parameters-check-requires t c κs = search needs
 
--- src/lib.rt:161:13
 parameters-then-number-requires : (t : ℕ) → parameters-lts.Need-then-number-requires (parameters-of t) (parameters-at t) parameters.Post
 parameters-then-number-requires t c κs = search needs
 
--- src/lib.rt:164:47
 parameters-enum-told-6 : (t : ℕ) → parameters-lts.Need-enum-told-6 (parameters-of t) (parameters-at t) parameters.Post
 parameters-enum-told-6 t c = search needs
 
--- src/lib.rt:164:17
 parameters-check-requires-2 : (t : ℕ) → parameters-lts.Need-check-requires-2 (parameters-of t) (parameters-at t) parameters.Post
 parameters-check-requires-2 t c κs = search needs
 
--- src/lib.rt:165:13
 parameters-then-length-requires : (t : ℕ) → parameters-lts.Need-then-length-requires (parameters-of t) (parameters-at t) parameters.Post
 parameters-then-length-requires t c κs = search needs
 
--- src/lib.rt:167:32
 parameters-enum-told-7 : (t : ℕ) → parameters-lts.Need-enum-told-7 (parameters-of t) (parameters-at t) parameters.Post
 parameters-enum-told-7 t c = search needs
 
--- src/lib.rt:167:32
 parameters-names-step-requires-2 : (t : ℕ) → parameters-lts.Need-names-step-requires-2 (parameters-of t) (parameters-at t) parameters.Post
 parameters-names-step-requires-2 t c κs = search needs
 
--- src/lib.rt:168:27
 parameters-enum-known-refusal-3 : (t : ℕ) → parameters-lts.Need-enum-known-refusal-3 (parameters-of t) (parameters-at t) parameters.Post
 parameters-enum-known-refusal-3 t c = search needs
 
--- src/lib.rt:168:39
 parameters-refused-requires-3 : (t : ℕ) → parameters-lts.Need-refused-requires-3 (parameters-of t) (parameters-at t) parameters.Post
 parameters-refused-requires-3 t c κs = search needs
 
--- src/lib.rt:169:24
 parameters-enum-known-i : (t : ℕ) → parameters-lts.Need-enum-known-i (parameters-of t) (parameters-at t) parameters.Post
 parameters-enum-known-i t c = search needs
 
--- src/lib.rt:169:30
 parameters-check-requires-3 : (t : ℕ) → parameters-lts.Need-check-requires-3 (parameters-of t) (parameters-at t) parameters.Post
 parameters-check-requires-3 t c κs = search needs
 
--- src/lib.rt:171:32
 parameters-enum-told-8 : (t : ℕ) → parameters-lts.Need-enum-told-8 (parameters-of t) (parameters-at t) parameters.Post
 parameters-enum-told-8 t c = search needs
 
--- src/lib.rt:171:32
 parameters-names-step-requires-3 : (t : ℕ) → parameters-lts.Need-names-step-requires-3 (parameters-of t) (parameters-at t) parameters.Post
 parameters-names-step-requires-3 t c κs = search needs
 
--- src/lib.rt:172:27
 parameters-enum-known-refusal-4 : (t : ℕ) → parameters-lts.Need-enum-known-refusal-4 (parameters-of t) (parameters-at t) parameters.Post
 parameters-enum-known-refusal-4 t c = search needs
 
--- src/lib.rt:172:39
 parameters-refused-requires-4 : (t : ℕ) → parameters-lts.Need-refused-requires-4 (parameters-of t) (parameters-at t) parameters.Post
 parameters-refused-requires-4 t c κs = search needs
 
--- src/lib.rt:173:24
 parameters-enum-known-i-2 : (t : ℕ) → parameters-lts.Need-enum-known-i-2 (parameters-of t) (parameters-at t) parameters.Post
 parameters-enum-known-i-2 t c = search needs
 
--- src/lib.rt:173:30
 parameters-switched-requires : (t : ℕ) → parameters-lts.Need-switched-requires (parameters-of t) (parameters-at t) parameters.Post
 parameters-switched-requires t c κs = search needs
 
--- src/lib.rt:132:1
 parameters-returns : (t : ℕ) → parameters-lts.Need-returns (parameters-of t) (parameters-at t) parameters.Post
 parameters-returns t c = rw (c .before .before .enum-told .given .1, ← c .before .names-step .ensures) (c .on .ensures)
 
--- src/lib.rt:132:1
 parameters-returns-2 : (t : ℕ) → parameters-lts.Need-returns-2 (parameters-of t) (parameters-at t) parameters.Post
 parameters-returns-2 t c = rw (c .before .before .enum-told2 .given .1, ← c .before .enum-step .ensures) (c .on2 .ensures)
 
--- src/lib.rt:132:1
 parameters-returns-3 : (t : ℕ) → parameters-lts.Need-returns-3 (parameters-of t) (parameters-at t) parameters.Post
 parameters-returns-3 t c = rw (c .before .before .before .before .before .enum-told3 .given .1, sym (c .before .before .before .before .head-step .ensures) ∙ c .before .before .refusal .given .1) (c .refused .ensures)
 
--- src/lib.rt:132:1
 parameters-returns-4 : (t : ℕ) → parameters-lts.Need-returns-4 (parameters-of t) (parameters-at t) parameters.Post
 parameters-returns-4 t c = rw (c .before .before .before .before .before .enum-told3 .given .1, sym (c .before .before .before .before .head-step .ensures) ∙ c .before .before .count .given .1) (c .member-types .ensures)
 
--- src/lib.rt:132:1
 parameters-returns-5 : (t : ℕ) → parameters-lts.Need-returns-5 (parameters-of t) (parameters-at t) parameters.Post
 parameters-returns-5 t c = rw (c .before .before .before .before .before .enum-told4 .given .1, sym (c .before .before .before .before .exception-step .ensures) ∙ c .before .before .refusal2 .given .1) (c .refused2 .ensures)
 
--- src/lib.rt:132:1
 parameters-returns-6 : (t : ℕ) → parameters-lts.Need-returns-6 (parameters-of t) (parameters-at t) parameters.Post
 parameters-returns-6 t c = rw (c .before .before .before .before .before .enum-told4 .given .1, sym (c .before .before .before .before .exception-step .ensures) ∙ c .before .before .count2 .given .1) (c .member-types2 .ensures)
 
--- src/lib.rt:132:1
 parameters-returns-7 : (t : ℕ) → parameters-lts.Need-returns-7 (parameters-of t) (parameters-at t) parameters.Post
 parameters-returns-7 t c = rw (c .before .before .enum-told5 .given .1, ← c .before .check .ensures) (c .then-number .ensures)
 
--- src/lib.rt:132:1
 parameters-returns-8 : (t : ℕ) → parameters-lts.Need-returns-8 (parameters-of t) (parameters-at t) parameters.Post
 parameters-returns-8 t c = rw (c .before .before .enum-told6 .given .1, ← c .before .check2 .ensures) (c .then-length .ensures)
 
--- src/lib.rt:132:1
 parameters-returns-9 : (t : ℕ) → parameters-lts.Need-returns-9 (parameters-of t) (parameters-at t) parameters.Post
 parameters-returns-9 t c = rw (c .before .before .before .before .before .enum-told7 .given .1, sym (c .before .before .before .before .names-step2 .ensures) ∙ c .before .before .refusal3 .given .1) (c .refused3 .ensures)
 
--- src/lib.rt:132:1
 parameters-returns-10 : (t : ℕ) → parameters-lts.Need-returns-10 (parameters-of t) (parameters-at t) parameters.Post
 parameters-returns-10 t c = rw (c .before .before .before .before .before .enum-told7 .given .1, sym (c .before .before .before .before .names-step2 .ensures) ∙ c .before .before .i .given .1) (c .check3 .ensures)
 
--- src/lib.rt:132:1
 parameters-returns-11 : (t : ℕ) → parameters-lts.Need-returns-11 (parameters-of t) (parameters-at t) parameters.Post
 parameters-returns-11 t c = rw (c .before .before .before .before .before .enum-told8 .given .1, sym (c .before .before .before .before .names-step3 .ensures) ∙ c .before .before .refusal4 .given .1) (c .refused4 .ensures)
 
--- src/lib.rt:132:1
 parameters-returns-12 : (t : ℕ) → parameters-lts.Need-returns-12 (parameters-of t) (parameters-at t) parameters.Post
 parameters-returns-12 t c = rw (c .before .before .before .before .before .enum-told8 .given .1, sym (c .before .before .before .before .names-step3 .ensures) ∙ c .before .before .i2 .given .1) (c .switched .ensures)
 
 abbrev switched-of : ℕ → switched-lts.Claims
 switched-of t = (check-below t, check.Post, refused-reads.Asked, refused-reads.Learnt, labels-at-reads.Asked, labels-at-reads.Learnt, switch-head-reads.Asked, switch-head-reads.Learnt, member-types-below t, member-types.Post)
 
--- src/lib.rt:191:9
 switched-check-requires : (t : ℕ) → switched-lts.Need-check-requires (switched-of t) (switched-at t) switched.Post
 switched-check-requires t c κs = search needs
 
--- src/lib.rt:196:23
 switched-enum-known-step : (t : ℕ) → switched-lts.Need-enum-known-step (switched-of t) (switched-at t) switched.Post
 switched-enum-known-step t c = search needs
 
--- src/lib.rt:196:35
 switched-refused-requires : (t : ℕ) → switched-lts.Need-refused-requires (switched-of t) (switched-at t) switched.Post
 switched-refused-requires t c κs = search needs
 
--- src/lib.rt:197:20
 switched-enum-known-step-2 : (t : ℕ) → switched-lts.Need-enum-known-step-2 (switched-of t) (switched-at t) switched.Post
 switched-enum-known-step-2 t c = search needs
 
--- src/lib.rt:198:17
 switched-labels-at-requires : (t : ℕ) → switched-lts.Need-labels-at-requires (switched-of t) (switched-at t) switched.Post
 switched-labels-at-requires t c κs = search needs
 
--- src/lib.rt:199:19
 switched-switch-head-requires : (t : ℕ) → switched-lts.Need-switch-head-requires (switched-of t) (switched-at t) switched.Post
 switched-switch-head-requires t c κs = search needs
 
--- src/lib.rt:200:30
 switched-enum-known-refusal : (t : ℕ) → switched-lts.Need-enum-known-refusal (switched-of t) (switched-at t) switched.Post
 switched-enum-known-refusal t c = search needs
 
--- src/lib.rt:200:42
 switched-refused-requires-2 : (t : ℕ) → switched-lts.Need-refused-requires-2 (switched-of t) (switched-at t) switched.Post
 switched-refused-requires-2 t c κs = search needs
 
--- src/lib.rt:201:33
 switched-enum-known-count : (t : ℕ) → switched-lts.Need-enum-known-count (switched-of t) (switched-at t) switched.Post
 switched-enum-known-count t c = search needs
 
--- src/lib.rt:202:21
 switched-member-types-requires : (t : ℕ) → switched-lts.Need-member-types-requires (switched-of t) (switched-at t) switched.Post
 switched-member-types-requires t c κs = search needs
 
--- src/lib.rt:179:1
 switched-returns : (t : ℕ) → switched-lts.Need-returns (switched-of t) (switched-at t) switched.Post
 switched-returns t c = c .refused .ensures ∙ switched-refused (c .before .before .before .before .before .before .before .before .before .args .v .now) (typeAt (c .before .before .before .before .before .before .before .before .before .args .v .now) (c .before .before .before .before .before .before .before .before .before .args .left)) (c .before .before .before .before .before .before .before .before .before .args .s .now) (c .before .before .before .before .before .before .before .before .before .args .start) (c .before .before .before .before .before .before .before .before .before .args .order) (c .before .before .before .before .before .before .before .before .before .args .at) (c .before .before .before .before .before .before .before .before .before .args .walk) (c .before .before .before .before .before .before .check .result) (c .before .before .before .before .before .before .check .ensures) _ (c .before .before .step .given .1)
 
--- src/lib.rt:179:1
 switched-returns-2 : (t : ℕ) → switched-lts.Need-returns-2 (switched-of t) (switched-at t) switched.Post
 switched-returns-2 t c = c .refused2 .ensures ∙ switched-wrong (c .before .before .before .before .before .before .before .before .before .before .before .before .before .before .args .v .now) (typeAt (c .before .before .before .before .before .before .before .before .before .before .before .before .before .before .args .v .now) (c .before .before .before .before .before .before .before .before .before .before .before .before .before .before .args .left)) (c .before .before .before .before .before .before .before .before .before .before .before .before .before .before .args .s .now) (c .before .before .before .before .before .before .before .before .before .before .before .before .before .before .args .start) (c .before .before .before .before .before .before .before .before .before .before .before .before .before .before .args .order) (c .before .before .before .before .before .before .before .before .before .before .before .before .before .before .args .at) (c .before .before .before .before .before .before .before .before .before .before .before .before .before .before .args .walk) (c .before .before .before .before .before .before .before .before .before .before .before .check .result) (c .before .before .before .before .before .before .before .before .before .before .before .check .ensures) _ (c .before .before .before .before .before .before .before .step2 .given .1) (c .before .before .before .before .before .labels-at .result) (c .before .before .before .before .before .labels-at .ensures) _ (sym (c .before .before .before .before .switch-head .ensures) ∙ c .before .before .refusal .given .1)
 
--- src/lib.rt:179:1
 switched-returns-3 : (t : ℕ) → switched-lts.Need-returns-3 (switched-of t) (switched-at t) switched.Post
 switched-returns-3 t c = c .member-types .ensures ∙ switched-on (c .before .before .before .before .before .before .before .before .before .before .before .before .before .before .args .v .now) (typeAt (c .before .before .before .before .before .before .before .before .before .before .before .before .before .before .args .v .now) (c .before .before .before .before .before .before .before .before .before .before .before .before .before .before .args .left)) (c .before .before .before .before .before .before .before .before .before .before .before .before .before .before .args .s .now) (c .before .before .before .before .before .before .before .before .before .before .before .before .before .before .args .start) (c .before .before .before .before .before .before .before .before .before .before .before .before .before .before .args .order) (c .before .before .before .before .before .before .before .before .before .before .before .before .before .before .args .at) (c .before .before .before .before .before .before .before .before .before .before .before .before .before .before .args .walk) (c .before .before .before .before .before .before .before .before .before .before .before .check .result) (c .before .before .before .before .before .before .before .before .before .before .before .check .ensures) _ (c .before .before .before .before .before .before .before .step2 .given .1) (c .before .before .before .before .before .labels-at .result) (c .before .before .before .before .before .labels-at .ensures) _ _ (sym (c .before .before .before .before .switch-head .ensures) ∙ c .before .before .count .given .1)
 

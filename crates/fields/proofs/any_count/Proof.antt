@@ -1,30 +1,23 @@
+-- A count that may be 0.
 use borrow.Author.Needs.{needs}
 use Rattle.fields.proofs.any_count.Statement.{statement}
 use Rattle.fields.proofs.any_count.Tie as tie
-use Rattle.fields.proofs.any_count.Reads as reads
-use Rattle.fields.proofs.any_count.Lts as lts
-use Rattle.encapsulation.proofs.read_field.Reads as read-field-reads
-use mathlib.Core.Path.{_≡_, sym, _∙_, ap}
+use mathlib.Core.Path.{sym, _∙_}
 use Rattle.fields.specs.Fields.{anyCount}
 
--- src/lib.rt:124:11
 read-field-requires : tie.Need-read-field-requires
 read-field-requires c κs = search needs
 
--- src/lib.rt:125:31
 enum-known-count : tie.Need-enum-known-count
 enum-known-count c = search needs
 
--- src/lib.rt:126:40
 enum-told : tie.Need-enum-told
 enum-told c = search needs
 
--- src/lib.rt:121:1
 returns : tie.Need-returns
 unfolding anyCount
 returns c = rw (sym (c .before .before .before .read-field .ensures) ∙ c .before .count .given .1)
 
--- src/lib.rt:121:1
 returns-2 : tie.Need-returns-2
 unfolding anyCount
 returns-2 c = rw (sym (c .before .before .read-field .ensures) ∙ c .enum-told .given .1)

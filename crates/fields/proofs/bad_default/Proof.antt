@@ -1,22 +1,17 @@
-use borrow.Author.Needs.{needs}
+-- Whether a default is below -1 or not below the count.
 use Rattle.fields.proofs.bad_default.Statement.{statement}
 use Rattle.fields.proofs.bad_default.Tie as tie
-use Rattle.fields.proofs.bad_default.Reads as reads
-use Rattle.fields.proofs.bad_default.Lts as lts
 use borrow.Author.Tests.{eq-eqb, ne-eqb, le-leb, lt-leb}
 use Rattle.fields.specs.Fields.{badDefault}
 
--- src/lib.rt:220:9
 returns : tie.Need-returns
 unfolding badDefault
 returns c = rw (eq-eqb _ _ (c .if1 .taken))
 
--- src/lib.rt:223:9
 returns-2 : tie.Need-returns-2
 unfolding badDefault
 returns-2 c = rw (ne-eqb _ _ (c .before .if1 .left), le-leb _ _ (c .if2 .taken))
 
--- src/lib.rt:216:1
 returns-3 : tie.Need-returns-3
 unfolding badDefault
 returns-3 c = rw (ne-eqb _ _ (c .before .if1 .left), lt-leb _ _ (c .if2 .left))

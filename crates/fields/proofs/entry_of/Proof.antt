@@ -1,44 +1,34 @@
+-- Whether a kind may stand where so many levels are left and so many kinds were met.
 use borrow.Author.Needs.{needs}
 use Rattle.fields.proofs.entry_of.Statement.{statement}
 use Rattle.fields.proofs.entry_of.Tie as tie
-use Rattle.fields.proofs.entry_of.Reads as reads
-use Rattle.fields.proofs.entry_of.Lts as lts
-use Rattle.fields.proofs.below_top.Reads as below-top-reads
-use Rattle.fields.proofs.is_listed.Reads as is-listed-reads
-use mathlib.Core.Path.{_≡_, sym, _∙_, ap}
+use mathlib.Core.Path.{sym, _∙_, ap}
 use borrow.Author.Tests.{eq-eqb, ne-eqb, le-leb, lt-leb}
 use Rattle.fields.specs.Fields.{entryOf}
 use mathlib.Core.Bool.{not}
 
--- src/lib.rt:126:9
 is-listed-requires : tie.Need-is-listed-requires
 is-listed-requires c κs = search needs
 
--- src/lib.rt:127:9
 returns : tie.Need-returns
 unfolding entryOf
 returns c = rw (ap not (sym (c .before .is-listed .ensures)) ∙ c .if1 .taken)
 
--- src/lib.rt:129:8
 below-top-requires : tie.Need-below-top-requires
 below-top-requires c κs = search needs
 
--- src/lib.rt:130:9
 returns-2 : tie.Need-returns-2
 unfolding entryOf
 returns-2 c = rw (ap not (sym (c .before .before .before .is-listed .ensures)) ∙ c .before .before .if1 .left, sym (c .before .below-top .ensures) ∙ c .if2 .taken)
 
--- src/lib.rt:133:9
 returns-3 : tie.Need-returns-3
 unfolding entryOf
 returns-3 c = rw (ap not (sym (c .before .before .before .before .is-listed .ensures)) ∙ c .before .before .before .if1 .left, sym (c .before .before .below-top .ensures) ∙ c .before .if2 .left, eq-eqb _ _ (c .if3 .taken))
 
--- src/lib.rt:136:9
 returns-4 : tie.Need-returns-4
 unfolding entryOf
 returns-4 c = rw (ap not (sym (c .before .before .before .before .before .is-listed .ensures)) ∙ c .before .before .before .before .if1 .left, sym (c .before .before .before .below-top .ensures) ∙ c .before .before .if2 .left, ne-eqb _ _ (c .before .if3 .left), le-leb _ _ (c .if4 .taken))
 
--- src/lib.rt:123:1
 returns-5 : tie.Need-returns-5
 unfolding entryOf
 returns-5 c = rw (ap not (sym (c .before .before .before .before .before .is-listed .ensures)) ∙ c .before .before .before .before .if1 .left, sym (c .before .before .before .below-top .ensures) ∙ c .before .before .if2 .left, ne-eqb _ _ (c .before .if3 .left), lt-leb _ _ (c .if4 .left))

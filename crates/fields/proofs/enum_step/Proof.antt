@@ -1,35 +1,26 @@
+-- What an enum holds.
 use borrow.Author.Needs.{needs}
 use Rattle.fields.proofs.enum_step.Statement.{statement}
 use Rattle.fields.proofs.enum_step.Tie as tie
-use Rattle.fields.proofs.enum_step.Reads as reads
-use Rattle.fields.proofs.enum_step.Lts as lts
-use Rattle.fields.proofs.head_step.Reads as head-step-reads
-use Rattle.fields.proofs.texts_step.Reads as texts-step-reads
-use mathlib.Core.Path.{_≡_, sym, _∙_, ap}
+use mathlib.Core.Path.{sym, _∙_}
 use Rattle.fields.specs.Fields.{enumStep}
 
--- src/lib.rt:184:11
 head-step-requires : tie.Need-head-step-requires
 head-step-requires c κs = search needs
 
--- src/lib.rt:185:22
 enum-known-refusal : tie.Need-enum-known-refusal
 enum-known-refusal c = search needs
 
--- src/lib.rt:186:25
 enum-known-count : tie.Need-enum-known-count
 enum-known-count c = search needs
 
--- src/lib.rt:186:42
 texts-step-requires : tie.Need-texts-step-requires
 texts-step-requires c κs = search needs
 
--- src/lib.rt:181:1
 returns : tie.Need-returns
 unfolding enumStep
 returns c = rw (sym (c .before .before .before .head-step .ensures) ∙ c .before .refusal .given .1)
 
--- src/lib.rt:181:1
 returns-2 : tie.Need-returns-2
 unfolding enumStep
 returns-2 c = rw (sym (c .before .before .before .before .head-step .ensures) ∙ c .before .before .count .given .1) (c .texts-step .ensures)

@@ -1,35 +1,26 @@
+-- Id, name and count.
 use borrow.Author.Needs.{needs}
 use Rattle.fields.proofs.head_step.Statement.{statement}
 use Rattle.fields.proofs.head_step.Tie as tie
-use Rattle.fields.proofs.head_step.Reads as reads
-use Rattle.fields.proofs.head_step.Lts as lts
-use Rattle.fields.proofs.count_step.Reads as count-step-reads
-use Rattle.fields.proofs.names_step.Reads as names-step-reads
-use mathlib.Core.Path.{_≡_, sym, _∙_, ap}
+use mathlib.Core.Path.{sym, _∙_}
 use Rattle.fields.specs.Fields.{headStep}
 
--- src/lib.rt:134:11
 names-step-requires : tie.Need-names-step-requires
 names-step-requires c κs = search needs
 
--- src/lib.rt:135:23
 enum-known-refusal : tie.Need-enum-known-refusal
 enum-known-refusal c = search needs
 
--- src/lib.rt:136:20
 enum-known-i : tie.Need-enum-known-i
 enum-known-i c = search needs
 
--- src/lib.rt:136:26
 count-step-requires : tie.Need-count-step-requires
 count-step-requires c κs = search needs
 
--- src/lib.rt:131:1
 returns : tie.Need-returns
 unfolding headStep
 returns c = rw (sym (c .before .before .before .names-step .ensures) ∙ c .before .refusal .given .1)
 
--- src/lib.rt:131:1
 returns-2 : tie.Need-returns-2
 unfolding headStep
 returns-2 c = rw (sym (c .before .before .before .before .names-step .ensures) ∙ c .before .before .i .given .1) (c .count-step .ensures)

@@ -1,30 +1,23 @@
+-- An array's length.
 use borrow.Author.Needs.{needs}
 use Rattle.fields.proofs.length_step.Statement.{statement}
 use Rattle.fields.proofs.length_step.Tie as tie
-use Rattle.fields.proofs.length_step.Reads as reads
-use Rattle.fields.proofs.length_step.Lts as lts
-use Rattle.fields.proofs.count_step.Reads as count-step-reads
-use mathlib.Core.Path.{_≡_, sym, _∙_, ap}
+use mathlib.Core.Path.{sym, _∙_}
 use Rattle.fields.specs.Fields.{lengthStep}
 
--- src/lib.rt:154:11
 count-step-requires : tie.Need-count-step-requires
 count-step-requires c κs = search needs
 
--- src/lib.rt:155:22
 enum-known-refusal : tie.Need-enum-known-refusal
 enum-known-refusal c = search needs
 
--- src/lib.rt:156:35
 enum-known-next : tie.Need-enum-known-next
 enum-known-next c = search needs
 
--- src/lib.rt:151:1
 returns : tie.Need-returns
 unfolding lengthStep
 returns c = rw (sym (c .before .before .before .count-step .ensures) ∙ c .before .refusal .given .1)
 
--- src/lib.rt:151:1
 returns-2 : tie.Need-returns-2
 unfolding lengthStep
 returns-2 c = rw (sym (c .before .before .before .count-step .ensures) ∙ c .before .next .given .1)

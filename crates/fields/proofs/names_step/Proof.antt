@@ -1,34 +1,26 @@
+-- Id and name.
 use borrow.Author.Needs.{needs}
 use Rattle.fields.proofs.names_step.Statement.{statement}
 use Rattle.fields.proofs.names_step.Tie as tie
-use Rattle.fields.proofs.names_step.Reads as reads
-use Rattle.fields.proofs.names_step.Lts as lts
-use Rattle.fields.proofs.text_step.Reads as text-step-reads
-use mathlib.Core.Path.{_≡_, sym, _∙_, ap}
+use mathlib.Core.Path.{sym, _∙_}
 use Rattle.fields.specs.Fields.{namesStep}
 
--- src/lib.rt:90:11
 text-step-requires : tie.Need-text-step-requires
 text-step-requires c κs = search needs
 
--- src/lib.rt:91:23
 enum-known-refusal : tie.Need-enum-known-refusal
 enum-known-refusal c = search needs
 
--- src/lib.rt:92:20
 enum-known-i : tie.Need-enum-known-i
 enum-known-i c = search needs
 
--- src/lib.rt:92:26
 text-step-requires-2 : tie.Need-text-step-requires-2
 text-step-requires-2 c κs = search needs
 
--- src/lib.rt:87:1
 returns : tie.Need-returns
 unfolding namesStep
 returns c = rw (sym (c .before .before .before .text-step .ensures) ∙ c .before .refusal .given .1)
 
--- src/lib.rt:87:1
 returns-2 : tie.Need-returns-2
 unfolding namesStep
 returns-2 c = rw (sym (c .before .before .before .before .text-step .ensures) ∙ c .before .before .i .given .1) (c .text-step2 .ensures)

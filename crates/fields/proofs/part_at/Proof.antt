@@ -1,74 +1,57 @@
+-- The encapsulation whose length stands at an index.
 use borrow.Author.Needs.{needs}
 use Rattle.fields.proofs.part_at.Statement.{statement}
 use Rattle.fields.proofs.part_at.Tie as tie
-use Rattle.fields.proofs.part_at.Reads as reads
-use Rattle.fields.proofs.part_at.Lts as lts
-use Rattle.cdr.proofs.Order.named.Reads as named-reads
-use Rattle.encapsulation.proofs.read_field.Reads as read-field-reads
-use mathlib.Core.Path.{_≡_, sym, _∙_, ap}
+use mathlib.Core.Path.{sym, _∙_}
 use native.Mathlib.Omega.{arith}
 use borrow.Author.Tests.{lt-ltb, le-ltb, eq-eqb, ne-eqb}
 use Rattle.fields.specs.Fields.{partOf}
 use Rattle.encapsulation.proofs.Fields.{field-facts}
 use Rattle.cdr.specs.declared.Size.the-variants.{Four}
 
--- src/lib.rt:197:9
 read-field-requires : tie.Need-read-field-requires
 read-field-requires c κs = search needs
 
--- src/lib.rt:195:16
 enum-known-length : tie.Need-enum-known-length
 enum-known-length c = search needs
 
--- src/lib.rt:199:29
 enum-told : tie.Need-enum-told
 enum-told c = search needs
 
--- src/lib.rt:199:9
 returns : tie.Need-returns
 unfolding partOf
 returns c = rw (sym (c .before .before .read-field .ensures) ∙ c .enum-told .given .1)
 
--- src/lib.rt:203:9
 returns-2 : tie.Need-returns-2
 unfolding partOf
 returns-2 c = rw (sym (c .before .before .before .before .read-field .ensures) ∙ c .before .before .length .given .1, eq-eqb _ _ (c .if1 .taken))
 
--- src/lib.rt:205:10
 sub-if2 : tie.Need-sub-if2
 sub-if2 c = omega (arith, field-facts (c .before .before .before .before .before .before .args .s .now) (c .before .before .before .before .before .before .args .at) Four (c .before .before .before .before .before .before .args .order) _ _ (sym (c .before .before .before .before .read-field .ensures) ∙ c .before .before .length .given .1) .fits)
 
--- src/lib.rt:206:9
 returns-3 : tie.Need-returns-3
 unfolding partOf
 returns-3 c = rw (sym (c .before .before .before .before .before .read-field .ensures) ∙ c .before .before .before .length .given .1, ne-eqb _ _ (c .before .if1 .left), lt-ltb _ _ (c .if2 .taken))
 
--- src/lib.rt:208:15
 add-end : tie.Need-add-end
 add-end c = search needs
 
--- src/lib.rt:209:24
 shared-slice-read-named : tie.Need-shared-slice-read-named
 shared-slice-read-named c = search needs
 
--- src/lib.rt:209:11
 named-requires : tie.Need-named-requires
 named-requires c κs = search needs
 
--- src/lib.rt:210:19
 enum-known-order : tie.Need-enum-known-order
 enum-known-order c = search needs
 
--- src/lib.rt:211:40
 enum-told-2 : tie.Need-enum-told-2
 enum-told-2 c = search needs
 
--- src/lib.rt:191:1
 returns-4 : tie.Need-returns-4
 unfolding partOf
 returns-4 c = rw (sym (c .before .before .before .before .before .before .before .before .before .before .read-field .ensures) ∙ c .before .before .before .before .before .before .before .before .length .given .1, ne-eqb _ _ (c .before .before .before .before .before .before .if1 .left), le-ltb _ _ (c .before .before .before .before .before .if2 .left), sym (c .before .before .before .named .ensures) ∙ c .before .order .given .1)
 
--- src/lib.rt:191:1
 returns-5 : tie.Need-returns-5
 unfolding partOf
 returns-5 c = rw (sym (c .before .before .before .before .before .before .before .before .before .read-field .ensures) ∙ c .before .before .before .before .before .before .before .length .given .1, ne-eqb _ _ (c .before .before .before .before .before .if1 .left), le-ltb _ _ (c .before .before .before .before .if2 .left), sym (c .before .before .named .ensures) ∙ c .enum-told2 .given .1)

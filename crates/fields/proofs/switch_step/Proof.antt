@@ -1,58 +1,43 @@
+-- Default and count of a union.
 use borrow.Author.Needs.{needs}
 use Rattle.fields.proofs.switch_step.Statement.{statement}
 use Rattle.fields.proofs.switch_step.Tie as tie
-use Rattle.fields.proofs.switch_step.Reads as reads
-use Rattle.fields.proofs.switch_step.Lts as lts
-use Rattle.encapsulation.proofs.read_field.Reads as read-field-reads
-use Rattle.fields.proofs.bad_default.Reads as bad-default-reads
-use Rattle.fields.proofs.count_step.Reads as count-step-reads
-use mathlib.Core.Path.{_≡_, sym, _∙_, ap}
+use mathlib.Core.Path.{sym, _∙_}
 use Rattle.fields.specs.Fields.{switchStep}
 
--- src/lib.rt:235:9
 read-field-requires : tie.Need-read-field-requires
 read-field-requires c κs = search needs
 
--- src/lib.rt:233:16
 enum-known-default : tie.Need-enum-known-default
 enum-known-default c = search needs
 
--- src/lib.rt:237:29
 enum-told : tie.Need-enum-told
 enum-told c = search needs
 
--- src/lib.rt:237:9
 returns : tie.Need-returns
 unfolding switchStep
 returns c = rw (sym (c .before .before .read-field .ensures) ∙ c .enum-told .given .1)
 
--- src/lib.rt:239:11
 count-step-requires : tie.Need-count-step-requires
 count-step-requires c κs = search needs
 
--- src/lib.rt:240:22
 enum-known-refusal : tie.Need-enum-known-refusal
 enum-known-refusal c = search needs
 
--- src/lib.rt:241:25
 enum-known-count : tie.Need-enum-known-count
 enum-known-count c = search needs
 
--- src/lib.rt:242:16
 bad-default-requires : tie.Need-bad-default-requires
 bad-default-requires c κs = search needs
 
--- src/lib.rt:243:17
 returns-2 : tie.Need-returns-2
 unfolding switchStep
 returns-2 c = rw (sym (c .before .before .before .before .before .before .before .before .before .read-field .ensures) ∙ c .before .before .before .before .before .before .before .default .given .1, sym (c .before .before .before .before .before .count-step .ensures) ∙ c .before .before .before .count .given .1, sym (c .before .bad-default .ensures) ∙ c .if1 .taken)
 
--- src/lib.rt:229:1
 returns-3 : tie.Need-returns-3
 unfolding switchStep
 returns-3 c = rw (sym (c .before .before .before .before .before .before .before .read-field .ensures) ∙ c .before .before .before .before .before .default .given .1, sym (c .before .before .before .count-step .ensures) ∙ c .before .refusal .given .1)
 
--- src/lib.rt:229:1
 returns-4 : tie.Need-returns-4
 unfolding switchStep
 returns-4 c = rw (sym (c .before .before .before .before .before .before .before .before .before .read-field .ensures) ∙ c .before .before .before .before .before .before .before .default .given .1, sym (c .before .before .before .before .before .count-step .ensures) ∙ c .before .before .before .count .given .1, sym (c .before .bad-default .ensures) ∙ c .if1 .left)

@@ -1,49 +1,38 @@
+-- A text.
 use borrow.Author.Needs.{needs}
 use Rattle.fields.proofs.text_step.Statement.{statement}
 use Rattle.fields.proofs.text_step.Tie as tie
-use Rattle.fields.proofs.text_step.Reads as reads
-use Rattle.fields.proofs.text_step.Lts as lts
-use Rattle.encapsulation.proofs.read_string.Reads as read-string-reads
-use mathlib.Core.Path.{_≡_, sym, _∙_, ap}
+use mathlib.Core.Path.{sym, _∙_}
 use native.Mathlib.Omega.{arith}
 use Rattle.fields.specs.Fields.{textStep}
 use Rattle.fields.proofs.Strings.{string-facts}
 
--- src/lib.rt:79:11
 read-string-requires : tie.Need-read-string-requires
 read-string-requires c κs = search needs
 
--- src/lib.rt:80:27
 enum-known-from : tie.Need-enum-known-from
 enum-known-from c = search needs
 
--- src/lib.rt:80:62
 add-t8 : tie.Need-add-t8
 add-t8 c = omega (arith, string-facts (c .before .before .before .before .before .before .args .s .now) (c .before .before .before .before .before .before .args .at) (c .before .before .before .before .before .before .args .order) _ _ (sym (c .before .before .before .before .read-string .ensures) ∙ c .before .before .from .given .1) .1)
 
--- src/lib.rt:80:62
 add-t9 : tie.Need-add-t9
 add-t9 c = omega (arith, string-facts (c .before .before .before .before .before .before .args .s .now) (c .before .before .before .before .before .before .args .at) (c .before .before .before .before .before .before .args .order) _ _ (sym (c .before .before .before .before .read-string .ensures) ∙ c .before .before .from .given .1) .1)
 
--- src/lib.rt:81:39
 enum-told : tie.Need-enum-told
 enum-told c = search needs
 
--- src/lib.rt:82:38
 enum-told-2 : tie.Need-enum-told-2
 enum-told-2 c = search needs
 
--- src/lib.rt:76:1
 returns : tie.Need-returns
 unfolding textStep
 returns c = rw (sym (c .before .before .before .before .read-string .ensures) ∙ c .before .before .from .given .1)
 
--- src/lib.rt:76:1
 returns-2 : tie.Need-returns-2
 unfolding textStep
 returns-2 c = rw (sym (c .before .before .read-string .ensures) ∙ c .enum-told .given .1)
 
--- src/lib.rt:76:1
 returns-3 : tie.Need-returns-3
 unfolding textStep
 returns-3 c = rw (sym (c .before .before .read-string .ensures) ∙ c .enum-told2 .given .1)

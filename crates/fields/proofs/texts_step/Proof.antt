@@ -1,9 +1,7 @@
+-- So many names.
 use borrow.Author.Needs.{needs}
 use Rattle.fields.proofs.texts_step.Statement.{statement}
 use Rattle.fields.proofs.texts_step.Tie as tie
-use Rattle.fields.proofs.texts_step.Reads as reads
-use Rattle.fields.proofs.texts_step.Lts as lts
-use Rattle.fields.proofs.text_step.Reads as text-step-reads
 use mathlib.Core.Path.{_≡_, sym, _∙_, ap}
 use native.Mathlib.Omega.{arith}
 use Prim.Native.Nat.{ℕ, _-_, _≤_}
@@ -17,39 +15,30 @@ Inv-loop s order count next₀ k₀ next k = (k ≤ count) × (textsStep s order
 abbrev μ-loop : tie.MeasureT-loop
 μ-loop s order count next₀ k₀ next k = count - k
 
--- src/lib.rt:166:5
 loop-holds : tie.Need-loop-holds Inv-loop μ-loop
 loop-holds c = (omega arith, ap (λ (x : ℕ). textsStep (c .before .args .s .now) (c .before .args .order) x (c .before .args .at)) (sub-zero (c .before .args .count)))
 
--- src/lib.rt:167:15
 text-step-requires : tie.Need-text-step-requires Inv-loop μ-loop
 text-step-requires c κs = search needs
 
--- src/lib.rt:168:27
 enum-known-refusal : tie.Need-enum-known-refusal Inv-loop μ-loop
 enum-known-refusal c = search needs
 
--- src/lib.rt:169:17
 returns : tie.Need-returns Inv-loop μ-loop
 returns c = sym (texts-refused (c .before .before .before .before .before .before .before .args .s .now) (c .before .before .before .before .before .before .before .args .order) (c .before .before .before .before .before .before .before .args .count) (c .before .before .before .before .before .loop .k) (c .before .before .before .before .before .loop .next) (c .before .before .before .before .loop-test .taken) _ (sym (c .before .before .before .text-step .ensures) ∙ c .before .refusal .given .1)) ∙ c .before .before .before .before .before .loop .inv .1
 
--- src/lib.rt:171:24
 enum-known-i : tie.Need-enum-known-i Inv-loop μ-loop
 enum-known-i c = search needs
 
--- src/lib.rt:175:9
 add-k : tie.Need-add-k Inv-loop μ-loop
 add-k c = search needs
 
--- src/lib.rt:166:5
 loop-less : tie.Need-loop-less Inv-loop μ-loop
 loop-less c = search needs
 
--- src/lib.rt:166:5
 loop-again : tie.Need-loop-again Inv-loop μ-loop
 loop-again c = (omega (arith, c .before .before .before .before .loop-test .taken), sym (texts-next (c .before .before .before .before .before .before .before .args .s .now) (c .before .before .before .before .before .before .before .args .order) (c .before .before .before .before .before .before .before .args .count) (c .before .before .before .before .before .loop .k) (c .before .before .before .before .before .loop .next) (c .before .before .before .before .loop-test .taken) _ (sym (c .before .before .before .text-step .ensures) ∙ c .before .i .given .1)) ∙ c .before .before .before .before .before .loop .inv .1)
 
--- src/lib.rt:161:1
 returns-2 : tie.Need-returns-2 Inv-loop μ-loop
 returns-2 c = sym (texts-end (c .before .before .before .args .s .now) (c .before .before .before .args .order) (c .before .before .before .args .count) (c .before .loop .k) (c .before .loop .next) (c .loop-test .left)) ∙ c .before .loop .inv .1
 

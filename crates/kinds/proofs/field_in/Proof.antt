@@ -1,35 +1,27 @@
+-- The number at an index of the encapsulation that starts at a place.
 use borrow.Author.Needs.{needs}
 use Rattle.kinds.proofs.field_in.Statement.{statement}
 use Rattle.kinds.proofs.field_in.Tie as tie
-use Rattle.kinds.proofs.field_in.Reads as reads
-use Rattle.kinds.proofs.field_in.Lts as lts
-use Rattle.encapsulation.proofs.read_field.Reads as read-field-reads
-use mathlib.Core.Path.{_≡_, sym, _∙_, ap}
+use mathlib.Core.Path.{sym}
 use Rattle.kinds.specs.Parts.{fieldIn}
 use Rattle.kinds.proofs.Reading.{rest, field-beyond}
 
--- src/lib.rt:151:9
 returns : tie.Need-returns
 unfolding fieldIn
 returns c = sym (field-beyond (c .before .before .args .v .now) (c .before .before .args .start) (c .before .before .args .at) (c .before .before .args .size) (c .before .before .args .order) (c .if1 .taken))
 
--- src/lib.rt:153:31
 sub-read-field : tie.Need-sub-read-field
 sub-read-field c = search needs
 
--- src/lib.rt:153:31
 part-read-field-start : tie.Need-part-read-field-start
 part-read-field-start c = search needs
 
--- src/lib.rt:153:31
 part-read-field-end : tie.Need-part-read-field-end
 part-read-field-end c = search needs
 
--- src/lib.rt:153:5
 read-field-requires : tie.Need-read-field-requires
 read-field-requires c κs = search needs
 
--- src/lib.rt:146:1
 returns-2 : tie.Need-returns-2
 unfolding fieldIn
 returns-2 c = rw (← rest (c .before .before .before .before .args .v .now) (c .before .before .before .before .args .start .0)) (c .read-field .ensures)

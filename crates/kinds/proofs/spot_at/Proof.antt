@@ -1,75 +1,56 @@
+-- The place of the type that is written at an index of the encapsulation that starts at a place, and the index after it.
 use borrow.Author.Needs.{needs}
 use Rattle.kinds.proofs.spot_at.Statement.{statement}
 use Rattle.kinds.proofs.spot_at.Tie as tie
-use Rattle.kinds.proofs.spot_at.Reads as reads
-use Rattle.kinds.proofs.spot_at.Lts as lts
-use Rattle.kinds.proofs.field_in.Reads as field-in-reads
-use Rattle.kinds.proofs.form_of.Reads as form-of-reads
-use Rattle.kinds.proofs.parts.aimed.Reads as aimed-reads
-use Rattle.kinds.proofs.parts.skip_kind.Reads as skip-kind-reads
-use mathlib.Core.Path.{_≡_, sym, _∙_, ap}
+use mathlib.Core.Path.{sym, _∙_}
 use native.Mathlib.Omega.{arith}
-use borrow.Author.Tests.{lt-ltb, le-ltb, eq-eqb, ne-eqb}
+use borrow.Author.Tests.{eq-eqb, ne-eqb}
 use Rattle.kinds.specs.Parts.{spotAt}
 use Rattle.kinds.proofs.Reading.{field-inside}
 use Rattle.cdr.specs.declared.Size.the-variants.{Four}
 
--- src/lib.rt:179:46
 field-in-requires : tie.Need-field-in-requires
 field-in-requires c κs = search needs
 
--- src/lib.rt:179:31
 enum-known-kind : tie.Need-enum-known-kind
 enum-known-kind c = search needs
 
--- src/lib.rt:180:9
 enum-told : tie.Need-enum-told
 enum-told c = search needs
 
--- src/lib.rt:180:9
 returns : tie.Need-returns
 unfolding spotAt
 returns c = rw (sym (c .before .before .field-in .ensures) ∙ c .enum-told .given .1)
 
--- src/lib.rt:183:9
 aimed-requires : tie.Need-aimed-requires
 aimed-requires c κs = search needs
 
--- src/lib.rt:183:9
 returns-2 : tie.Need-returns-2
 unfolding spotAt
 returns-2 c = rw (sym (c .before .before .before .before .before .field-in .ensures) ∙ c .before .before .before .kind .given .1, eq-eqb _ _ (c .before .if1 .taken)) (c .aimed .ensures)
 
--- src/lib.rt:185:28
 form-of-requires : tie.Need-form-of-requires
 form-of-requires c κs = search needs
 
--- src/lib.rt:185:11
 skip-kind-requires : tie.Need-skip-kind-requires
 skip-kind-requires c κs = search needs
 
--- src/lib.rt:186:20
 enum-known-over : tie.Need-enum-known-over
 enum-known-over c = search needs
 
--- src/lib.rt:187:37
 sub-t14 : tie.Need-sub-t14
 sub-t14 c = omega (arith, field-inside (c .before .before .before .before .before .before .before .before .before .before .before .before .args .v .now) (c .before .before .before .before .before .before .before .before .before .before .before .before .args .start) (c .before .before .before .before .before .before .before .before .before .before .before .before .args .at) Four (c .before .before .before .before .before .before .before .before .before .before .before .before .args .order) _ _ (sym (c .before .before .before .before .before .before .before .before .before .before .field-in .ensures) ∙ c .before .before .before .before .before .before .before .before .kind .given .1) .0)
 
--- src/lib.rt:187:26
 add-t15 : tie.Need-add-t15
 add-t15 c = omega (arith, field-inside (c .before .before .before .before .before .before .before .before .before .before .before .before .before .args .v .now) (c .before .before .before .before .before .before .before .before .before .before .before .before .before .args .start) (c .before .before .before .before .before .before .before .before .before .before .before .before .before .args .at) Four (c .before .before .before .before .before .before .before .before .before .before .before .before .before .args .order) _ _ (sym (c .before .before .before .before .before .before .before .before .before .before .before .field-in .ensures) ∙ c .before .before .before .before .before .before .before .before .before .kind .given .1) .1)
 
--- src/lib.rt:190:24
 enum-told-2 : tie.Need-enum-told-2
 enum-told-2 c = search needs
 
--- src/lib.rt:176:1
 returns-3 : tie.Need-returns-3
 unfolding spotAt
 returns-3 c = rw (sym (c .before .before .before .before .before .before .before .before .before .before .before .field-in .ensures) ∙ c .before .before .before .before .before .before .before .before .before .kind .given .1, ne-eqb _ _ (c .before .before .before .before .before .before .before .if1 .left), ← c .before .before .before .before .before .before .form-of .ensures, sym (c .before .before .before .before .before .skip-kind .ensures) ∙ c .before .before .before .over .given .1)
 
--- src/lib.rt:176:1
 returns-4 : tie.Need-returns-4
 unfolding spotAt
 returns-4 c = rw (sym (c .before .before .before .before .before .before .before .before .field-in .ensures) ∙ c .before .before .before .before .before .before .kind .given .1, ne-eqb _ _ (c .before .before .before .before .if1 .left), ← c .before .before .before .form-of .ensures, sym (c .before .before .skip-kind .ensures) ∙ c .enum-told2 .given .1)

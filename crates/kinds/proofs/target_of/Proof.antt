@@ -1,38 +1,29 @@
+-- Where an offset leads that stands at a place.
 use borrow.Author.Needs.{needs}
 use Rattle.kinds.proofs.target_of.Statement.{statement}
 use Rattle.kinds.proofs.target_of.Tie as tie
-use Rattle.kinds.proofs.target_of.Reads as reads
-use Rattle.kinds.proofs.target_of.Lts as lts
-use Rattle.kinds.proofs.parts.back.Reads as back-reads
-use mathlib.Core.Path.{_≡_, sym, _∙_, ap}
+use mathlib.Core.Path.{sym}
 use native.Mathlib.Omega.{arith}
 use Rattle.kinds.proofs.Reading.{target-forward, target-over, target-under, target-back}
 
--- src/lib.rt:162:24
 sub-if2 : tie.Need-sub-if2
 sub-if2 c = search needs
 
--- src/lib.rt:163:30
 add-t11 : tie.Need-add-t11
 add-t11 c = search needs
 
--- src/lib.rt:162:9
 returns : tie.Need-returns
 returns c = sym (target-forward (c .before .before .args .at) (c .before .before .args .offset) (c .before .if1 .taken) (omega (arith, c .if2 .taken)))
 
--- src/lib.rt:162:9
 returns-2 : tie.Need-returns-2
 returns-2 c = sym (target-over (c .before .before .args .at) (c .before .before .args .offset) (c .before .if1 .taken) (omega (arith, c .if2 .left)))
 
--- src/lib.rt:168:9
 back-requires : tie.Need-back-requires
 back-requires c κs = search needs
 
--- src/lib.rt:170:9
 returns-3 : tie.Need-returns-3
 returns-3 c = sym (target-under (c .before .before .before .args .at) (c .before .before .before .args .offset) (c .before .before .if1 .left) (rw (← c .before .back .ensures) (c .if3 .taken)))
 
--- src/lib.rt:157:1
 returns-4 : tie.Need-returns-4
 returns-4 c = rw (c .before .back .ensures) (sym (target-back (c .before .before .before .args .at) (c .before .before .before .args .offset) (c .before .before .if1 .left) (rw (← c .before .back .ensures) (c .if3 .left))))
 

@@ -1,29 +1,23 @@
+-- A place of the list, 0 past its end.
 use borrow.Author.Needs.{needs}
 use Rattle.met.proofs.entry.Statement.{statement}
 use Rattle.met.proofs.entry.Tie as tie
-use Rattle.met.proofs.entry.Reads as reads
-use Rattle.met.proofs.entry.Lts as lts
-use mathlib.Core.Path.{_≡_, sym, _∙_, ap}
+use mathlib.Core.Path.{sym}
 use lib.ListN.{List·getD-eq-default}
 use native.Mathlib.Omega.{arith}
 
--- src/lib.rt:44:17
 mul-result : tie.Need-mul-result
 mul-result c = search needs
 
--- src/lib.rt:44:17
 array-read-result : tie.Need-array-read-result
 array-read-result c = search needs
 
--- src/lib.rt:44:17
 cast-result : tie.Need-cast-result
 cast-result c = search needs
 
--- src/lib.rt:41:1
 returns : tie.Need-returns
 returns c = search needs
 
--- src/lib.rt:41:1
 returns-2 : tie.Need-returns-2
 returns-2 c = sym (List·getD-eq-default (c .before .args .t1) 0 (omega (arith, c .if1 .left)))
 

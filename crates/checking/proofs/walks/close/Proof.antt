@@ -1,16 +1,13 @@
+-- The kind at a position is read to its end.
 use borrow.Author.Needs.{needs}
 use Rattle.checking.proofs.walks.close.Statement.{statement}
 use Rattle.checking.proofs.walks.close.Tie as tie
-use Rattle.checking.proofs.walks.close.Reads as reads
-use Rattle.checking.proofs.walks.close.Lts as lts
 use Rattle.checking.specs.Walk.{closed}
 use mathlib.Core.Path.{refl}
 
--- src/walks.rt:140:5
 array-write-barred : tie.Need-array-write-barred
 array-write-barred c = search needs
 
--- src/walks.rt:134:1
 returns : tie.Need-returns
 unfolding closed
 returns c = refl

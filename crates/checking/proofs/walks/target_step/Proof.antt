@@ -1,56 +1,41 @@
+-- The target of an indirection is judged.
 use borrow.Author.Needs.{needs}
 use Rattle.checking.proofs.walks.target_step.Statement.{statement}
 use Rattle.checking.proofs.walks.target_step.Tie as tie
-use Rattle.checking.proofs.walks.target_step.Reads as reads
-use Rattle.checking.proofs.walks.target_step.Lts as lts
-use Rattle.checking.proofs.walks.barred_at.Reads as barred-at-reads
-use Rattle.checking.proofs.walks.goes_on.Reads as goes-on-reads
-use Rattle.checking.proofs.walks.refused.Reads as refused-reads
-use Rattle.met.proofs.Met.position.Reads as position-reads
-use mathlib.Core.Path.{_≡_, sym, _∙_, ap}
-use borrow.Author.Tests.{lt-ltb, le-ltb, eq-eqb, ne-eqb}
+use mathlib.Core.Path.{sym, _∙_}
+use borrow.Author.Tests.{lt-ltb}
 use Rattle.checking.specs.Types.{targetStep}
 use Rattle.met.proofs.Finding.{position-facts, position-nowhere}
 
--- src/walks.rt:81:27
 position-requires : tie.Need-position-requires
 position-requires c κs = search needs
 
--- src/walks.rt:81:22
 enum-known-i : tie.Need-enum-known-i
 enum-known-i c = search needs
 
--- src/walks.rt:82:24
 enum-told : tie.Need-enum-told
 enum-told c = search needs
 
--- src/walks.rt:82:9
 refused-requires : tie.Need-refused-requires
 refused-requires c κs = search needs
 
--- src/walks.rt:82:9
 returns : tie.Need-returns
 unfolding targetStep
 returns c = rw (position-nowhere (c .before .before .before .before .before .before .args .walk .met) (c .before .before .before .before .before .before .args .place) (sym (c .before .before .before .position .ensures) ∙ c .before .enum-told .given .1)) (c .refused .ensures)
 
--- src/walks.rt:84:8
 barred-at-requires : tie.Need-barred-at-requires
 barred-at-requires c κs = search needs
 
--- src/walks.rt:85:9
 refused-requires-2 : tie.Need-refused-requires-2
 refused-requires-2 c κs = search needs
 
--- src/walks.rt:85:9
 returns-2 : tie.Need-returns-2
 unfolding targetStep
 returns-2 c = rw (position-facts (c .before .before .before .before .before .before .before .before .before .args .walk .met) (c .before .before .before .before .before .before .before .before .before .args .place) _ (sym (c .before .before .before .before .before .before .position .ensures) ∙ c .before .before .before .before .i .given .1) .0, lt-ltb _ _ (position-facts (c .before .before .before .before .before .before .before .before .before .args .walk .met) (c .before .before .before .before .before .before .before .before .before .args .place) _ (sym (c .before .before .before .before .before .before .position .ensures) ∙ c .before .before .before .before .i .given .1) .1), sym (c .before .before .barred-at .ensures) ∙ c .before .if1 .taken) (c .refused2 .ensures)
 
--- src/walks.rt:87:5
 goes-on-requires : tie.Need-goes-on-requires
 goes-on-requires c κs = search needs
 
--- src/walks.rt:76:1
 returns-3 : tie.Need-returns-3
 unfolding targetStep
 returns-3 c = rw (position-facts (c .before .before .before .before .before .before .before .before .before .args .walk .met) (c .before .before .before .before .before .before .before .before .before .args .place) _ (sym (c .before .before .before .before .before .before .position .ensures) ∙ c .before .before .before .before .i .given .1) .0, lt-ltb _ _ (position-facts (c .before .before .before .before .before .before .before .before .before .args .walk .met) (c .before .before .before .before .before .before .before .before .before .args .place) _ (sym (c .before .before .before .before .before .before .position .ensures) ∙ c .before .before .before .before .i .given .1) .1), sym (c .before .before .barred-at .ensures) ∙ c .before .if1 .left) (c .goes-on .ensures)

@@ -1,40 +1,30 @@
+-- The encapsulation that follows a kind of a layout.
 use borrow.Author.Needs.{needs}
 use Rattle.kinds.proofs.inside.composite_after.Statement.{statement}
 use Rattle.kinds.proofs.inside.composite_after.Tie as tie
-use Rattle.kinds.proofs.inside.composite_after.Reads as reads
-use Rattle.kinds.proofs.inside.composite_after.Lts as lts
-use Rattle.kinds.proofs.field_in.Reads as field-in-reads
-use Rattle.kinds.proofs.inside.encapsulated.Reads as encapsulated-reads
-use mathlib.Core.Path.{_≡_, sym, _∙_, ap}
+use mathlib.Core.Path.{sym, _∙_}
 use native.Mathlib.Omega.{arith}
 use Rattle.kinds.proofs.Reading.{field-inside}
 use Rattle.cdr.specs.declared.Size.the-variants.{Four}
 
--- src/inside.rt:253:11
 field-in-requires : tie.Need-field-in-requires
 field-in-requires c κs = search needs
 
--- src/inside.rt:256:19
 enum-known-from : tie.Need-enum-known-from
 enum-known-from c = search needs
 
--- src/inside.rt:257:44
 add-t10 : tie.Need-add-t10
 add-t10 c = omega (arith, field-inside (c .before .before .before .before .before .before .before .args .v .now) (c .before .before .before .before .before .before .before .args .start) (c .before .before .before .before .before .before .before .args .at) Four (c .before .before .before .before .before .before .before .args .order) _ _ (sym (c .before .before .before .before .before .field-in .ensures) ∙ c .before .before .before .from .given .1) .1)
 
--- src/inside.rt:257:14
 encapsulated-requires : tie.Need-encapsulated-requires
 encapsulated-requires c κs = search needs
 
--- src/inside.rt:258:27
 enum-told : tie.Need-enum-told
 enum-told c = search needs
 
--- src/inside.rt:250:1
 returns : tie.Need-returns
 returns c = rw (sym (c .before .before .before .before .before .before .field-in .ensures) ∙ c .before .before .before .before .from .given .1) (c .encapsulated .ensures)
 
--- src/inside.rt:250:1
 returns-2 : tie.Need-returns-2
 returns-2 c = rw (sym (c .before .before .field-in .ensures) ∙ c .enum-told .given .1)
 

@@ -1,28 +1,21 @@
+-- What an exception holds.
 use borrow.Author.Needs.{needs}
 use Rattle.kinds.proofs.inside.exception_in.Statement.{statement}
 use Rattle.kinds.proofs.inside.exception_in.Tie as tie
-use Rattle.kinds.proofs.inside.exception_in.Reads as reads
-use Rattle.kinds.proofs.inside.exception_in.Lts as lts
-use Rattle.kinds.proofs.inside.count_in.Reads as count-in-reads
-use mathlib.Core.Path.{_≡_, sym, _∙_, ap}
+use mathlib.Core.Path.{sym, _∙_}
 
--- src/inside.rt:114:11
 count-in-requires : tie.Need-count-in-requires
 count-in-requires c κs = search needs
 
--- src/inside.rt:116:20
 enum-known-count : tie.Need-enum-known-count
 enum-known-count c = search needs
 
--- src/inside.rt:124:27
 enum-told : tie.Need-enum-told
 enum-told c = search needs
 
--- src/inside.rt:111:1
 returns : tie.Need-returns
 returns c = rw (sym (c .before .before .before .count-in .ensures) ∙ c .before .count .given .1)
 
--- src/inside.rt:111:1
 returns-2 : tie.Need-returns-2
 returns-2 c = rw (sym (c .before .before .count-in .ensures) ∙ c .enum-told .given .1)
 

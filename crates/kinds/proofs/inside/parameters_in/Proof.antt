@@ -1,106 +1,74 @@
+-- What an encapsulation of a layout holds.
 use borrow.Author.Needs.{needs}
 use Rattle.kinds.proofs.inside.parameters_in.Statement.{statement}
 use Rattle.kinds.proofs.inside.parameters_in.Tie as tie
-use Rattle.kinds.proofs.inside.parameters_in.Reads as reads
-use Rattle.kinds.proofs.inside.parameters_in.Lts as lts
-use Rattle.kinds.proofs.inside.alias_in.Reads as alias-in-reads
-use Rattle.kinds.proofs.inside.array_in.Reads as array-in-reads
-use Rattle.kinds.proofs.inside.enum_in.Reads as enum-in-reads
-use Rattle.kinds.proofs.inside.exception_in.Reads as exception-in-reads
-use Rattle.kinds.proofs.inside.sequence_in.Reads as sequence-in-reads
-use Rattle.kinds.proofs.inside.struct_in.Reads as struct-in-reads
-use Rattle.kinds.proofs.inside.switch_in.Reads as switch-in-reads
-use mathlib.Core.Path.{_≡_, sym, _∙_, ap}
 
--- src/inside.rt:192:27
 enum-told : tie.Need-enum-told
 enum-told c = search needs
 
--- src/inside.rt:193:27
 enum-told-2 : tie.Need-enum-told-2
 enum-told-2 c = search needs
 
--- src/inside.rt:193:27
 struct-in-requires : tie.Need-struct-in-requires
 struct-in-requires c κs = search needs
 
--- src/inside.rt:194:26
 enum-told-3 : tie.Need-enum-told-3
 enum-told-3 c = search needs
 
--- src/inside.rt:194:26
 switch-in-requires : tie.Need-switch-in-requires
 switch-in-requires c κs = search needs
 
--- src/inside.rt:195:25
 enum-told-4 : tie.Need-enum-told-4
 enum-told-4 c = search needs
 
--- src/inside.rt:195:25
 enum-in-requires : tie.Need-enum-in-requires
 enum-in-requires c κs = search needs
 
--- src/inside.rt:196:29
 enum-told-5 : tie.Need-enum-told-5
 enum-told-5 c = search needs
 
--- src/inside.rt:196:29
 sequence-in-requires : tie.Need-sequence-in-requires
 sequence-in-requires c κs = search needs
 
--- src/inside.rt:197:26
 enum-told-6 : tie.Need-enum-told-6
 enum-told-6 c = search needs
 
--- src/inside.rt:197:26
 array-in-requires : tie.Need-array-in-requires
 array-in-requires c κs = search needs
 
--- src/inside.rt:198:26
 enum-told-7 : tie.Need-enum-told-7
 enum-told-7 c = search needs
 
--- src/inside.rt:198:26
 alias-in-requires : tie.Need-alias-in-requires
 alias-in-requires c κs = search needs
 
--- src/inside.rt:199:30
 enum-told-8 : tie.Need-enum-told-8
 enum-told-8 c = search needs
 
--- src/inside.rt:199:30
 exception-in-requires : tie.Need-exception-in-requires
 exception-in-requires c κs = search needs
 
--- src/inside.rt:188:1
 returns : tie.Need-returns
 returns c = search needs
 
--- src/inside.rt:188:1
 returns-2 : tie.Need-returns-2
 returns-2 c = rw (c .before .enum-told2 .given .1) (c .struct-in .ensures)
 
--- src/inside.rt:188:1
 returns-3 : tie.Need-returns-3
 returns-3 c = rw (c .before .enum-told3 .given .1) (c .switch-in .ensures)
 
--- src/inside.rt:188:1
 returns-4 : tie.Need-returns-4
 returns-4 c = rw (c .before .enum-told4 .given .1) (c .enum-in .ensures)
 
--- src/inside.rt:188:1
 returns-5 : tie.Need-returns-5
 returns-5 c = rw (c .before .enum-told5 .given .1) (c .sequence-in .ensures)
 
--- src/inside.rt:188:1
 returns-6 : tie.Need-returns-6
 returns-6 c = rw (c .before .enum-told6 .given .1) (c .array-in .ensures)
 
--- src/inside.rt:188:1
 returns-7 : tie.Need-returns-7
 returns-7 c = rw (c .before .enum-told7 .given .1) (c .alias-in .ensures)
 
--- src/inside.rt:188:1
 returns-8 : tie.Need-returns-8
 returns-8 c = rw (c .before .enum-told8 .given .1) (c .exception-in .ensures)
 

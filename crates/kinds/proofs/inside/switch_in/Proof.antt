@@ -1,33 +1,24 @@
+-- What a union holds.
 use borrow.Author.Needs.{needs}
 use Rattle.kinds.proofs.inside.switch_in.Statement.{statement}
 use Rattle.kinds.proofs.inside.switch_in.Tie as tie
-use Rattle.kinds.proofs.inside.switch_in.Reads as reads
-use Rattle.kinds.proofs.inside.switch_in.Lts as lts
-use Rattle.kinds.proofs.inside.type_in.Reads as type-in-reads
-use Rattle.kinds.proofs.inside.union_in.Reads as union-in-reads
-use mathlib.Core.Path.{_≡_, sym, _∙_, ap}
+use mathlib.Core.Path.{sym, _∙_}
 
--- src/inside.rt:181:11
 type-in-requires : tie.Need-type-in-requires
 type-in-requires c κs = search needs
 
--- src/inside.rt:182:20
 enum-known-place : tie.Need-enum-known-place
 enum-known-place c = search needs
 
--- src/inside.rt:182:37
 union-in-requires : tie.Need-union-in-requires
 union-in-requires c κs = search needs
 
--- src/inside.rt:183:26
 enum-told : tie.Need-enum-told
 enum-told c = search needs
 
--- src/inside.rt:178:1
 returns : tie.Need-returns
 returns c = rw (sym (c .before .before .before .before .type-in .ensures) ∙ c .before .before .place .given .1) (c .union-in .ensures)
 
--- src/inside.rt:178:1
 returns-2 : tie.Need-returns-2
 returns-2 c = rw (sym (c .before .before .type-in .ensures) ∙ c .enum-told .given .1)
 

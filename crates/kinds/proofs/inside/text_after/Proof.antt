@@ -1,28 +1,21 @@
+-- The bound that follows the kind of a string.
 use borrow.Author.Needs.{needs}
 use Rattle.kinds.proofs.inside.text_after.Statement.{statement}
 use Rattle.kinds.proofs.inside.text_after.Tie as tie
-use Rattle.kinds.proofs.inside.text_after.Reads as reads
-use Rattle.kinds.proofs.inside.text_after.Lts as lts
-use Rattle.kinds.proofs.field_in.Reads as field-in-reads
-use mathlib.Core.Path.{_≡_, sym, _∙_, ap}
+use mathlib.Core.Path.{sym, _∙_}
 
--- src/inside.rt:240:11
 field-in-requires : tie.Need-field-in-requires
 field-in-requires c κs = search needs
 
--- src/inside.rt:242:20
 enum-known-bound : tie.Need-enum-known-bound
 enum-known-bound c = search needs
 
--- src/inside.rt:245:27
 enum-told : tie.Need-enum-told
 enum-told c = search needs
 
--- src/inside.rt:237:1
 returns : tie.Need-returns
 returns c = rw (sym (c .before .before .before .field-in .ensures) ∙ c .before .bound .given .1)
 
--- src/inside.rt:237:1
 returns-2 : tie.Need-returns-2
 returns-2 c = rw (sym (c .before .before .field-in .ensures) ∙ c .enum-told .given .1)
 

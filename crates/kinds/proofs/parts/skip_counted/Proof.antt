@@ -1,9 +1,7 @@
+-- Counted octets are passed over.
 use borrow.Author.Needs.{needs}
 use Rattle.kinds.proofs.parts.skip_counted.Statement.{statement}
 use Rattle.kinds.proofs.parts.skip_counted.Tie as tie
-use Rattle.kinds.proofs.parts.skip_counted.Reads as reads
-use Rattle.kinds.proofs.parts.skip_counted.Lts as lts
-use Rattle.encapsulation.proofs.read_counted.Reads as read-counted-reads
 use mathlib.Core.Path.{_≡_, sym, _∙_, ap}
 use native.Mathlib.Omega.{arith}
 use lib.ListN.{drop, length-drop}
@@ -15,32 +13,25 @@ use Prim.Native.Nat.{ℕ}
 use Rattle.encapsulation.specs.Encapsulation.{countedOf}
 use Rattle.encapsulation.specs.declared.Counted.the-variants.{Octets}
 
--- src/parts.rt:54:9
 returns : tie.Need-returns
 unfolding skipCounted
 returns c = sym (ap skipFrom (counted-beyond (c .before .before .args .v .now) (c .before .before .args .start) (c .before .before .args .at) (c .before .before .args .order) (c .if1 .taken)))
 
--- src/parts.rt:56:39
 sub-read-counted : tie.Need-sub-read-counted
 sub-read-counted c = search needs
 
--- src/parts.rt:56:39
 part-read-counted-start : tie.Need-part-read-counted-start
 part-read-counted-start c = search needs
 
--- src/parts.rt:56:39
 part-read-counted-end : tie.Need-part-read-counted-end
 part-read-counted-end c = search needs
 
--- src/parts.rt:56:11
 read-counted-requires : tie.Need-read-counted-requires
 read-counted-requires c κs = search needs
 
--- src/parts.rt:57:27
 enum-known-from : tie.Need-enum-known-from
 enum-known-from c = search needs
 
--- src/parts.rt:57:61
 add-t15 : tie.Need-add-t15
 add-t15 c =
     let o = c .before .before .before .before .before .before .before .before .args in
@@ -49,16 +40,13 @@ add-t15 c =
     let f = counted-facts (drop (o .start .0) (o .v .now)) (o .at) (o .order) (g .0 .0) (g .0 .1 .0) e in
     omega (arith, f .1, length-drop (o .start .0) (o .v .now))
 
--- src/parts.rt:58:30
 enum-told : tie.Need-enum-told
 enum-told c = search needs
 
--- src/parts.rt:49:1
 returns-2 : tie.Need-returns-2
 unfolding skipCounted
 returns-2 c = rw (← rest (c .before .before .before .before .before .before .before .before .args .v .now) (c .before .before .before .before .before .before .before .before .args .start .0), sym (c .before .before .before .before .read-counted .ensures) ∙ c .before .before .from .given .1)
 
--- src/parts.rt:49:1
 returns-3 : tie.Need-returns-3
 unfolding skipCounted
 returns-3 c = rw (← rest (c .before .before .before .before .before .before .args .v .now) (c .before .before .before .before .before .before .args .start .0), sym (c .before .before .read-counted .ensures) ∙ c .enum-told .given .1)

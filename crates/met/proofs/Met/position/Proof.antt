@@ -1,10 +1,8 @@
+-- The position of the kind at a place.
 use borrow.Author.Needs.{needs}
 use Rattle.met.proofs.Met.position.Statement.{statement}
 use Rattle.met.proofs.Met.position.Tie as tie
-use Rattle.met.proofs.Met.position.Reads as reads
-use Rattle.met.proofs.Met.position.Lts as lts
-use Rattle.met.proofs.entry.Reads as entry-reads
-use mathlib.Core.Path.{_≡_, sym, _∙_, ap, refl}
+use mathlib.Core.Path.{_≡_, sym, _∙_, ap}
 use native.Mathlib.Omega.{arith}
 use Prim.Native.Nat.{_-_, _≤_}
 use Rattle.met.specs.Met.{findIn, findPlace}
@@ -18,34 +16,27 @@ Inv-loop place places n i₀ i = (i ≤ n) × (findIn places (place .0) (n - i) 
 abbrev μ-loop : tie.MeasureT-loop
 μ-loop place places n i₀ i = n - i
 
--- src/lib.rt:103:9
 loop-holds : tie.Need-loop-holds Inv-loop μ-loop
 loop-holds c = (omega arith, ap (λ (x : ℕ). findIn (c .before .args .self .places) (c .before .args .place .0) x 0) (sub-zero (c .before .args .self .count)))
 
--- src/lib.rt:104:16
 entry-requires : tie.Need-entry-requires Inv-loop μ-loop
 entry-requires c κs = search needs
 
--- src/lib.rt:105:17
 returns : tie.Need-returns Inv-loop μ-loop
 unfolding findPlace
 returns c =
     let o = c .before .before .before .before .before .before .args in let l = c .before .before .before .before .loop in
     sym (position-is (o .self) (o .place) (l .i) (sym (l .inv .1) ∙ find-hit (o .self .places) (o .place .0) (o .self .count) (l .i) (c .before .before .before .loop-test .taken) (sym (c .before .before .entry .ensures) ∙ c .if1 .taken)) (c .before .before .before .loop-test .taken))
 
--- src/lib.rt:107:13
 add-i : tie.Need-add-i Inv-loop μ-loop
 add-i c = search needs
 
--- src/lib.rt:103:9
 loop-less : tie.Need-loop-less Inv-loop μ-loop
 loop-less c = search needs
 
--- src/lib.rt:103:9
 loop-again : tie.Need-loop-again Inv-loop μ-loop
 loop-again c = (omega (arith, c .before .before .before .loop-test .taken), sym (find-miss (c .before .before .before .before .before .before .args .self .places) (c .before .before .before .before .before .before .args .place .0) (c .before .before .before .before .before .before .args .self .count) (c .before .before .before .before .loop .i) (c .before .before .before .loop-test .taken) (λ e. c .if1 .left (c .before .before .entry .ensures ∙ e))) ∙ c .before .before .before .before .loop .inv .1)
 
--- src/lib.rt:97:5
 returns-2 : tie.Need-returns-2 Inv-loop μ-loop
 unfolding findPlace
 returns-2 c =

@@ -1,13 +1,9 @@
+-- Whether one of the first members has this label.
 use borrow.Author.Needs.{needs}
 use Rattle.met.proofs.discriminants.label_among.Statement.{statement}
 use Rattle.met.proofs.discriminants.label_among.Tie as tie
-use Rattle.met.proofs.discriminants.label_among.Reads as reads
-use Rattle.met.proofs.discriminants.label_among.Lts as lts
-use Rattle.kinds.proofs.member_at.Reads as member-at-reads
-use Rattle.met.proofs.discriminants.label_is.Reads as label-is-reads
 use mathlib.Core.Path.{_≡_, sym, _∙_, ap}
 use native.Mathlib.Omega.{arith}
-use mathlib.Core.Path.{refl}
 use Prim.Native.Nat.{_-_, _≤_}
 use Rattle.met.specs.Discriminants.{labelAmong}
 use Rattle.met.proofs.Finding.{among-hit, among-miss, among-cut, among-end}
@@ -20,47 +16,36 @@ Inv-loop labels v start order label count at₀ k₀ at k = (k ≤ count) × (la
 abbrev μ-loop : tie.MeasureT-loop
 μ-loop labels v start order label count at₀ k₀ at k = count - k
 
--- src/discriminants.rt:143:5
 loop-holds : tie.Need-loop-holds Inv-loop μ-loop
 loop-holds c = (omega arith, let o = c .before .args in ap (λ (x : ℕ). labelAmong (o .labels) (o .v .now) (o .start) (o .order) (o .label) x (o .first)) (sub-zero (o .count)))
 
--- src/discriminants.rt:144:12
 label-is-requires : tie.Need-label-is-requires Inv-loop μ-loop
 label-is-requires c κs = search needs
 
--- src/discriminants.rt:145:13
 returns : tie.Need-returns Inv-loop μ-loop
 returns c = sym (among-hit (c .before .before .before .before .before .args .labels) (c .before .before .before .before .before .args .v .now) (c .before .before .before .before .before .args .start) (c .before .before .before .before .before .args .order) (c .before .before .before .before .before .args .label) (c .before .before .before .before .before .args .count) (c .before .before .before .loop .k) (c .before .before .before .loop .at) (c .before .before .loop-test .taken) (sym (c .before .label-is .ensures) ∙ c .if1 .taken)) ∙ c .before .before .before .loop .inv .1
 
--- src/discriminants.rt:147:43
 member-at-requires : tie.Need-member-at-requires Inv-loop μ-loop
 member-at-requires c κs = search needs
 
--- src/discriminants.rt:147:34
 enum-known-next : tie.Need-enum-known-next Inv-loop μ-loop
 enum-known-next c = search needs
 
--- src/discriminants.rt:148:13
 enum-told : tie.Need-enum-told Inv-loop μ-loop
 enum-told c = search needs
 
--- src/discriminants.rt:148:13
 returns-2 : tie.Need-returns-2 Inv-loop μ-loop
 returns-2 c = sym (among-cut (c .before .before .before .before .before .before .before .before .args .labels) (c .before .before .before .before .before .before .before .before .args .v .now) (c .before .before .before .before .before .before .before .before .args .start) (c .before .before .before .before .before .before .before .before .args .order) (c .before .before .before .before .before .before .before .before .args .label) (c .before .before .before .before .before .before .before .before .args .count) (c .before .before .before .before .before .before .loop .k) (c .before .before .before .before .before .before .loop .at) (c .before .before .before .before .before .loop-test .taken) (sym (c .before .before .before .before .label-is .ensures) ∙ c .before .before .before .if1 .left) (sym (c .before .before .member-at .ensures) ∙ c .enum-told .given .1)) ∙ c .before .before .before .before .before .before .loop .inv .1
 
--- src/discriminants.rt:151:9
 add-k : tie.Need-add-k Inv-loop μ-loop
 add-k c = search needs
 
--- src/discriminants.rt:143:5
 loop-less : tie.Need-loop-less Inv-loop μ-loop
 loop-less c = search needs
 
--- src/discriminants.rt:143:5
 loop-again : tie.Need-loop-again Inv-loop μ-loop
 loop-again c = (omega (arith, c .before .before .before .before .before .before .loop-test .taken), sym (among-miss (c .before .before .before .before .before .before .before .before .before .args .labels) (c .before .before .before .before .before .before .before .before .before .args .v .now) (c .before .before .before .before .before .before .before .before .before .args .start) (c .before .before .before .before .before .before .before .before .before .args .order) (c .before .before .before .before .before .before .before .before .before .args .label) (c .before .before .before .before .before .before .before .before .before .args .count) (c .before .before .before .before .before .before .before .loop .k) (c .before .before .before .before .before .before .before .loop .at) (c .before .before .before .before .before .before .loop-test .taken) (sym (c .before .before .before .before .before .label-is .ensures) ∙ c .before .before .before .before .if1 .left) _ _ (sym (c .before .before .before .member-at .ensures) ∙ c .before .next .given .1)) ∙ c .before .before .before .before .before .before .before .loop .inv .1)
 
--- src/discriminants.rt:130:1
 returns-3 : tie.Need-returns-3 Inv-loop μ-loop
 returns-3 c = sym (among-end (c .before .before .before .args .labels) (c .before .before .before .args .v .now) (c .before .before .before .args .start) (c .before .before .before .args .order) (c .before .before .before .args .label) (c .before .before .before .args .count) (c .before .loop .k) (c .before .loop .at) (c .loop-test .left)) ∙ c .before .loop .inv .1
 

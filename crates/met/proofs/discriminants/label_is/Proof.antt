@@ -1,40 +1,30 @@
+-- Whether the label at an index is this one.
 use borrow.Author.Needs.{needs}
 use Rattle.met.proofs.discriminants.label_is.Statement.{statement}
 use Rattle.met.proofs.discriminants.label_is.Tie as tie
-use Rattle.met.proofs.discriminants.label_is.Reads as reads
-use Rattle.met.proofs.discriminants.label_is.Lts as lts
-use Rattle.kinds.proofs.field_in.Reads as field-in-reads
-use mathlib.Core.Path.{_≡_, sym, _∙_, ap}
+use mathlib.Core.Path.{sym, _∙_}
 
--- src/discriminants.rt:120:22
 enum-known-labels : tie.Need-enum-known-labels
 enum-known-labels c = search needs
 
--- src/discriminants.rt:121:9
 enum-told : tie.Need-enum-told
 enum-told c = search needs
 
--- src/discriminants.rt:121:9
 returns : tie.Need-returns
 returns c = rw (c .enum-told .given .1)
 
--- src/discriminants.rt:123:11
 field-in-requires : tie.Need-field-in-requires
 field-in-requires c κs = search needs
 
--- src/discriminants.rt:124:24
 enum-known-value : tie.Need-enum-known-value
 enum-known-value c = search needs
 
--- src/discriminants.rt:125:27
 enum-told-2 : tie.Need-enum-told-2
 enum-told-2 c = search needs
 
--- src/discriminants.rt:117:1
 returns-2 : tie.Need-returns-2
 returns-2 c = rw (c .before .before .before .before .before .labels .given .1, sym (c .before .before .before .field-in .ensures) ∙ c .before .value .given .1)
 
--- src/discriminants.rt:117:1
 returns-3 : tie.Need-returns-3
 returns-3 c = rw (c .before .before .before .before .labels .given .1, sym (c .before .before .field-in .ensures) ∙ c .enum-told2 .given .1)
 

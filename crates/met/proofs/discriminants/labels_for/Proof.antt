@@ -1,11 +1,7 @@
+-- The labels of a union whose discriminant stands at a place.
 use borrow.Author.Needs.{needs}
 use Rattle.met.proofs.discriminants.labels_for.Statement.{statement}
 use Rattle.met.proofs.discriminants.labels_for.Tie as tie
-use Rattle.met.proofs.discriminants.labels_for.Reads as reads
-use Rattle.met.proofs.discriminants.labels_for.Lts as lts
-use Rattle.met.proofs.Met.position.Reads as position-reads
-use Rattle.met.proofs.discriminants.discriminant_of.Reads as discriminant-of-reads
-use Rattle.met.proofs.parameters_of.Reads as parameters-of-reads
 use mathlib.Core.Path.{_≡_, sym, _∙_, ap}
 use native.Mathlib.Omega.{arith}
 use mathlib.Core.Path.{refl}
@@ -19,61 +15,47 @@ Inv-loop v met at₀ left₀ at left = (left ≤ 64) × (labelsAfter v met left 
 abbrev μ-loop : tie.MeasureT-loop
 μ-loop v met at₀ left₀ at left = left
 
--- src/discriminants.rt:92:5
 loop-holds : tie.Need-loop-holds Inv-loop μ-loop
 loop-holds c = (omega arith, refl)
 
--- src/discriminants.rt:93:31
 position-requires : tie.Need-position-requires Inv-loop μ-loop
 position-requires c κs = search needs
 
--- src/discriminants.rt:93:26
 enum-known-j : tie.Need-enum-known-j Inv-loop μ-loop
 enum-known-j c = search needs
 
--- src/discriminants.rt:94:13
 enum-told : tie.Need-enum-told Inv-loop μ-loop
 enum-told c = search needs
 
--- src/discriminants.rt:94:13
 returns : tie.Need-returns Inv-loop μ-loop
 unfolding labelsFor
 returns c = labels-nowhere (c .before .before .before .before .before .before .args .v .now) (c .before .before .before .before .before .before .args .met) (c .before .before .before .before .loop .at) (c .before .before .before .before .loop .left) (sym (c .before .before .position .ensures) ∙ c .enum-told .given .1) ∙ c .before .before .before .before .loop .inv .1
 
--- src/discriminants.rt:96:31
 parameters-of-requires : tie.Need-parameters-of-requires Inv-loop μ-loop
 parameters-of-requires c κs = search needs
 
--- src/discriminants.rt:96:15
 discriminant-of-requires : tie.Need-discriminant-of-requires Inv-loop μ-loop
 discriminant-of-requires c κs = search needs
 
--- src/discriminants.rt:97:35
 enum-known-next : tie.Need-enum-known-next Inv-loop μ-loop
 enum-known-next c = search needs
 
--- src/discriminants.rt:100:32
 enum-known-labels : tie.Need-enum-known-labels Inv-loop μ-loop
 enum-known-labels c = search needs
 
--- src/discriminants.rt:101:17
 returns-2 : tie.Need-returns-2 Inv-loop μ-loop
 unfolding labelsFor
 returns-2 c = labels-said (c .before .before .before .before .before .before .before .before .before .before .before .before .args .v .now) (c .before .before .before .before .before .before .before .before .before .before .before .before .args .met) (c .before .before .before .before .before .before .before .before .before .before .loop .at) (c .before .before .before .before .before .before .before .before .before .before .loop .left) _ (c .before .before .before .before .before .before .before .before .before .loop-test .taken) (sym (c .before .before .before .before .before .before .before .before .position .ensures) ∙ c .before .before .before .before .before .before .j .given .1) _ (sym (ap discriminantOf (c .before .before .before .before .parameters-of .ensures)) ∙ sym (c .before .before .before .discriminant-of .ensures) ∙ c .before .labels .given .1) ∙ c .before .before .before .before .before .before .before .before .before .before .loop .inv .1
 
--- src/discriminants.rt:104:9
 sub-left : tie.Need-sub-left Inv-loop μ-loop
 sub-left c = search needs
 
--- src/discriminants.rt:92:5
 loop-less : tie.Need-loop-less Inv-loop μ-loop
 loop-less c = search needs
 
--- src/discriminants.rt:92:5
 loop-again : tie.Need-loop-again Inv-loop μ-loop
 loop-again c = (omega arith, labels-through (c .before .before .before .before .before .before .before .before .before .before .before .before .args .v .now) (c .before .before .before .before .before .before .before .before .before .before .before .before .args .met) (c .before .before .before .before .before .before .before .before .before .before .loop .at) (c .before .before .before .before .before .before .before .before .before .before .loop .left) _ (c .before .before .before .before .before .before .before .before .before .loop-test .taken) (sym (c .before .before .before .before .before .before .before .before .position .ensures) ∙ c .before .before .before .before .before .before .j .given .1) _ (sym (ap discriminantOf (c .before .before .before .before .parameters-of .ensures)) ∙ sym (c .before .before .before .discriminant-of .ensures) ∙ c .before .next .given .1) ∙ c .before .before .before .before .before .before .before .before .before .before .loop .inv .1)
 
--- src/discriminants.rt:87:1
 returns-3 : tie.Need-returns-3 Inv-loop μ-loop
 unfolding labelsFor
 returns-3 c = labels-end (c .before .before .before .args .v .now) (c .before .before .before .args .met) (c .before .loop .at) (c .before .loop .left) (omega (arith, c .loop-test .left)) ∙ c .before .loop .inv .1

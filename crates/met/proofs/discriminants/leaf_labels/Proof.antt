@@ -1,52 +1,41 @@
-use borrow.Author.Needs.{needs}
+-- The labels of a kind without parameters.
 use Rattle.met.proofs.discriminants.leaf_labels.Statement.{statement}
 use Rattle.met.proofs.discriminants.leaf_labels.Tie as tie
-use Rattle.met.proofs.discriminants.leaf_labels.Reads as reads
-use Rattle.met.proofs.discriminants.leaf_labels.Lts as lts
-use borrow.Author.Tests.{lt-ltb, le-ltb, eq-eqb, ne-eqb}
+use borrow.Author.Tests.{eq-eqb, ne-eqb}
 use Rattle.met.specs.Discriminants.{leafLabels}
 
--- src/discriminants.rt:21:9
 returns : tie.Need-returns
 unfolding leafLabels
 returns c = rw (eq-eqb _ _ (c .if1 .taken))
 
--- src/discriminants.rt:27:9
 returns-2 : tie.Need-returns-2
 unfolding leafLabels
 returns-2 c = rw (ne-eqb _ _ (c .before .if1 .left), eq-eqb _ _ (c .if2 .taken))
 
--- src/discriminants.rt:33:9
 returns-3 : tie.Need-returns-3
 unfolding leafLabels
 returns-3 c = rw (ne-eqb _ _ (c .before .before .if1 .left), ne-eqb _ _ (c .before .if2 .left), eq-eqb _ _ (c .if3 .taken))
 
--- src/discriminants.rt:39:9
 returns-4 : tie.Need-returns-4
 unfolding leafLabels
 returns-4 c = rw (ne-eqb _ _ (c .before .before .before .if1 .left), ne-eqb _ _ (c .before .before .if2 .left), ne-eqb _ _ (c .before .if3 .left), eq-eqb _ _ (c .if4 .taken))
 
--- src/discriminants.rt:45:9
 returns-5 : tie.Need-returns-5
 unfolding leafLabels
 returns-5 c = rw (ne-eqb _ _ (c .before .before .before .before .if1 .left), ne-eqb _ _ (c .before .before .before .if2 .left), ne-eqb _ _ (c .before .before .if3 .left), ne-eqb _ _ (c .before .if4 .left), eq-eqb _ _ (c .if5 .taken))
 
--- src/discriminants.rt:51:9
 returns-6 : tie.Need-returns-6
 unfolding leafLabels
 returns-6 c = rw (ne-eqb _ _ (c .before .before .before .before .before .if1 .left), ne-eqb _ _ (c .before .before .before .before .if2 .left), ne-eqb _ _ (c .before .before .before .if3 .left), ne-eqb _ _ (c .before .before .if4 .left), ne-eqb _ _ (c .before .if5 .left), eq-eqb _ _ (c .if6 .taken))
 
--- src/discriminants.rt:57:9
 returns-7 : tie.Need-returns-7
 unfolding leafLabels
 returns-7 c = rw (ne-eqb _ _ (c .before .before .before .before .before .before .if1 .left), ne-eqb _ _ (c .before .before .before .before .before .if2 .left), ne-eqb _ _ (c .before .before .before .before .if3 .left), ne-eqb _ _ (c .before .before .before .if4 .left), ne-eqb _ _ (c .before .before .if5 .left), ne-eqb _ _ (c .before .if6 .left), eq-eqb _ _ (c .if7 .taken))
 
--- src/discriminants.rt:63:9
 returns-8 : tie.Need-returns-8
 unfolding leafLabels
 returns-8 c = rw (ne-eqb _ _ (c .before .before .before .before .before .before .before .if1 .left), ne-eqb _ _ (c .before .before .before .before .before .before .if2 .left), ne-eqb _ _ (c .before .before .before .before .before .if3 .left), ne-eqb _ _ (c .before .before .before .before .if4 .left), ne-eqb _ _ (c .before .before .before .if5 .left), ne-eqb _ _ (c .before .before .if6 .left), ne-eqb _ _ (c .before .if7 .left), eq-eqb _ _ (c .if8 .taken))
 
--- src/discriminants.rt:17:1
 returns-9 : tie.Need-returns-9
 unfolding leafLabels
 returns-9 c = rw (ne-eqb _ _ (c .before .before .before .before .before .before .before .if1 .left), ne-eqb _ _ (c .before .before .before .before .before .before .if2 .left), ne-eqb _ _ (c .before .before .before .before .before .if3 .left), ne-eqb _ _ (c .before .before .before .before .if4 .left), ne-eqb _ _ (c .before .before .before .if5 .left), ne-eqb _ _ (c .before .before .if6 .left), ne-eqb _ _ (c .before .if7 .left), ne-eqb _ _ (c .if8 .left))
