@@ -3,3 +3,4 @@ pub mod Lists
 pub mod Lies
 pub mod Again
 pub mod Exact
+pub mod Resolving

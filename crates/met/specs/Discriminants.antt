@@ -4,8 +4,7 @@
 --   discriminantOf     what a discriminant's parameters say: an alias leads on; an enum's labels are below the number of its names
 --   onDiscriminant     the labels, through an alias if it is one
 --   labelsAfter        the labels of a discriminant at a place, with so many kinds to go through
---   aliasLimit         the most kinds: an alias that is being read is no target (36), so that each alias leads to a kind that was read to
---                      its end earlier, or to a struct or a union, and no way through aliases meets a kind twice
+--   aliasLimit         the most kinds, which is enough: a way that ends meets no kind twice (`resolved-exactly`, in `accepted`)
 --   labelsFor          the labels of a discriminant at a place, if its kind is one that a discriminant may have
 --   outOfKind          a label is not below its limit, of which 0 is none
 --   labelIs            the label at an index is x
