@@ -3,12 +3,12 @@ use mathlib.Core.Path.{_≡_, refl, sym, ap, _∙_}
 use mathlib.Core.List.{List, [], _∷_, _++_, append-assoc, append-nil}
 use mathlib.Core.Bool.{true, false, true≢false}
 use Prim.Native.Nat.{ℕ, zero, suc, _+_, _-_, _<_, _≤_, min}
-use native.Mathlib.Nat.{zero-sub, suc-sub-suc, sub-zero}
+use native.Mathlib.Nat.{zero-sub, suc-sub-suc, sub-zero, sub-self, sub-eq-zero-of-le}
 use native.Mathlib.Omega.{arith, min-cases}
 use lib.Dec.{eqb, ltb, leb·suc-suc}
 use lib.ListN.{length, take, drop, length-append, length-take, length-drop, drop-of-length-le}
-use lib.Seq.{length-sets, drop-length, drop-drop}
-use borrow.Author.Tests.{lt-ltb}
+use lib.Seq.{length-sets, length-take-le, take-all, take-at, take-append-le, drop-length, drop-drop}
+use borrow.Author.Tests.{lt-ltb, ltb-true, ltb-false}
 use Rattle.choices.proofs.Choices.{by-test}
 use Rattle.choices.specs.Branch.{choose}
 use Rattle.writing.proofs.Stores.{take-stored}
@@ -223,3 +223,51 @@ keeps-more block from line kept l k =
           ∙ ap (λ (x : List ℕ). x ++ vs) (k .chars)
           ∙ sym (take-append room l u ∙ ap (λ (m : ℕ). take room l ++ take m u) d));
     }
+
+-- of what is kept, the first ones of more characters are kept
+pub take-longer : (n : ℕ) (l u : List ℕ) → take n (take n l ++ u) ≡ take n (l ++ u)
+take-longer n l u =
+    by-test (ltb n (length l))
+    (λ e.
+    let g = ltb-true n (length l) e in
+    let s = length-take-le n l (omega arith) in
+    take-at (take n l) u n s ∙ sym (take-append-le n l u (omega arith)))
+    (λ e. ap (λ (x : List ℕ). take n (x ++ u)) (take-all n l (ltb-false n (length l) e)))
+
+-- more characters kept than there is room for count as many as there is
+module _ (block : List ℕ) (from : ℕ) (line : List ℕ) (kept : ℕ) where
+  most-kept : ℕ
+  most-kept = min kept (length line)
+
+  taken-most : takenOf block from (length line) most-kept ≡ takenOf block from (length line) kept
+  unfolding takenOf most-kept
+  taken-most =
+      let n = length (upToLF (drop from block)) in
+      let e : min (min kept (length line) + n) (length line) ≡ min (kept + n) (length line) = omega arith in
+      rw e
+
+  into-most : keptInto block from line most-kept ≡ keptInto block from line kept
+  unfolding keptInto most-kept
+  into-most =
+      min-cases kept (length line) _
+      (λ h e. rw e)
+      (λ h e. rw (e, sub-self (length line), sub-eq-zero-of-le h))
+
+  keeps-kept : Keeps line most-kept (take kept line)
+  unfolding most-kept
+  keeps-kept =
+      min-cases kept (length line) _
+      (λ h e.
+      let l = length-take-le kept line h in
+      let a : take (length line) (take kept line) ≡ take kept line = take-all (length line) (take kept line) (omega arith) in
+      rw e (record { count = rw a (sym l); chars = sym a }))
+      (λ h e.
+      let a : take kept line ≡ line = take-all kept line h in
+      let b : take (length line) line ≡ line = take-all (length line) line (omega arith) in
+      rw (e, a) (record { count = rw b refl; chars = refl }))
+
+  -- what the buffer holds after a block: the line so far, or as much of it as there is room for
+  pub kept-is : take (takenOf block from (length line) kept .kept) (keptInto block from line kept)
+      ≡ take (length (keptInto block from line kept)) (take kept line ++ upToLF (drop from block))
+  kept-is =
+      rw (← taken-most, ← into-most) (keeps-more block from line most-kept (take kept line) keeps-kept .chars)

@@ -15,13 +15,14 @@ use Rattle.places.specs.declared.Record.{Record}
 use Rattle.places.specs.Places.{openCount}
 use Rattle.listing.specs.declared.State.{State}
 use Rattle.listing.specs.declared.line.Listed.{Listed}
-use Rattle.listing.specs.Text.{space, decimal, endText}
+use Rattle.decimals.specs.Decimal.{decimal}
+use Rattle.decimals.specs.Puts.{Put}
+use Rattle.listing.specs.Text.{space, endText}
 use Rattle.listing.specs.Listing.{entryOf, numberAfter, entryText, listingFrom}
 use Rattle.listing.specs.Listing.{longest}
 use Rattle.listing.specs.Blocks.{closing, storedFrom, endOf, endRoom, EndAnswered}
-use Rattle.listing.specs.Inner.{Put, Lists}
-use Rattle.listing.proofs.Puts.{put-then, number-most}
-use Rattle.listing.proofs.Entries.{take-written}
+use Rattle.listing.specs.Inner.{Lists}
+use Rattle.decimals.proofs.Puts.{put-then, take-written, number-most}
 use Rattle.listing.proofs.Listings.{entry-most}
 
 -- the line that was begun

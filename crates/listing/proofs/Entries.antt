@@ -3,13 +3,11 @@ use mathlib.Core.Path.{_≡_, refl, sym, ap, subst, _∙_}
 use mathlib.Core.Bool.{false}
 use mathlib.Core.List.{List, [], _∷_, _++_, append-assoc}
 use Prim.Native.Nat.{ℕ, _+_, _-_, _%_, _<_, _≤_}
-use native.Mathlib.Nat.{zero-add}
 use native.Mathlib.Omega.{arith}
 use types.Run.{OneOf, miss}
 use denote.Enum.Declared.{tagOf}
 use lib.Dec.{leb, ltb, eqb}
 use lib.ListN.{length, take}
-use lib.Seq.{sets}
 use borrow.Author.Tests.{le-leb, lt-leb, leb-true, leb-false, ltb-true, ltb-false, eqb-true, eqb-false}
 use Rattle.choices.proofs.Choices.{by-test, clash}
 use Rattle.hexline.specs.declared.Decoded.{Decoded}
@@ -28,11 +26,12 @@ use Rattle.joining.specs.Steps.{Step, Passes, Opens, Extends, Completes, Frees,
 use Rattle.answers.specs.Answers.{outputIn, answerNumber}
 use Rattle.joining.specs.Answers.{messageWritten, answerOf, answerTo, Does, Joins}
 use Rattle.sequence.proofs.Fits.{message-fits}
-use Rattle.writing.proofs.Stores.{take-stored}
-use Rattle.listing.specs.Text.{decimal, space, dash, lineText}
+use Rattle.decimals.specs.Decimal.{decimal}
+use Rattle.decimals.specs.Puts.{Put}
+use Rattle.listing.specs.Text.{space, dash, lineText}
 use Rattle.listing.specs.Listing.{octetsMost, messageMost, shownOf, Entry, refusedEntry, joinedEntry, entryFrom, entryOf, longest}
-use Rattle.listing.specs.Inner.{Put, Lists}
-use Rattle.listing.proofs.Puts.{number-most}
+use Rattle.listing.specs.Inner.{Lists}
+use Rattle.decimals.proofs.Puts.{take-written, number-most}
 
 -- the numbers of a line's answer, then what is shown
 pub line-text : (line answer : ℕ) (shown : List ℕ)
@@ -43,10 +42,6 @@ line-text line answer shown = simp append-assoc
 pub numbers-most : (line answer : ℕ) → length (decimal line ++ (space ∷ (decimal answer ++ (space ∷ [])))) ≤ 42
 numbers-most line answer =
     omega (arith, number-most line (space ∷ (decimal answer ++ (space ∷ []))), number-most answer (space ∷ []))
-
--- what was written from the start of a memory
-pub take-written : (out xs : List ℕ) (n : ℕ) → n ≡ length xs → n ≤ length out → take n (sets out 0 xs) ≡ xs
-take-written out xs n e h = ap (λ (k : ℕ). take k (sets out 0 xs)) (e ∙ sym (zero-add (length xs))) ∙ take-stored out xs 0 (omega arith)
 
 -- what an answer shows
 shown-some : (o : Output) (n : ℕ) (message : List ℕ) → o ≡ Message n → shownOf o message ≡ octetDigits message

@@ -14,7 +14,7 @@ use Rattle.hexline.specs.declared.Decoded.the-variants.{Octets, TooLong, NotDig
 use Rattle.hexline.specs.Decoding.{lineOctets, decodedOf}
 use Rattle.hexline.proofs.Laws.{digits-length}
 use Rattle.lines.specs.Lines.{lf, upToLF, linesFrom, linesOf, keptInto}
-use Rattle.lines.proofs.Laws.{block-ended, block-open, next-open, next-more, next-most, drop-within}
+use Rattle.lines.proofs.Laws.{block-ended, block-open, next-open, next-more, next-most, kept-is, drop-within}
 use Rattle.places.specs.declared.Record.{Record}
 use Rattle.answers.specs.declared.Output.{Output}
 use Rattle.answers.specs.declared.Output.the-variants.{Message, Nothing}
@@ -25,11 +25,12 @@ use Rattle.sequence.proofs.Fits.{message-fits}
 use Rattle.writing.proofs.Stores.{take-stored, drop-stored}
 use Rattle.listing.specs.declared.State.{State}
 use Rattle.listing.specs.declared.Progress.{Progress}
-use Rattle.listing.specs.Text.{decimal, space, lineText}
+use Rattle.decimals.specs.Decimal.{decimal}
+use Rattle.listing.specs.Text.{space, lineText}
 use Rattle.listing.specs.Listing.{octetsMost, messageMost, shownOf, Entry, entryFrom, entryOf, numberAfter, entryText, longest, listingFrom}
 use Rattle.listing.specs.Blocks.{lineRoom, Work, goesOn, ended, begun, turnOf, blockFrom, workOf, blockStart, blockOf, listingAfter, BlockAnswered}
-use Rattle.listing.proofs.Puts.{number-most}
-use Rattle.listing.proofs.Cuts.{entry-same, begun-cut, kept-is}
+use Rattle.decimals.proofs.Puts.{number-most}
+use Rattle.listing.proofs.Cuts.{entry-same, begun-cut}
 use Rattle.listing.proofs.Blocks.{Goes, goes, taken, kept, turn-ended, turn-begun, turn-goes, block-on, block-stops, block-done, on-with}
 
 -- no answer is longer than the longest

@@ -17,7 +17,8 @@ use Rattle.joined.specs.Message.{corrected}
 use Rattle.joining.specs.Steps.{differs, continued, withId, messageStep, stepOf}
 use Rattle.lines.specs.Lines.{linesFrom}
 use Rattle.places.specs.Places.{placesSize, isOpenWith, placeOf, lowestFree, openCount, bothOpen, idOpenTwice, lengthWrong, someLengthWrong, badRecord}
-use Rattle.listing.specs.Text.{decimalWithin, decimal, lineText, endText}
+use Rattle.decimals.specs.Decimal.{decimalWithin, decimal}
+use Rattle.listing.specs.Text.{lineText, endText}
 use Rattle.listing.specs.Listing.{entryOf, listingFrom, listingOf}
 
 -- the numbers 0, 10 and the largest machine word; three places open; no line; a line `G` and one of a single digit, neither with an end

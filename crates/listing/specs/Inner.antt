@@ -1,5 +1,4 @@
 -- What the private functions of the crate promise each other; nothing that a caller is told rests on these names.
---   Put            characters stored from `at` on, the rest as it was, and where they end
 --   Memory         memory for a line's octets and for the message that they are joined to
 --   Room           room for the longest answer, and that memory
 --   Lists          a line's text put, and what the line leaves
@@ -7,13 +6,9 @@ use mathlib.Core.Path.{_≡_}
 use mathlib.Core.List.{List}
 use Prim.Native.Nat.{ℕ, _+_, _≤_}
 use lib.ListN.{length}
-use lib.Seq.{sets}
+use Rattle.decimals.specs.Puts.{Put}
 use Rattle.listing.specs.declared.line.Listed.{Listed}
 use Rattle.listing.specs.Listing.{octetsMost, messageMost, Entry, entryText, longest}
-
-pub record Put (out : List ℕ) (at : ℕ) (xs : List ℕ) (r : ℕ) (last : List ℕ) : Type 0 where
-  pub end : r ≡ at + length xs
-  pub contents : last ≡ sets out at xs
 
 pub record Memory (octets message : List ℕ) : Type 0 where
   pub decoded : length octets ≡ octetsMost

@@ -1,15 +1,14 @@
 // The text of the answers, where there is room for it.
 ghost use mathlib.Core.Path.{_≡_};
 ghost use mathlib.Core.List.{[], _∷_, _++_};
-ghost use Prim.Native.Nat.{_+_, _*_, _<_, _≤_};
-ghost use lib.ListN.{length, drop};
+ghost use Prim.Native.Nat.{_+_, _*_, _≤_};
+ghost use lib.ListN.{length};
+ghost use Rattle.decimals.specs.Decimal.{decimal};
+ghost use Rattle.decimals.specs.Puts.{Put};
 ghost use Rattle.hexline.specs.Encoding.{octetDigits};
 ghost use Rattle.lines.specs.Lines.{lf};
-ghost use Rattle.listing.specs.Text.{decimal, space, dash, lineText, endText};
-ghost use Rattle.listing.specs.Inner.{Put};
-
-// The most decimal digits of a machine word.
-const DIGITS: usize = 20;
+ghost use Rattle.listing.specs.Text.{space, dash, lineText, endText};
+use writing::Written;
 
 const SPACE: u8 = b' ';
 
@@ -17,32 +16,15 @@ const DASH: u8 = b'-';
 
 const LF: u8 = b'\n';
 
-// Stores the decimal digits of a number before the character at DIGITS, and says where they start.
-fn last_digits(x: u64, digits: &mut [u8]) -> usize
-    requires { ⌜ 20 ≤ length (now digits) ⌝ }
-    ensures { λ r. ⌜ (r < 20) × (drop r (now (digits .exit)) ≡ decimal x ++ drop 20 (now (digits .entry))) ⌝ }
-{
-    let mut rest = x;
-    let mut at = DIGITS;
-    while 10 <= rest {
-        at -= 1;
-        digits[at] = b'0' + (rest % 10) as u8;
-        rest = rest / 10;
-    }
-    at -= 1;
-    digits[at] = b'0' + rest as u8;
-    at
-}
-
-// Puts a number and the character behind it, which the digits are stored before.
+// Puts a number and the character behind it.
 fn put_number(out: &mut [u8], at: usize, x: u64, behind: u8) -> usize
     requires { ⌜ at + 21 ≤ length (now out) ⌝ }
     ensures { λ r. ⌜ Put (now (out .entry)) at (decimal x ++ (behind ∷ [])) r (now (out .exit)) ⌝ }
 {
-    let mut digits = [behind; DIGITS + 1];
-    let start = last_digits(x, &mut digits);
-    writing::write_octets(out, at, &digits[start..]);
-    at + (DIGITS + 1 - start)
+    let Written::Upto(end) = decimals::write_decimal(out, at, x, behind) else {
+        return at;
+    };
+    end
 }
 
 // Puts `LINE ANSWER `.

@@ -1,7 +1,7 @@
 -- One character behind the other.
 use native.Mathlib.Omega.{arith}
 use lib.ListN.{length-set}
-use Rattle.listing.proofs.Puts.{put-two}
+use Rattle.decimals.proofs.Puts.{put-two}
 use borrow.Author.Needs.{needs}
 use Rattle.listing.proofs.text.put_dash.Statement.{statement}
 use Rattle.listing.proofs.text.put_dash.Tie as tie

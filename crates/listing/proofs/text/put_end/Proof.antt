@@ -1,8 +1,9 @@
 -- The word, then one number behind the other.
 use mathlib.Core.List.{[], _∷_, append-assoc}
 use native.Mathlib.Omega.{arith}
-use Rattle.listing.specs.Text.{space, decimal, endText}
-use Rattle.listing.proofs.Puts.{put-then, put-stored, number-most}
+use Rattle.decimals.specs.Decimal.{decimal}
+use Rattle.listing.specs.Text.{space, endText}
+use Rattle.decimals.proofs.Puts.{put-then, put-stored, number-most}
 use borrow.Author.Needs.{needs}
 use Rattle.listing.proofs.text.put_end.Statement.{statement}
 use Rattle.listing.proofs.text.put_end.Tie as tie

@@ -1,6 +1,7 @@
 -- The digits fit, and the LF behind them.
 use native.Mathlib.Omega.{arith}
-use Rattle.listing.proofs.Puts.{put-then, put-one, message-put}
+use Rattle.decimals.proofs.Puts.{put-then, put-one}
+use Rattle.listing.proofs.Puts.{message-put}
 use borrow.Author.Needs.{needs}
 use Rattle.listing.proofs.text.put_message.Statement.{statement}
 use Rattle.listing.proofs.text.put_message.Tie as tie

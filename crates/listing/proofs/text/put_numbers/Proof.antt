@@ -1,8 +1,9 @@
 -- One number behind the other.
 use mathlib.Core.List.{[], _∷_, append-assoc}
 use native.Mathlib.Omega.{arith}
-use Rattle.listing.specs.Text.{space, decimal}
-use Rattle.listing.proofs.Puts.{put-then, number-most}
+use Rattle.decimals.specs.Decimal.{decimal}
+use Rattle.listing.specs.Text.{space}
+use Rattle.decimals.proofs.Puts.{put-then, number-most}
 use borrow.Author.Needs.{needs}
 use Rattle.listing.proofs.text.put_numbers.Statement.{statement}
 use Rattle.listing.proofs.text.put_numbers.Tie as tie

@@ -1,7 +1,7 @@
 -- The numbers, then that there is no message.
 use Rattle.listing.specs.Text.{dash}
 use native.Mathlib.Omega.{arith}
-use Rattle.listing.proofs.Puts.{put-then}
+use Rattle.decimals.proofs.Puts.{put-then}
 use Rattle.listing.proofs.Entries.{line-text, numbers-most}
 use borrow.Author.Needs.{needs}
 use Rattle.listing.proofs.text.put_unshown.Statement.{statement}

@@ -10,7 +10,7 @@ use lib.Seq.{drop-cons, getD-set-same, drop-set-lt}
 use borrow.Author.Tests.{lt-ltb, le-ltb, ltb-true, ltb-false}
 use Rattle.choices.proofs.Choices.{by-test}
 use Rattle.choices.specs.Branch.{choose}
-use Rattle.listing.specs.Text.{digit, decimalWithin, decimal}
+use Rattle.decimals.specs.Decimal.{digit, decimalWithin, decimal}
 
 -- a number of one digit, and of more
 pub one-digit : (n x : ℕ) → x < 10 → decimalWithin (suc n) x ≡ digit x ∷ []

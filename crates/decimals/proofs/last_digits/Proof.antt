@@ -4,10 +4,10 @@ use mathlib.Core.List.{_++_}
 use Prim.Native.Nat.{_^_, _≤_, _<_}
 use native.Mathlib.Omega.{arith}
 use lib.ListN.{length, drop, length-set}
-use Rattle.listing.specs.Text.{decimalWithin, decimal}
-use Rattle.listing.proofs.Decimal.{digits-left, stored-turn, stored-last}
-use Rattle.listing.proofs.text.last_digits.Statement.{statement}
-use Rattle.listing.proofs.text.last_digits.Tie as tie
+use Rattle.decimals.specs.Decimal.{decimalWithin, decimal}
+use Rattle.decimals.proofs.Decimal.{digits-left, stored-turn, stored-last}
+use Rattle.decimals.proofs.last_digits.Statement.{statement}
+use Rattle.decimals.proofs.last_digits.Tie as tie
 
 abbrev Inv-loop : tie.InvT-loop
 Inv-loop x digits₀ rest₀ at₀ digits rest at =

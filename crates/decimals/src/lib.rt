@@ -1,0 +1,37 @@
+// The decimal digits of a machine word, written into lent memory where they fit.
+ghost use mathlib.Core.Path.{_≡_};
+ghost use mathlib.Core.List.{[], _∷_, _++_};
+ghost use Prim.Native.Nat.{_<_, _≤_};
+ghost use lib.ListN.{length, drop};
+ghost use Rattle.writing.specs.Write.{Stored};
+ghost use Rattle.decimals.specs.Decimal.{decimal};
+use writing::Written;
+
+// The most decimal digits of a machine word.
+const DIGITS: usize = 20;
+
+// Stores the decimal digits of a number before the character at DIGITS, and says where they start.
+fn last_digits(x: u64, digits: &mut [u8]) -> usize
+    requires { ⌜ 20 ≤ length (now digits) ⌝ }
+    ensures { λ r. ⌜ (r < 20) × (drop r (now (digits .exit)) ≡ decimal x ++ drop 20 (now (digits .entry))) ⌝ }
+{
+    let mut rest = x;
+    let mut at = DIGITS;
+    while 10 <= rest {
+        at -= 1;
+        digits[at] = b'0' + (rest % 10) as u8;
+        rest = rest / 10;
+    }
+    at -= 1;
+    digits[at] = b'0' + rest as u8;
+    at
+}
+
+// Writes the decimal digits of a number and the character behind them from `at` on.
+pub fn write_decimal(out: &mut [u8], at: usize, x: u64, behind: u8) -> Written
+    ensures { λ r. ⌜ Stored (now (out .entry)) at (decimal x ++ (behind ∷ [])) r (now (out .exit)) ⌝ }
+{
+    let mut digits = [behind; DIGITS + 1];
+    let start = last_digits(x, &mut digits);
+    writing::write_octets(out, at, &digits[start..])
+}

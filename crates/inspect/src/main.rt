@@ -1,0 +1,110 @@
+// Answers questions about types: each line of standard input is a question, each line of standard output its answer. A read or a write that
+// fails is said on standard error, and no more answers are written.
+use libc::STDERR_FILENO;
+use libc::STDIN_FILENO;
+use libc::STDOUT_FILENO;
+use questions::LINE_ROOM;
+
+// Where answering stands: the characters kept of the line begun, and whether every read and write has gone well.
+struct Standing {
+    kept: usize,
+    ok: bool,
+}
+
+fn main() {
+    let mut block = io::large_buffer();
+    let mut line = [0u8; LINE_ROOM];
+    let mut out = [0u8; 65536];
+    let read = read_all(&mut block, &mut line, &mut out);
+    if !read.ok {
+        return;
+    }
+    end_line(&mut line, &mut out, read.kept);
+}
+
+// Reads standard input to its end, and writes the answer of every line that ends in an LF.
+fn read_all(block: &mut [u8], line: &mut [u8], out: &mut [u8]) -> Standing {
+    let mut kept = 0;
+    // A proved loop has to end, and nothing says that the input does: no run uses up so many turns.
+    let mut turns = u64::MAX;
+    while turns > 0 {
+        let got = libc::read(STDIN_FILENO, block);
+        if got < 0 {
+            return unread();
+        }
+        let n = io::count(got, block);
+        if n == 0 {
+            return Standing { kept, ok: true };
+        }
+        let taken = take_block(&block[..n], line, out, kept);
+        if !taken.ok {
+            return taken;
+        }
+        kept = taken.kept;
+        turns -= 1;
+    }
+    endless()
+}
+
+// Writes the answers of the lines that end in a block, as many at a time as there is memory for.
+fn take_block(block: &[u8], line: &mut [u8], out: &mut [u8], before: usize) -> Standing {
+    let mut kept = before;
+    let mut from = 0;
+    while from < block.len() {
+        let done = questions::answer_block(block, from, line, out, kept);
+        kept = done.kept;
+        let next = done.next;
+        if next <= from {
+            return stuck();
+        }
+        from = next;
+        if !write_text(out, done.filled) {
+            return stopped();
+        }
+    }
+    Standing { kept, ok: true }
+}
+
+// Answers the line that was begun, if one was, as an LF would end it.
+fn end_line(line: &mut [u8], out: &mut [u8], kept: usize) {
+    if kept == 0 {
+        return;
+    }
+    take_block(b"\n", line, out, kept);
+}
+
+// Writes the first characters of the output's memory; says whether that went well.
+fn write_text(out: &[u8], filled: usize) -> bool {
+    if out.len() < filled {
+        io::write_all(STDERR_FILENO, b"write: no memory for the answers\n");
+        return false;
+    }
+    if io::write_all(STDOUT_FILENO, &out[..filled]) {
+        return true;
+    }
+    os::fail(b"write");
+    false
+}
+
+// A read or a write has not gone well, and it was said.
+fn stopped() -> Standing {
+    Standing { kept: 0, ok: false }
+}
+
+// A read failed.
+fn unread() -> Standing {
+    os::fail(b"read");
+    stopped()
+}
+
+// The output's memory has no room for an answer.
+fn stuck() -> Standing {
+    io::write_all(STDERR_FILENO, b"write: no memory for an answer\n");
+    stopped()
+}
+
+// The input outlasts the turns.
+fn endless() -> Standing {
+    io::write_all(STDERR_FILENO, b"read: the input does not end\n");
+    stopped()
+}

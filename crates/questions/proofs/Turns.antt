@@ -1,0 +1,205 @@
+-- Each turn writes the text that its line owes, and so does a whole call.
+use mathlib.Core.Path.{_≡_, refl, sym, ap, subst, _∙_}
+use mathlib.Core.Bool.{true, false}
+use mathlib.Core.List.{List, [], _∷_, _++_, append-assoc}
+use Prim.Native.Nat.{ℕ, _+_, _-_, _<_, _≤_, min}
+use native.Mathlib.Omega.{arith}
+use lib.Dec.{ltb}
+use lib.ListN.{length, take, drop}
+use lib.Seq.{length-sets, drop-drop, drop-length, take-take}
+use borrow.Author.Tests.{ltb-true, ltb-false}
+use Rattle.choices.proofs.Choices.{by-test, clash}
+use Rattle.lines.specs.declared.Taken.{Taken}
+use Rattle.lines.specs.Lines.{upToLF, linesFrom, linesOf, takenOf, keptInto, LineTaken}
+use Rattle.lines.proofs.Laws.{block-ended, block-open, next-open, next-more, next-most, kept-most, kept-is, drop-within}
+use Rattle.writing.specs.declared.Written.{Written}
+use Rattle.writing.specs.declared.Written.the-variants.{Upto, NoRoom}
+use Rattle.writing.specs.Write.{Stored}
+use Rattle.writing.proofs.Stores.{take-stored, drop-stored}
+use Rattle.decimals.specs.Puts.{Put}
+use Rattle.decimals.proofs.Puts.{put-upto, put-always}
+use Rattle.questions.specs.declared.Progress.{Progress}
+use Rattle.questions.specs.Questions.{questionOf}
+use Rattle.questions.specs.Replies.{replyTo, answerLine}
+use Rattle.questions.specs.Blocks.{lineRoom, longest, answersOf, answersAfter, BlockAnswered}
+use Rattle.questions.specs.Turns.{Goes, Onto}
+use Rattle.questions.proofs.Answers.{text-most}
+use Rattle.questions.proofs.Cuts.{answer-same, begun-cut}
+
+pub answer-most : (line : List ℕ) → length (answerLine line) ≤ longest
+unfolding answerLine
+answer-most line = text-most (replyTo (questionOf line))
+
+pub onto-self : (block : List ℕ) (a : Progress) (line out : List ℕ) → Onto block a line out a line out
+onto-self block a line out =
+    record {
+      answered = λ rest. refl;
+      sized = refl;
+      lined = refl;
+      within = λ h. h;
+      unfilled = refl;
+      more = omega arith;
+      further = omega arith;
+      moved = λ h. absurd (omega arith);
+      inside = λ h. h;
+    }
+
+drop-same : (a b : List ℕ) (m n : ℕ) → m ≤ n → drop m a ≡ drop m b → drop n a ≡ drop n b
+drop-same a b m n h e =
+    let s : m + (n - m) ≡ n = omega arith in
+    ap (λ (k : ℕ). drop k a) (sym s) ∙ sym (drop-drop (n - m) m a) ∙ ap (drop (n - m)) e ∙ drop-drop (n - m) m b ∙ ap (λ (k : ℕ). drop k b) s
+
+pub onto-then : {block : List ℕ} {a : Progress} {line out : List ℕ} {b : Progress} {lineThen outThen : List ℕ} {c : Progress} {lineLast outLast : List ℕ}
+    → Onto block a line out b lineThen outThen → Onto block b lineThen outThen c lineLast outLast → Onto block a line out c lineLast outLast
+onto-then {block} {a} {line} {out} {b} {lineThen} {outThen} {c} p q =
+    let m = p .more in
+    let n = q .more in
+    let f = p .further in
+    let g = q .further in
+    record {
+      answered = λ rest. p .answered rest ∙ q .answered rest;
+      sized = q .sized ∙ p .sized;
+      lined = q .lined ∙ p .lined;
+      within = λ h. omega (arith, p .sized, q .within (omega (arith, p .sized, p .within h)));
+      unfilled = q .unfilled ∙ drop-same outThen out (b .filled) (c .filled) (q .more) (p .unfilled);
+      more = omega arith;
+      further = omega arith;
+      moved = λ h.
+          by-test (ltb (a .filled) (b .filled))
+          (λ e. omega (arith, p .moved (ltb-true _ _ e)))
+          (λ e. let l = ltb-false (a .filled) (b .filled) e in omega (arith, q .moved (omega arith)));
+      inside = λ h. q .inside (p .inside h);
+    }
+
+-- a turn
+module _ (block : List ℕ) (at : Progress) (line out : List ℕ) (g : Goes (length block) (length line) (length out) at) (t : Taken) (l : List ℕ)
+    (k : LineTaken block (at .next) line (at .kept) t l)
+  where
+    abbrev taken : Taken
+    taken = takenOf block (at .next) (length line) (at .kept)
+
+    abbrev kept : List ℕ
+    kept = keptInto block (at .next) line (at .kept)
+
+    -- the line so far, and to its LF or the block's end
+    abbrev whole : List ℕ
+    whole = take (at .kept) line ++ upToLF (drop (at .next) block)
+
+    same-size : length kept ≡ length line
+    unfolding keptInto
+    same-size = length-sets line (at .kept) (take (length line - at .kept) (upToLF (drop (at .next) block)))
+
+    enough : 131072 < length kept
+    enough = omega (arith, same-size, g .whole)
+
+    held : take (taken .kept) kept ≡ take (length kept) whole
+    held = kept-is block (at .next) line (at .kept)
+
+    taken-held : take (t .kept) l ≡ take (taken .kept) kept
+    taken-held = rw (k .answered, k .filled)
+
+    pub taken-within : t .kept ≤ length l
+    taken-within = rw (k .answered, k .filled) (omega (arith, same-size, kept-most block (at .next) (length line) (at .kept)))
+
+    lined : length l ≡ length line
+    lined = ap length (k .filled) ∙ same-size
+
+    next-is : t .next ≡ taken .next
+    next-is = ap (λ (x : Taken). x .next) (k .answered)
+
+    ended-is : t .ended ≡ taken .ended
+    ended-is = ap (λ (x : Taken). x .ended) (k .answered)
+
+    pub on : at .next < t .next
+    on = rw next-is (next-more block (at .next) (length line) (at .kept) (g .more))
+
+    most : t .next ≤ length block
+    most = rw next-is (next-most block (at .next) (length line) (at .kept))
+
+    answer-is : answerLine whole ≡ answerLine (take (t .kept) l)
+    answer-is =
+        answer-same (length kept) enough whole (take (t .kept) l)
+        (sym (take-take (length kept) (length kept) whole (omega arith)) ∙ ap (take (length kept)) (sym held ∙ sym taken-held))
+
+    pub turn-begun : t .ended ≡ false → Onto block at line out (record { kept = t .kept; next = t .next; filled = at .filled }) l out
+    turn-begun e =
+        let f : taken .ended ≡ false = sym ended-is ∙ e in
+        let n = on in
+        record {
+          answered = λ rest.
+              ap (λ (x : List ℕ). take (at .filled) out ++ x)
+              (ap answersOf (block-open block (at .next) (length line) (at .kept) (take (at .kept) line) rest f)
+              ∙ sym (begun-cut (length kept) enough whole rest)
+              ∙ rw (taken-held, held, next-is, next-open block (at .next) (length line) (at .kept) f, drop-length block));
+          sized = refl;
+          lined = lined;
+          within = λ h. h;
+          unfilled = refl;
+          more = omega arith;
+          further = omega arith;
+          moved = λ h. n;
+          inside = λ h. most;
+        }
+
+    module _ (e : t .ended ≡ true) (r : Written) (outLast : List ℕ) (s : Stored out (at .filled) (answerLine (take (t .kept) l)) r outLast) where
+      abbrev text : List ℕ
+      text = answerLine (take (t .kept) l)
+
+      fits : at .filled + length text ≤ length out
+      fits = omega (arith, answer-most (take (t .kept) l), g .room)
+
+      owed : (rest : List ℕ) → answersAfter (at .kept) line (drop (at .next) block ++ rest) ≡ text ++ answersOf (linesOf (drop (t .next) block ++ rest))
+      unfolding answersOf
+      owed rest =
+          rw (block-ended block (at .next) (length line) (at .kept) (take (at .kept) line) rest (sym ended-is ∙ e), answer-is, next-is)
+
+      pub turn-always : {G : Type 0} → r ≡ NoRoom → G
+      turn-always u = put-always out (at .filled) text r outLast fits s u
+
+      pub turn-ended : (end : ℕ) → r ≡ Upto end → Onto block at line out (record { kept = 0; next = t .next; filled = end }) l outLast
+      turn-ended end u =
+          let p = put-upto out (at .filled) text r outLast fits s end u in
+          let n = on in
+          let w = fits in
+          let j = p .end in
+          rw (p .end, p .contents)
+          (record {
+            answered = λ rest.
+                ap (λ (x : List ℕ). take (at .filled) out ++ x) (owed rest)
+                ∙ sym (append-assoc (take (at .filled) out) text _)
+                ∙ ap (λ (x : List ℕ). x ++ answersOf (linesOf (drop (t .next) block ++ rest))) (sym (take-stored out text (at .filled) fits));
+            sized = length-sets out (at .filled) text;
+            lined = lined;
+            within = λ h. w;
+            unfilled = drop-stored out text (at .filled) fits;
+            more = omega arith;
+            further = omega arith;
+            moved = λ h. n;
+            inside = λ h. most;
+          })
+
+-- a whole call
+pub block-answered : (block : List ℕ) (from : ℕ) (line out : List ℕ) (kept : ℕ) (start r : Progress) (lineLast outLast : List ℕ)
+    → start ≡ record { kept = kept; next = min from (length block); filled = 0 } → Onto block start line out r lineLast outLast
+    → (Goes (length block) (length lineLast) (length outLast) r → ⊥) → BlockAnswered block from line out kept r lineLast outLast
+block-answered block from line out kept start r lineLast outLast e o off =
+    let p : Onto block (record { kept = kept; next = min from (length block); filled = 0 }) line out r lineLast outLast = rw e at o in
+    let i = p .inside (omega arith) in
+    let z = p .sized in
+    let n = p .lined in
+    record {
+      answered = λ rest. sym (ap (λ (x : List ℕ). answersAfter kept line (x ++ rest)) (drop-within from block)) ∙ p .answered rest;
+      within = p .within (omega arith);
+      unfilled = p .unfilled;
+      reached = λ h k.
+          by-test (ltb (r .next) (length block))
+          (λ t. absurd (off (record { more = ltb-true _ _ t; whole = omega arith; room = omega arith })))
+          (λ t. omega (arith, ltb-false (r .next) (length block) t));
+      onward = λ h k l.
+          by-test (ltb (r .next) (length block))
+          (λ t.
+          by-test (ltb 0 (r .filled))
+          (λ u. omega (arith, p .moved (ltb-true _ _ u)))
+          (λ u. let v = ltb-false 0 (r .filled) u in absurd (off (record { more = ltb-true _ _ t; whole = omega arith; room = omega arith }))))
+          (λ t. let v = ltb-false (r .next) (length block) t in omega arith);
+    }

@@ -1,0 +1,63 @@
+-- The turns go on in the block, and each is answered.
+use mathlib.Core.Path.{ap}
+use Prim.Native.Nat.{ℕ, _-_}
+use native.Mathlib.Omega.{arith}
+use lib.ListN.{length}
+use Rattle.questions.specs.declared.Progress.{Progress}
+use Rattle.questions.specs.Turns.{Goes, Onto}
+use Rattle.questions.proofs.Turns.{onto-self, onto-then, block-answered}
+use borrow.Author.Needs.{needs}
+use Rattle.questions.proofs.answer_block.Statement.{statement}
+use Rattle.questions.proofs.answer_block.Tie as tie
+
+abbrev Inv-loop : tie.InvT-loop
+Inv-loop block from line₀ out₀ kept at₀ line out at = Onto block at₀ line₀ out₀ at line out
+
+abbrev μ-loop : tie.MeasureT-loop
+μ-loop block from line₀ out₀ kept at₀ line out at = length block - at .next
+
+least-requires : tie.Need-least-requires Inv-loop μ-loop
+least-requires c κs = search needs
+
+loop-holds : tie.Need-loop-holds Inv-loop μ-loop
+loop-holds c = onto-self _ _ _ _
+
+goes-on-requires : tie.Need-goes-on-requires Inv-loop μ-loop
+goes-on-requires c κs = search needs
+
+turn-requires : tie.Need-turn-requires Inv-loop μ-loop
+turn-requires c κs = c .before .before .before .goes-on .ensures .0 (c .before .before .if1 .taken)
+
+loop-less : tie.Need-loop-less Inv-loop μ-loop
+loop-less c =
+    omega (arith, c .before .before .before .before .turn .ensures .0, c .before .before .before .before .before .before .before .before .goes-on .ensures .0 (c .before .before .before .before .before .before .before .if1 .taken) .more)
+
+loop-again : tie.Need-loop-again Inv-loop μ-loop
+loop-again c = onto-then (c .before .before .before .before .before .before .before .before .before .loop .inv) (c .before .before .before .before .turn .ensures .1)
+
+same-length : tie.Need-same-length Inv-loop μ-loop
+same-length c = c .before .before .loop .inv .lined
+
+same-length-2 : tie.Need-same-length-2 Inv-loop μ-loop
+same-length-2 c = c .before .before .loop .inv .sized
+
+returns : tie.Need-returns Inv-loop μ-loop
+returns c =
+    let o = c .before .before .before .before .before .before .before .args in
+    block-answered (o .block .now) (o .from) (o .line .now) (o .out .now) (o .kept) _ _ _ _ (ap (λ (n : ℕ). record { kept = o .kept; next = n; filled = 0 }) (c .before .before .before .least .ensures)) (c .before .before .loop .inv) (c .before .goes-on .ensures .1 (c .if1 .left))
+
+pub answer-block-spec : {M : Type 1} → statement M
+answer-block-spec =
+    tie.close
+    (tie.spec
+    Inv-loop
+    μ-loop
+    least-requires
+    loop-holds
+    goes-on-requires
+    turn-requires
+    loop-less
+    loop-again
+    same-length
+    same-length-2
+    returns)

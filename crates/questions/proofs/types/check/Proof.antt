@@ -1,0 +1,27 @@
+-- An accepted type, or its number.
+use mathlib.Core.Path.{ap, _∙_}
+use Rattle.typecode.specs.TypeCode.{checkedType}
+use Rattle.questions.specs.declared.Reply.the-variants.{Refused}
+use Rattle.questions.proofs.Answers.{type-refused}
+use borrow.Author.Needs.{needs}
+use Rattle.questions.proofs.types.check.Statement.{statement}
+use Rattle.questions.proofs.types.check.Tie as tie
+
+check-type-requires : tie.Need-check-type-requires
+check-type-requires c κs = search needs
+
+enum-known-answer : tie.Need-enum-known-answer
+enum-known-answer c = search needs
+
+number-requires : tie.Need-number-requires
+number-requires c κs = search needs
+
+returns : tie.Need-returns
+returns c = rw (← c .before .before .before .check-type .ensures, c .before .answer .given .1)
+
+returns-2 : tie.Need-returns-2
+returns-2 c = rw (← c .before .before .check-type .ensures) (ap Refused (c .number .ensures) ∙ type-refused (c .before .before .check-type .result .answer) (c .before .match .keys2))
+
+pub check-spec : {M : Type 1} → statement M
+check-spec =
+    tie.close (tie.spec check-type-requires enum-known-answer number-requires returns returns-2)

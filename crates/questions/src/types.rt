@@ -1,0 +1,59 @@
+// The question `type ORDER TYPE`: the check of a TypeCode.
+ghost use mathlib.Core.Path.{_≡_};
+ghost use Prim.Native.Nat.{_≤_};
+ghost use lib.ListN.{length};
+ghost use Rattle.typecode.specs.TypeCode.{checkedType};
+ghost use Rattle.questions.specs.Words.{words};
+ghost use Rattle.questions.specs.Questions.{lineMost, orderedType, typeQuestion};
+ghost use Rattle.questions.specs.Replies.{replyTo, typeReply};
+use crate::Reply;
+use crate::words;
+use cdr::Named;
+use cdr::Order;
+use typecode::TypeAnswer;
+use words::Octets;
+
+// The most octets that a line has the digits of.
+const OCTETS: usize = 65536;
+
+// Answers the words `ORDER TYPE`.
+pub(crate) fn reply_type(rest: &[u8]) -> Reply
+    requires { ⌜ length (now rest) ≤ lineMost ⌝ }
+    ensures { λ r. ⌜ r ≡ replyTo (typeQuestion (words (now (rest .entry)))) ⌝ }
+{
+    let end = words::first_end(rest);
+    if end == rest.len() {
+        return Reply::NoQuestion;
+    }
+    let Named::Is(order) = words::read_order(&rest[..end]) else {
+        return Reply::NoQuestion;
+    };
+    reply_ordered(order, &rest[end + 1..])
+}
+
+// Answers the word `TYPE`.
+fn reply_ordered(order: Order, rest: &[u8]) -> Reply
+    requires { ⌜ length (now rest) ≤ lineMost ⌝ }
+    ensures { λ r. ⌜ r ≡ replyTo (orderedType order (words (now (rest .entry)))) ⌝ }
+{
+    if words::first_end(rest) < rest.len() {
+        return Reply::NoQuestion;
+    }
+    let mut octets = [0u8; OCTETS];
+    let Octets::Count(n) = words::read_octets(rest, &mut octets) else {
+        return Reply::NoQuestion;
+    };
+    check(&octets[..n], order)
+}
+
+// Answers with the check of octets as a type.
+fn check(v: &[u8], order: Order) -> Reply
+    ensures { λ r. ⌜ r ≡ typeReply (checkedType (now (v .entry)) order .answer) ⌝ }
+{
+    let checked = typecode::check_type(v, order);
+    let answer = checked.answer;
+    match answer {
+        TypeAnswer::Accepted { used, kinds } => Reply::Accepted { used, kinds },
+        TypeAnswer::Refused(_) | TypeAnswer::Loop => Reply::Refused(answer.number()),
+    }
+}
