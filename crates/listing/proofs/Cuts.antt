@@ -8,7 +8,6 @@ use lib.Dec.{ltb}
 use lib.ListN.{length, take}
 use lib.Seq.{take-all, length-take-le, take-take}
 use borrow.Author.Tests.{ltb-true, ltb-false}
-use Rattle.choices.proofs.Choices.{by-test}
 use Rattle.hexline.specs.Decoding.{lineLimit}
 use Rattle.hexline.proofs.Answers.{too-long}
 use Rattle.lines.specs.Lines.{upToLF, afterLF, lastLine, linesFrom, linesOf}

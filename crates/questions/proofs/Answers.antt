@@ -1,15 +1,15 @@
 -- What the steps of answering a line amount to.
 use mathlib.Core.Path.{_≡_, refl, sym, ap, _∙_}
-use mathlib.Core.Bool.{Bool, true, false, not, _&&_}
+use mathlib.Core.Bool.{true, false}
 use mathlib.Core.List.{List, [], _∷_, _++_}
 use Prim.Native.Nat.{ℕ, _+_, _-_, _*_, _%_, _<_, _≤_}
 use native.Mathlib.Omega.{arith}
 use types.Run.{OneOf, miss}
 use denote.Enum.Declared.{tagOf}
-use lib.Dec.{eqb, ltb}
+use lib.Dec.{eqb}
 use lib.ListN.{length, take, drop, length-drop}
-use lib.Seq.{take-all, length-sets}
-use borrow.Author.Tests.{eq-eqb, ne-eqb, eqb-true, eqb-false, lt-ltb, le-ltb}
+use lib.Seq.{take-all}
+use borrow.Author.Tests.{eq-eqb, ne-eqb, eqb-false, lt-ltb, le-ltb}
 use Rattle.choices.proofs.Choices.{by-test}
 use Rattle.choices.specs.Branch.{choose}
 use Rattle.cdr.specs.declared.Order.{Order}
@@ -19,7 +19,7 @@ use Rattle.decimals.specs.Decimal.{decimal}
 use Rattle.decimals.specs.Puts.{Put}
 use Rattle.decimals.proofs.Puts.{take-written, put-taken, number-most}
 use Rattle.hexline.specs.declared.Decoded.{Decoded}
-use Rattle.hexline.specs.declared.Decoded.the-variants.{Octets, TooLong, NotDigits, NoRoom}
+use Rattle.hexline.specs.declared.Decoded.the-variants.{Octets}
 use Rattle.hexline.specs.Decoding.{allDigits, lineOctets, digitsDecoded, Decodes}
 use Rattle.hexline.proofs.Answers.{taken, digits-accepted}
 use Rattle.hexline.proofs.Laws.{octets-length}
@@ -33,8 +33,8 @@ use Rattle.questions.specs.declared.Reply.{Reply}
 use Rattle.questions.specs.declared.Reply.the-variants.{Accepted, Refused, NoQuestion}
 use Rattle.questions.specs.declared.words.Octets.{Octets as OctetsAnswer}
 use Rattle.questions.specs.declared.words.Octets.the-variants.{Count, NotOctets}
-use Rattle.questions.specs.Words.{space, wordsFrom, words, sameWord, orderWord, octets, notOctets, octetsWord}
-use Rattle.questions.specs.Questions.{lineMost, noQuestion, orderedType, namedType, typeQuestion, questionFrom, questionOf}
+use Rattle.questions.specs.Words.{space, wordsFrom, words, sameWord, noneWord, orderWord, octets, octetsWord}
+use Rattle.questions.specs.Questions.{lineMost, typeWord, noQuestion, orderedType, namedType, typeQuestion, questionOf}
 use Rattle.questions.specs.Replies.{typeReply, replyTo, acceptedText, refusedText, replyText, answerLine}
 use Rattle.questions.specs.Inner.{FirstWord, WordRead}
 
@@ -43,11 +43,11 @@ pub part-all : (v : List ℕ) (b : ℕ) → take (length v - b) (drop b v) ≡ d
 part-all v b = take-all (length v - b) (drop b v) (omega (arith, length-drop b v))
 
 -- a word as octets: `-`, no characters,
-pub word-dash : (word memory : List ℕ) → sameWord word (45 ∷ []) ≡ true → WordRead word (Count 0) memory
+pub word-dash : (word memory : List ℕ) → sameWord word noneWord ≡ true → WordRead word (Count 0) memory
 unfolding octetsWord choose
 word-dash word memory d = record { stands = rw d; within = omega arith }
 
-module _ (word : List ℕ) (d : sameWord word (45 ∷ []) ≡ false) where
+module _ (word : List ℕ) (d : sameWord word noneWord ≡ false) where
   pub word-empty : (memory : List ℕ) → length word ≡ 0 → WordRead word NotOctets memory
   unfolding octetsWord choose
   word-empty memory z = record { stands = rw (d, eq-eqb (length word) 0 z); within = omega arith }
@@ -126,9 +126,6 @@ module _ (rest : List ℕ) (end : ℕ) (f : FirstWord rest end) where
     type-ordered order e = rw (part-all rest (end + 1), f .more h, ← e)
 
 -- a line, by its first word
-abbrev typeWord : List ℕ
-typeWord = 116 ∷ 121 ∷ 112 ∷ 101 ∷ []
-
 module _ (line : List ℕ) where
   pub line-over : lineMost < length line → NoQuestion ≡ replyTo (questionOf line)
   unfolding questionOf choose

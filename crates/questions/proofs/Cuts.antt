@@ -1,5 +1,5 @@
 -- The answers do not see the characters of a line beyond the 131,073rd, so no more of them need be kept.
-use mathlib.Core.Path.{_≡_, refl, sym, ap, _∙_}
+use mathlib.Core.Path.{_≡_, sym, ap, _∙_}
 use mathlib.Core.List.{List, [], _∷_, _++_}
 use Prim.Native.Nat.{ℕ, suc, _-_, _<_}
 use native.Mathlib.Omega.{arith}
@@ -12,7 +12,7 @@ use Rattle.choices.specs.Branch.{choose}
 use Rattle.lines.specs.Lines.{upToLF, afterLF, lastLine, linesFrom, linesOf}
 use Rattle.lines.proofs.Laws.{lines-first, lines-end, take-longer}
 use Rattle.questions.specs.Questions.{lineMost, questionOf}
-use Rattle.questions.specs.Replies.{replyTo, replyText, answerLine}
+use Rattle.questions.specs.Replies.{answerLine}
 use Rattle.questions.specs.Blocks.{answersOf}
 
 module _ (n : ℕ) (h : lineMost < n) where

@@ -1,18 +1,16 @@
 -- Words found from the start of a line on, words compared, and octets read.
 use mathlib.Core.Path.{_≡_, refl, sym, ap, _∙_}
-use mathlib.Core.Bool.{Bool, true, false, not, _&&_}
-use mathlib.Core.List.{List, [], _∷_, _++_}
-use Prim.Native.Nat.{ℕ, zero, suc, _+_, _*_, _/_, _%_, _<_, _≤_}
+use mathlib.Core.Bool.{Bool, true, false, _&&_}
+use mathlib.Core.List.{List, [], _∷_}
+use Prim.Native.Nat.{ℕ, suc, _+_, _<_, _≤_}
 use native.Mathlib.Numerals.{add-one}
 use native.Mathlib.Omega.{arith}
 use lib.Dec.{eqb}
 use lib.ListN.{getD, length, take, drop, drop-of-length-le}
 use lib.Seq.{drop-cons, take-suc, take-all}
 use borrow.Author.Tests.{eq-eqb, ne-eqb}
-use Rattle.choices.proofs.Choices.{by-test, clash}
 use Rattle.choices.specs.Branch.{choose}
 use Rattle.questions.specs.Words.{space, wordsFrom, words, sameWord}
-use Rattle.questions.specs.Inner.{FirstWord}
 
 -- the search for the end of the first word, by the words that the characters before and behind make
 module _ (line : List ℕ) (i : ℕ) (e : wordsFrom (take i line) (drop i line) ≡ words line) where

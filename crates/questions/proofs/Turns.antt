@@ -1,27 +1,26 @@
 -- Each turn writes the text that its line owes, and so does a whole call.
-use mathlib.Core.Path.{_≡_, refl, sym, ap, subst, _∙_}
+use mathlib.Core.Path.{_≡_, refl, sym, ap, _∙_}
 use mathlib.Core.Bool.{true, false}
-use mathlib.Core.List.{List, [], _∷_, _++_, append-assoc}
+use mathlib.Core.List.{List, _++_, append-assoc}
 use Prim.Native.Nat.{ℕ, _+_, _-_, _<_, _≤_, min}
 use native.Mathlib.Omega.{arith}
 use lib.Dec.{ltb}
 use lib.ListN.{length, take, drop}
 use lib.Seq.{length-sets, drop-drop, drop-length, take-take}
 use borrow.Author.Tests.{ltb-true, ltb-false}
-use Rattle.choices.proofs.Choices.{by-test, clash}
+use Rattle.choices.proofs.Choices.{by-test}
 use Rattle.lines.specs.declared.Taken.{Taken}
-use Rattle.lines.specs.Lines.{upToLF, linesFrom, linesOf, takenOf, keptInto, LineTaken}
+use Rattle.lines.specs.Lines.{upToLF, linesOf, takenOf, keptInto, LineTaken}
 use Rattle.lines.proofs.Laws.{block-ended, block-open, next-open, next-more, next-most, kept-most, kept-is, drop-within}
 use Rattle.writing.specs.declared.Written.{Written}
 use Rattle.writing.specs.declared.Written.the-variants.{Upto, NoRoom}
 use Rattle.writing.specs.Write.{Stored}
 use Rattle.writing.proofs.Stores.{take-stored, drop-stored}
-use Rattle.decimals.specs.Puts.{Put}
 use Rattle.decimals.proofs.Puts.{put-upto, put-always}
 use Rattle.questions.specs.declared.Progress.{Progress}
 use Rattle.questions.specs.Questions.{questionOf}
 use Rattle.questions.specs.Replies.{replyTo, answerLine}
-use Rattle.questions.specs.Blocks.{lineRoom, longest, answersOf, answersAfter, BlockAnswered}
+use Rattle.questions.specs.Blocks.{longest, answersOf, answersAfter, BlockAnswered}
 use Rattle.questions.specs.Turns.{Goes, Onto}
 use Rattle.questions.proofs.Answers.{text-most}
 use Rattle.questions.proofs.Cuts.{answer-same, begun-cut}

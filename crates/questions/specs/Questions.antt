@@ -1,5 +1,6 @@
 -- What a line asks: "each input line is a question".
 --   lineMost        the most characters of a line
+--   typeWord        the word `type`
 --   Question        the check of octets as a type in a byte order, or no question
 --   typeOctets      the question by the octets that TYPE stands for
 --   orderedType     by the words behind ORDER: TYPE, and no more
@@ -19,6 +20,9 @@ use Rattle.questions.specs.Words.{words, sameWord, orderWord, Octets, oc
 
 abbrev pub lineMost : ℕ
 lineMost = 131072
+
+abbrev pub typeWord : List ℕ
+typeWord = 116 ∷ 121 ∷ 112 ∷ 101 ∷ []
 
 pub data Question : Type 0 where
   typeIn : Order → List ℕ → Question
@@ -41,10 +45,9 @@ abbrev pub typeQuestion : List (List ℕ) → Question
 typeQuestion [] = noQuestion
 typeQuestion (order ∷ rest) = namedType (orderWord order) rest
 
--- `type`
 abbrev pub questionFrom : List (List ℕ) → Question
 questionFrom [] = noQuestion
-questionFrom (word ∷ rest) = choose (sameWord word (116 ∷ 121 ∷ 112 ∷ 101 ∷ [])) (λ _. typeQuestion rest) (λ _. noQuestion)
+questionFrom (word ∷ rest) = choose (sameWord word typeWord) (λ _. typeQuestion rest) (λ _. noQuestion)
 
 unfoldable pub questionOf : List ℕ → Question
 questionOf line = choose (ltb lineMost (length line)) (λ _. noQuestion) (λ _. questionFrom (words line))

@@ -3,8 +3,7 @@ use mathlib.Core.Path.{ap}
 use Prim.Native.Nat.{ℕ, _-_}
 use native.Mathlib.Omega.{arith}
 use lib.ListN.{length}
-use Rattle.questions.specs.declared.Progress.{Progress}
-use Rattle.questions.specs.Turns.{Goes, Onto}
+use Rattle.questions.specs.Turns.{Onto}
 use Rattle.questions.proofs.Turns.{onto-self, onto-then, block-answered}
 use borrow.Author.Needs.{needs}
 use Rattle.questions.proofs.answer_block.Statement.{statement}

@@ -1,7 +1,6 @@
 -- One test after the other.
 use mathlib.Core.Bool.{false≢true, true≢false}
 use native.Mathlib.Omega.{arith}
-use borrow.Author.Needs.{needs}
 use Rattle.questions.proofs.block.goes_on.Statement.{statement}
 use Rattle.questions.proofs.block.goes_on.Tie as tie
 

@@ -1,6 +1,5 @@
 -- An accepted type, or its number.
 use mathlib.Core.Path.{ap, _∙_}
-use Rattle.typecode.specs.TypeCode.{checkedType}
 use Rattle.questions.specs.declared.Reply.the-variants.{Refused}
 use Rattle.questions.proofs.Answers.{type-refused}
 use borrow.Author.Needs.{needs}
