@@ -1,7 +1,7 @@
 -- What the check accepts is read again without a fault.
 use mathlib.Core.Path.{_≡_, refl, sym, _∙_, ap, subst}
 use mathlib.Core.List.{List}
-use mathlib.Core.Bool.{Bool, true, false, cond, true≢false}
+use mathlib.Core.Bool.{true, false, cond}
 use mathlib.Core.Logic.{_⊎_, ⊎-elim}
 use Prim.Native.Nat.{ℕ, zero, suc, _+_, _-_, _≤_, _<_}
 use native.Mathlib.Omega.{arith}
@@ -12,16 +12,14 @@ use lib.Dec.{ltb, eqb}
 use lib.ListN.{length, getD, set, take, drop, length-set}
 use lib.Seq.{getD-set-same, getD-set-other}
 use Rattle.choices.specs.Branch.{choose}
-use Rattle.choices.proofs.Choices.{by-test, clash}
+use Rattle.choices.proofs.Choices.{by-test}
 use Rattle.cdr.specs.declared.Index.{Index}
 use Rattle.cdr.specs.declared.Place.{Place}
 use Rattle.cdr.specs.declared.Order.{Order}
 use Rattle.cdr.specs.declared.Order.the-variants.{Big, Little}
 use Rattle.cdr.specs.declared.Size.the-variants.{Four}
-use Rattle.cdr.specs.declared.Named.{Named}
-use Rattle.cdr.specs.declared.Named.the-variants.{Is, NoOrder}
-use Rattle.encapsulation.specs.declared.Field.{Field}
-use Rattle.encapsulation.specs.declared.Field.the-variants.{Value, NoField}
+use Rattle.cdr.specs.declared.Named.the-variants.{Is}
+use Rattle.encapsulation.specs.declared.Field.the-variants.{Value}
 use Rattle.kinds.specs.declared.Form.{Form}
 use Rattle.kinds.specs.declared.Form.the-variants.{Unlisted, Plain, Bounded, Composite}
 use Rattle.kinds.specs.declared.Layout.{Layout}
@@ -29,178 +27,40 @@ use Rattle.kinds.specs.declared.Layout.the-variants.{Objref as objref, Struct a
 use Rattle.kinds.specs.declared.Target.{Target}
 use Rattle.kinds.specs.declared.Target.the-variants.{To, Outside}
 use Rattle.kinds.specs.declared.Skip.the-variants.{Past}
-use Rattle.kinds.specs.declared.Spot.{Spot}
-use Rattle.kinds.specs.declared.Spot.the-variants.{At, Nowhere}
-use Rattle.kinds.specs.declared.Element.{Element}
-use Rattle.kinds.specs.declared.Element.the-variants.{Holds, NoElement}
+use Rattle.kinds.specs.declared.Spot.the-variants.{At}
 use Rattle.kinds.specs.declared.Labels.{Labels}
 use Rattle.kinds.specs.declared.Labels.the-variants.{Of, NoLabels}
-use Rattle.kinds.specs.declared.Parameters.{Parameters}
-use Rattle.kinds.specs.declared.Parameters.the-variants.{Fault}
 use Rattle.met.specs.declared.Met.{Met}
-use Rattle.fields.specs.declared.Refusal.{Refusal}
 use Rattle.fields.specs.declared.Refusal.the-variants.{Ends, BadEncapsulation, BadTarget}
-use Rattle.fields.specs.declared.Entry.{Entry}
-use Rattle.fields.specs.declared.Entry.the-variants.{Barred, Enters}
-use Rattle.fields.specs.declared.Step.{Step}
-use Rattle.fields.specs.declared.Step.the-variants.{Refused, Next}
-use Rattle.fields.specs.declared.Count.{Count}
-use Rattle.fields.specs.declared.Count.the-variants.{Wrong, Stands}
-use Rattle.fields.specs.declared.Part.{Part}
-use Rattle.fields.specs.declared.Part.the-variants.{NoPart, Inside}
+use Rattle.fields.specs.declared.Step.the-variants.{Next}
+use Rattle.fields.specs.declared.Count.the-variants.{Stands}
 use Rattle.checking.specs.declared.Walk.{Walk}
 use Rattle.checking.specs.declared.Walked.{Walked}
 use Rattle.cdr.specs.Align.{behindGap, indexOf}
 use Rattle.cdr.specs.Orders.{orderOctet, orderOf}
 use Rattle.encapsulation.specs.Encapsulation.{start, fieldOf}
 use Rattle.kinds.specs.Forms.{indirectionKind, formOf}
-use Rattle.kinds.specs.Parts.{placeOf, onField, onSpot, fieldIn, skipField, skipKind, behind, targetOf, aimed, spotAt, namesIn}
-use Rattle.kinds.specs.Parameters.{countIn, typeIn, elementIn, onElement, unionIn, parametersIn, onOrder, encapsulated, parametersAfter, parametersAt}
+use Rattle.kinds.specs.Parts.{placeOf, fieldIn, skipField, skipKind, behind, targetOf, aimed, spotAt, namesIn}
+use Rattle.kinds.specs.Parameters.{typeIn, elementIn, unionIn, parametersIn, encapsulated, parametersAfter, parametersAt}
 use Rattle.met.specs.Met.{added, findIn, findPlace, orderIn, parametersOf}
 use Rattle.met.specs.Discriminants.{labelsFor}
 use Rattle.fields.specs.Fields.{topOnly, belowTop, entryOf, nestingLimit, namesStep, numberStep, lengthStep, headStep, exceptionStep, enumStep, switchStep, partOf}
-use Rattle.checking.specs.Walk.{nothingMet, layoutBarred, isBarred, entered, closed, refusedAs, goesOn, onStep, countThen, after}
-use Rattle.checking.specs.Types.{targetStep, aimedStep, indirectionAt, Checker, Enterer, nameStep, membersAt, labelsAt, switchHead, switchedAt, discriminantAt, contentsAt, endedAt, partThen, compositeAt, insideAt, enteredAt, onEntry, kindAt, enterAt, typeAt}
+use Rattle.checking.specs.Walk.{nothingMet, isBarred, entered, closed, refusedAs, goesOn, onStep, countThen, after}
+use Rattle.checking.specs.Types.{targetStep, aimedStep, indirectionAt, Checker, Enterer, nameStep, membersAt, labelsAt, switchHead, switchedAt, discriminantAt, contentsAt, endedAt, compositeAt, insideAt, enteredAt, onEntry, kindAt, enterAt, typeAt}
 use Rattle.checking.proofs.Ways.{Entering, entry-facts, Found, part-facts}
 use Rattle.encapsulation.proofs.Fields.{field-facts}
 use Rattle.accepted.specs.Sound.{Listed, Members, Labelled, Sound, NotTop, Good}
 use Rattle.accepted.specs.Sound.Members.{none, one}
 use Rattle.accepted.proofs.Lists.{Grows, grows-none, grows-on, place-again, low-again, inner-again, parameters-again, find-new, labels-grow, good-grows}
 use Rattle.accepted.proofs.Lies.{field-there, Lies, lies-whole, lies-part, octet-again, field-again, field-over, counted-again, names-again, number-read, head-again, exception-again, length-read, enum-again, switch-read, name-again}
-
--- ---- by the cases of a definition, keeping what each test said
-
-module _ {A : Type 0} (Q : A → Type 0) where
-  pub on-field : (x : Field) (a : A) (f : ℕ → Index → A) → (x ≡ NoField → Q a) → ((n : ℕ) (i : Index) → x ≡ Value n i → Q (f n i)) → Q (onField x a f)
-  on-field NoField a f p q = p refl
-  on-field (Value n i) a f p q = q n i refl
-
-  pub on-choice : (t : Bool) (f g : Unit {0} → A) → (t ≡ true → Q (f tt)) → (t ≡ false → Q (g tt)) → Q (choose t f g)
-  unfolding choose
-  on-choice true f g p q = p refl
-  on-choice false f g p q = q refl
-
-  pub on-cond : (t : Bool) (x y : A) → (t ≡ true → Q x) → (t ≡ false → Q y) → Q (cond t x y)
-  on-cond true x y p q = p refl
-  on-cond false x y p q = q refl
-
-module _ (Q : Walked → Type 0) where
-  pub on-step : (t : Step) (w : Walk) (f : Index → Walked) → ((r : Refusal) → t ≡ Refused r → Q (refusedAs r w)) → ((i : Index) → t ≡ Next i → Q (f i)) → Q (onStep t w f)
-  on-step (Refused r) w f p q = p r refl
-  on-step (Next i) w f p q = q i refl
-
-  pub on-count : (t : Count) (w : Walk) (f : ℕ → Index → Walked) → ((r : Refusal) → t ≡ Wrong r → Q (refusedAs r w)) → ((n : ℕ) (i : Index) → t ≡ Stands n i → Q (f n i)) → Q (countThen t w f)
-  on-count (Wrong r) w f p q = p r refl
-  on-count (Stands n i) w f p q = q n i refl
-
-  pub on-part : (t : Part) (w : Walk) (f : ℕ → ℕ → Order → Walked) → ((r : Refusal) → t ≡ NoPart r → Q (refusedAs r w)) → ((x e : ℕ) (o : Order) → t ≡ Inside x e o → Q (f x e o)) → Q (partThen t w f)
-  on-part (NoPart r) w f p q = p r refl
-  on-part (Inside x e o) w f p q = q x e o refl
-
-  pub on-entry : (t : Entry) (w : Walk) (f : Unit {0} → Walked) → ((r : Refusal) → t ≡ Barred r → Q (refusedAs r w)) → (t ≡ Enters → Q (f tt)) → Q (onEntry t w f)
-  on-entry (Barred r) w f p q = p r refl
-  on-entry Enters w f p q = q refl
-
--- ---- what an accepted check says
-
-abbrev pub IfNext : (Index → Type 0) → Step → Type 0
-IfNext F (Refused r) = Unit {0}
-IfNext F (Next i) = F i
-
-abbrev pub Gives : (Index → Walk → Type 0) → Walked → Type 0
-Gives W c = IfNext (λ i. W i (c .walk)) (c .step)
-
-module _ (W₁ W₂ : Index → Walk → Type 0) where
-  gives-then : (c : Walked) (f : Index → Walk → Walked) → Gives W₁ c → ((i : Index) → W₁ i (c .walk) → Gives W₂ (f i (c .walk))) → Gives W₂ (after c f)
-  gives-then c f h k = go (c .step) h
-    where
-      go : (a : Step) → IfNext (λ i. W₁ i (c .walk)) a → Gives W₂ (onStep a (c .walk) (λ i. f i (c .walk)))
-      go (Refused r) h = tt
-      go (Next i) h = k i h
-
-  gives-map : (c : Walked) → ((i : Index) → W₁ i (c .walk) → W₂ i (c .walk)) → Gives W₁ c → Gives W₂ c
-  gives-map c f h = go (c .step) h
-    where
-      go : (a : Step) → IfNext (λ i. W₁ i (c .walk)) a → IfNext (λ i. W₂ i (c .walk)) a
-      go (Refused r) h = tt
-      go (Next i) h = f i h
+use Rattle.accepted.proofs.Cases.{on-field, on-choice, on-cond, on-step, on-count, on-part, on-entry, IfNext, Gives, gives-then, gives-map}
+use Rattle.accepted.proofs.BelowTop.{after-not-top, unbarred-not-top}
 
 pub record Fits (m : Met) : Type 0 where
   pub places : length (m .places) ≡ 64
   pub starts : length (m .starts) ≡ 64
   pub orders : length (m .orders) ≡ 64
   pub count : m .count ≤ 64
-
--- ---- below the top
-
-form-exception : (kind : ℕ) → formOf kind ≡ Composite exception → kind ≡ 22
-unfolding formOf
-form-exception kind e =
-    by-test (ltb kind 11) (λ a. let q : Plain ≡ Composite exception = rw a at e in clash cc) (λ a₁.
-    by-test (eqb kind 14) (λ a. let q : Composite objref ≡ Composite exception = rw (a₁, a) at e in clash cc) (λ a₂.
-    by-test (eqb kind 15) (λ a. let q : Composite struct ≡ Composite exception = rw (a₁, a₂, a) at e in clash cc) (λ a₃.
-    by-test (eqb kind 16) (λ a. let q : Composite union ≡ Composite exception = rw (a₁, a₂, a₃, a) at e in clash cc) (λ a₄.
-    by-test (eqb kind 17) (λ a. let q : Composite enum ≡ Composite exception = rw (a₁, a₂, a₃, a₄, a) at e in clash cc) (λ a₅.
-    by-test (eqb kind 18) (λ a. let q : Bounded ≡ Composite exception = rw (a₁, a₂, a₃, a₄, a₅, a) at e in clash cc) (λ a₆.
-    by-test (eqb kind 19) (λ a. let q : Composite sequence ≡ Composite exception = rw (a₁, a₂, a₃, a₄, a₅, a₆, a) at e in clash cc) (λ a₇.
-    by-test (eqb kind 20) (λ a. let q : Composite array ≡ Composite exception = rw (a₁, a₂, a₃, a₄, a₅, a₆, a₇, a) at e in clash cc) (λ a₈.
-    by-test (eqb kind 21) (λ a. let q : Composite alias ≡ Composite exception = rw (a₁, a₂, a₃, a₄, a₅, a₆, a₇, a₈, a) at e in clash cc) (λ a₉.
-    by-test (eqb kind 22) (λ a. eqb-true kind 22 a) (λ a₀.
-    by-test (eqb kind 23) (λ a. let q : Plain ≡ Composite exception = rw (a₁, a₂, a₃, a₄, a₅, a₆, a₇, a₈, a₉, a₀, a) at e in clash cc) (λ b.
-    by-test (eqb kind 24) (λ a. let q : Plain ≡ Composite exception = rw (a₁, a₂, a₃, a₄, a₅, a₆, a₇, a₈, a₉, a₀, b, a) at e in clash cc)
-    (λ c. let q : Unlisted ≡ Composite exception = rw (a₁, a₂, a₃, a₄, a₅, a₆, a₇, a₈, a₉, a₀, b, c) at e in clash cc))))))))))))
-
-module _ (v : List ℕ) where
-  on-spot : (Q : Parameters → Type 0) (x : Spot) (a : Parameters) (f : Place → Index → Parameters) → Q a → ((p : Place) (i : Index) → Q (f p i)) → Q (onSpot x a f)
-  on-spot Q (At p i) a f g h = h p i
-  on-spot Q Nowhere a f g h = g
-
-  on-element : (x : Element) (f : Place → ℕ → Parameters) → ((p : Place) (n : ℕ) → NotTop (f p n)) → NotTop (onElement x f)
-  on-element (Holds p n) f h = h p n
-  on-element NoElement f h = tt
-
-  in-not-top : (layout : Layout) (b : Place) (order : Order) → (layout ≡ exception → ⊥) → NotTop (parametersIn layout v b order)
-  unfolding unionIn
-  in-not-top objref b order e = tt
-  in-not-top alias b order e = on-spot NotTop (typeIn v b order) _ _ tt (λ p i. tt)
-  in-not-top struct b order e = on-field NotTop (countIn v b order) _ _ (λ r. tt) (λ n i r. tt)
-  in-not-top exception b order e = absurd (e refl)
-  in-not-top union b order e =
-      on-spot NotTop (typeIn v b order) _ _ tt
-      (λ d i. on-field NotTop (fieldIn v b i Four order) _ _ (λ r. tt) (λ x j r. on-field NotTop (fieldIn v b j Four order) _ _ (λ r. tt) (λ n k r. tt)))
-  in-not-top enum b order e = on-field NotTop (countIn v b order) _ _ (λ r. tt) (λ n i r. tt)
-  in-not-top sequence b order e = on-element (elementIn v b order) _ (λ p n. tt)
-  in-not-top array b order e = on-element (elementIn v b order) _ (λ p n. tt)
-
-  order-not-top : (x : Named) (f : Order → Parameters) → ((o : Order) → NotTop (f o)) → NotTop (onOrder x f)
-  order-not-top (Is o) f h = h o
-  order-not-top NoOrder f h = tt
-
-  encapsulated-not-top : (layout : Layout) (b : Place) → (layout ≡ exception → ⊥) → NotTop (encapsulated layout v b)
-  unfolding encapsulated
-  encapsulated-not-top layout b e =
-      on-cond NotTop (ltb (b .0) (length v)) (onOrder (orderOf (getD v (b .0) 0)) (λ order. parametersIn layout v b order)) Fault
-      (λ t. order-not-top (orderOf (getD v (b .0) 0)) (λ order. parametersIn layout v b order) (λ o. in-not-top layout b o e)) (λ t. tt)
-
-  after-not-top : (b : Place) (order : Order) (kind : ℕ) (i : Index) → topOnly kind ≡ false → (form : Form) → formOf kind ≡ form
-      → NotTop (parametersAfter form v b order kind i)
-  after-not-top b order kind i t Unlisted e = tt
-  after-not-top b order kind i t Plain e = t
-  after-not-top b order kind i t Bounded e = on-field NotTop (fieldIn v b i Four order) _ _ (λ r. tt) (λ n j r. tt)
-  after-not-top b order kind i t (Composite layout) e =
-      on-field NotTop (fieldIn v b i Four order) _ _ (λ r. tt) (λ n j r. encapsulated-not-top layout (placeOf (b .0 + j .0)) (λ q. never (form-exception kind (e ∙ ap Composite q))))
-    where
-      never : kind ≡ 22 → ⊥
-      never q = true≢false (subst (λ (x : ℕ). topOnly x ≡ false) q t)
-
-  -- a kind that is no longer barred may stand below the top: a struct or a union
-  unbarred-not-top : (b : Place) (order : Order) (kind : ℕ) (i : Index) (form : Form) → isBarred form ≡ false → NotTop (parametersAfter form v b order kind i)
-  unbarred-not-top b order kind i Unlisted u = tt
-  unbarred-not-top b order kind i Plain u = absurd (true≢false u)
-  unbarred-not-top b order kind i Bounded u = absurd (true≢false u)
-  unbarred-not-top b order kind i (Composite layout) u =
-      on-field NotTop (fieldIn v b i Four order) _ _ (λ r. tt)
-      (λ n j r. encapsulated-not-top layout (placeOf (b .0 + j .0)) (λ q. true≢false (subst (λ (x : Layout). layoutBarred x ≡ false) q u)))
 
 abbrev Below : Met → ℕ → Type 0
 Below m x = (j : ℕ) → j < m .count → getD (m .places) j 0 < x

@@ -1,11 +1,11 @@
 -- What the steps say after each of the functions that make them.
 use mathlib.Core.Path.{_≡_, refl, sym, _∙_, ap}
-use mathlib.Core.Bool.{Bool, true, false, cond, _&&_, _||_, or-false}
+use mathlib.Core.Bool.{Bool, false, _&&_, _||_, or-false}
 use mathlib.Core.List.{List}
 use Prim.Native.Nat.{ℕ, zero, suc, _^_, _<_}
 use native.Mathlib.Omega.{arith}
-use lib.Dec.{ltb, eqb}
-use lib.ListN.{getD, set, length, replicate, length-set}
+use lib.Dec.{eqb}
+use lib.ListN.{getD, set, length, replicate}
 use lib.Seq.{getD-set-same, getD-set-other}
 use borrow.Author.Tests.{lt-ltb, eqb-true, eqb-false}
 use Rattle.choices.proofs.Choices.{by-test}
@@ -19,23 +19,11 @@ getD-zeros zero i = refl
 getD-zeros (suc n) zero = refl
 getD-zeros (suc n) (suc i) = getD-zeros n i
 
-pub none-length : length (noSteps .rows) ≡ mostKinds
-none-length = refl
-
 pub none-cell : (i j : ℕ) → cell (noSteps .rows) i j ≡ false
 none-cell i j = rw (getD-zeros mostKinds i) (bit-zero j)
 
 row-with : (row j z : ℕ) → bitAt (rowWith row j) z ≡ (bitAt row z || eqb z j)
 row-with row j z = bit-or row (2 ^ j) z ∙ ap (λ (b : Bool). bitAt row z || b) (bit-power j z)
-
-with-length-by : (b c : Bool) (s : Steps) (i row : ℕ) → length (cond (b && c) (record { rows = set (s .rows) i row }) s .rows) ≡ length (s .rows)
-with-length-by true true s i row = length-set (s .rows) i row
-with-length-by true false s i row = refl
-with-length-by false c s i row = refl
-
-pub with-length : (s : Steps) (i j : ℕ) → length (withStep s i j .rows) ≡ length (s .rows)
-unfolding withStep
-with-length s i j = with-length-by (ltb i mostKinds) (ltb j mostKinds) s i (rowWith (getD (s .rows) i 0) j)
 
 module _ (s : Steps) (i j : ℕ) (hi : i < mostKinds) (hj : j < mostKinds) where
   with-rows : withStep s i j .rows ≡ set (s .rows) i (rowWith (getD (s .rows) i 0) j)

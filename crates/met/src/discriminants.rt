@@ -1,5 +1,6 @@
 // What a discriminant's type says of labels, and whether a label was there before.
 ghost use mathlib.Core.Path.{_≡_};
+ghost use Rattle.kinds.specs.declared.Labels.the-variants.{Of};
 ghost use Rattle.met.specs.Discriminants.{leafLabels, discriminantOf, labelsFor, outOfKind, labelIs, labelAmong};
 use crate::Discriminant;
 use crate::Met;
@@ -13,57 +14,40 @@ use kinds::Labels;
 use kinds::Parameters;
 use kinds::Spot;
 
+// Labels of a size, below a limit.
+fn sized(size: Size, limit: u64) -> Labels
+    ensures { λ r. ⌜ r ≡ Of size limit ⌝ }
+{
+    Labels::Of { size, limit }
+}
+
 // The labels of a kind without parameters.
 fn leaf_labels(kind: u64) -> Labels
     ensures { λ r. ⌜ r ≡ leafLabels kind ⌝ }
 {
     if kind == 2 {
-        return Labels::Of {
-            size: Size::Two,
-            limit: 0,
-        };
+        return sized(Size::Two, 0);
     }
     if kind == 3 {
-        return Labels::Of {
-            size: Size::Four,
-            limit: 0,
-        };
+        return sized(Size::Four, 0);
     }
     if kind == 4 {
-        return Labels::Of {
-            size: Size::Two,
-            limit: 0,
-        };
+        return sized(Size::Two, 0);
     }
     if kind == 5 {
-        return Labels::Of {
-            size: Size::Four,
-            limit: 0,
-        };
+        return sized(Size::Four, 0);
     }
     if kind == 8 {
-        return Labels::Of {
-            size: Size::One,
-            limit: 2,
-        };
+        return sized(Size::One, 2);
     }
     if kind == 9 {
-        return Labels::Of {
-            size: Size::One,
-            limit: 0,
-        };
+        return sized(Size::One, 0);
     }
     if kind == 23 {
-        return Labels::Of {
-            size: Size::Eight,
-            limit: 0,
-        };
+        return sized(Size::Eight, 0);
     }
     if kind == 24 {
-        return Labels::Of {
-            size: Size::Eight,
-            limit: 0,
-        };
+        return sized(Size::Eight, 0);
     }
     Labels::NoLabels
 }
