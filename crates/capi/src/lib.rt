@@ -3,9 +3,11 @@ ghost use mathlib.Core.Path.{_≡_};
 ghost use mathlib.Core.Bool.{cond};
 ghost use Rattle.frame.specs.Frames.{headerNumbers};
 ghost use Rattle.answers.specs.Answers.{outputIn};
+ghost use Rattle.capi.specs.Values.{valueAt, ReadsC, PicksC};
 ghost use Rattle.capi.specs.Answers.{decodedCount, encodedCount, joinedCount, orderIs, DecodesC, EncodesC, JudgesC, JoinsC, ChecksC};
 use answers::Answer;
 use answers::Output;
+use cdr::Index;
 use cdr::Order;
 use frame::Frame;
 use frame::Header;
@@ -13,7 +15,9 @@ use frame::RequestId;
 use hexline::Decoded;
 use hexline::Encoded;
 use places::Record;
+use reading::ValueAnswer;
 use typecode::TypeAnswer;
+use value::ItemAnswer;
 
 // A line's characters to octets in `out`, and their number in `count`; 10, 11, or 27 where `out` is too short.
 #[no_mangle]
@@ -198,5 +202,65 @@ pub extern "C" fn haulspar_type(
         }
         TypeAnswer::Refused(refusal) => refusal.number(),
         TypeAnswer::Loop => refusals::LOOP,
+    }
+}
+
+// A value read into the table, three numbers an item: 0, or 42, 30 to 40, or 50 to 56. Of an accepted one `numbers` gets the octets used
+// and the items; `visits` gets the visits begun, also of a refused one.
+#[no_mangle]
+pub extern "C" fn haulspar_value(
+    t: &[u8],
+    little: bool,
+    v: &[u8],
+    order: bool,
+    start: usize,
+    table: &mut [u64],
+    numbers: &mut [u64; 2],
+    visits: &mut u64,
+) -> u32
+    ensures { λ r. ⌜ ReadsC (now (t .entry)) little (valueAt (now (v .entry)) order start) (now (table .entry)) (now (numbers .entry)) r (now (table .exit)) (now (numbers .exit)) (now (visits .exit)) ⌝ }
+{
+    let answer = value::read_value(t, order_is(little), v, order_is(order), Index(start), table);
+    match answer {
+        ValueAnswer::Accepted {
+            used,
+            items,
+            visits: begun,
+        } => {
+            *numbers = [used as u64, items as u64];
+            *visits = begun;
+            0
+        }
+        ValueAnswer::Refused {
+            number,
+            visits: begun,
+        } => {
+            *visits = begun;
+            number
+        }
+    }
+}
+
+// An item of a value by its number: 0, or 42, 30 to 40, 50 to 55, or 49. `given` gets which case it is (0 signed, 1 unsigned, 2 single,
+// 3 double) and its 64 bits.
+#[no_mangle]
+pub extern "C" fn haulspar_item(
+    t: &[u8],
+    little: bool,
+    v: &[u8],
+    order: bool,
+    start: usize,
+    number: u64,
+    given: &mut [u64; 2],
+) -> u32
+    ensures { λ r. ⌜ PicksC (now (t .entry)) little (valueAt (now (v .entry)) order start) number (now (given .entry)) r (now (given .exit)) ⌝ }
+{
+    let answer = value::read_item(t, order_is(little), v, order_is(order), Index(start), number);
+    match answer {
+        ItemAnswer::Given(item) => {
+            *given = [item.case(), item.bits()];
+            0
+        }
+        ItemAnswer::Refused(refusal) => refusal,
     }
 }

@@ -115,7 +115,7 @@ pub fn out_of_kind(limit: u64, label: u64) -> bool
 }
 
 // Whether the label at an index is this one.
-fn label_is(labels: Labels, v: &[u8], start: Place, order: Order, label: u64, at: Index) -> bool
+pub fn label_is(labels: Labels, v: &[u8], start: Place, order: Order, label: u64, at: Index) -> bool
     ensures { λ r. ⌜ r ≡ labelIs labels (now (v .entry)) start order label at ⌝ }
 {
     let Labels::Of { size, limit: _ } = labels else {

@@ -10,6 +10,7 @@ use kinds::Parameters;
 mod discriminants;
 
 pub use discriminants::label_among;
+pub use discriminants::label_is;
 pub use discriminants::labels_for;
 pub use discriminants::out_of_kind;
 

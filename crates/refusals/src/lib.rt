@@ -92,3 +92,27 @@ pub const BELOW_TOP: u32 = 40;
 
 // Octets are over 16,384.
 pub const TOO_LONG: u32 = 42;
+
+// An item is asked for by a number that is not below their count.
+pub const NO_SUCH_ITEM: u32 = 49;
+
+// A value's octets end.
+pub const VALUE_ENDS: u32 = 50;
+
+// A boolean is above 1.
+pub const BAD_BOOLEAN: u32 = 51;
+
+// An enum is not below the number of its names.
+pub const NO_SUCH_NAME: u32 = 52;
+
+// A value's text has length 0, no last zero octet, or an earlier one.
+pub const BAD_VALUE_TEXT: u32 = 53;
+
+// A text or a sequence is over its bound.
+pub const OVER_BOUND: u32 = 54;
+
+// A visit has 64 open above it.
+pub const TOO_MANY_OPEN: u32 = 55;
+
+// There is no room for a finished item.
+pub const NO_ITEM_ROOM: u32 = 56;

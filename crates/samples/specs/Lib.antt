@@ -1,3 +1,4 @@
 -- The samples of paper 01 that are to be proved.
 pub mod Samples
 pub mod Slips
+pub mod Readings

@@ -1,0 +1,32 @@
+-- The member that a number chooses.
+use borrow.Author.Needs.{needs}
+use Rattle.cases.proofs.chosen_of.Statement.{statement}
+use Rattle.cases.proofs.chosen_of.Tie as tie
+use mathlib.Core.Path.{_≡_, sym, _∙_}
+use native.Mathlib.Omega.{arith}
+use Prim.Native.Nat.{_-_}
+use Rattle.kinds.specs.Parameters.{fieldsOf}
+use Rattle.cases.proofs.Turns.{Seeking, seeking-none, seeking-hit, seeking-cut, seeking-more, seeking-all, Counting, counting-none, counting-cut, counting-more, counting-all, default-none, default-some, chosen-case, chosen-default}
+
+case-of-requires : tie.Need-case-of-requires
+case-of-requires c κs = search needs
+
+enum-known-place : tie.Need-enum-known-place
+enum-known-place c = search needs
+
+enum-told : tie.Need-enum-told
+enum-told c = search needs
+
+default-of-requires : tie.Need-default-of-requires
+default-of-requires c κs = search needs
+
+returns : tie.Need-returns
+returns c = chosen-case (c .before .before .before .before .before .args .labels) (c .before .before .before .before .before .args .t .now) (c .before .before .before .before .before .args .fields) (c .before .before .before .before .before .args .default) (c .before .before .before .before .before .args .label) _ _ (sym (c .before .before .before .case-of .ensures) ∙ c .before .place .given .1)
+
+returns-2 : tie.Need-returns-2
+returns-2 c = c .default-of .ensures ∙ chosen-default (c .before .before .before .before .before .args .labels) (c .before .before .before .before .before .args .t .now) (c .before .before .before .before .before .args .fields) (c .before .before .before .before .before .args .default) (c .before .before .before .before .before .args .label) (sym (c .before .before .before .case-of .ensures) ∙ c .before .enum-told .given .1)
+
+pub chosen-of-spec : {M : Type 1} → statement M
+chosen-of-spec =
+    tie.close
+    (tie.spec case-of-requires enum-known-place enum-told default-of-requires returns returns-2)

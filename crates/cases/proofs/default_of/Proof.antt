@@ -1,0 +1,21 @@
+-- The default member.
+use borrow.Author.Needs.{needs}
+use Rattle.cases.proofs.default_of.Statement.{statement}
+use Rattle.cases.proofs.default_of.Tie as tie
+use mathlib.Core.Path.{_≡_, sym, _∙_}
+use native.Mathlib.Omega.{arith}
+use Prim.Native.Nat.{_-_}
+use Rattle.kinds.specs.Parameters.{fieldsOf}
+use Rattle.cases.proofs.Turns.{Seeking, seeking-none, seeking-hit, seeking-cut, seeking-more, seeking-all, Counting, counting-none, counting-cut, counting-more, counting-all, default-none, default-some, chosen-case, chosen-default}
+
+returns : tie.Need-returns
+returns c = default-none (c .before .before .args .labels) (c .before .before .args .t .now) (c .before .before .args .fields) (c .before .before .args .default) (c .if1 .taken)
+
+member-no-requires : tie.Need-member-no-requires
+member-no-requires c κs = search needs
+
+returns-2 : tie.Need-returns-2
+returns-2 c = c .member-no .ensures ∙ default-some (c .before .before .before .args .labels) (c .before .before .before .args .t .now) (c .before .before .before .args .fields) (c .before .before .before .args .default) (c .before .if1 .left)
+
+pub default-of-spec : {M : Type 1} → statement M
+default-of-spec = tie.close (tie.spec returns member-no-requires returns-2)

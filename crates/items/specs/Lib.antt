@@ -1,0 +1,2 @@
+-- Single items of a value.
+pub mod Items

@@ -1,0 +1,60 @@
+-- What is done with the number of a primitive.
+use borrow.Author.Needs.{needs}
+use Rattle.leaves.proofs.primitives.leaf_done.Statement.{statement}
+use Rattle.leaves.proofs.primitives.leaf_done.Tie as tie
+use mathlib.Core.Path.{_≡_, refl, sym, ap, subst, _∙_}
+use mathlib.Core.Bool.{true, false, cond}
+use mathlib.Core.List.{List}
+use Prim.Native.Nat.{ℕ, _+_, _-_, _≤_, _<_}
+use native.Mathlib.Omega.{arith}
+use lib.ListN.{length}
+use borrow.Author.Tests.{eq-eqb, ne-eqb, lt-ltb, le-ltb, le-leb, lt-leb}
+use Rattle.cdr.specs.declared.Size.the-variants.{Four}
+use Rattle.cdr.proofs.Alignment.{read-facts, octets-small}
+use Rattle.choices.specs.Branch.{choose}
+use Rattle.reading.specs.Sinks.{St, Item, item, number, run, failed, after, repeats, begun, taken, done, numberStep, tookNumber, tookOctets, octetsAt, octetsStep}
+use Rattle.reading.specs.Visit.{sizeOf, contentOf, leafDone, leafAt, enumDone, enumAt, textGot, textAt, countDone, countAt, tagDone, tagAt, runGot, runAt, profileAt, profilesAt, objrefAt}
+use Rattle.reading.proofs.Ways as way
+use Rattle.leaves.specs.Lent.{Lent, rowPut}
+use Rattle.leaves.specs.Walk.{sinkOf, sourceOf, stateOf, leafVisit}
+
+refused-requires : tie.Need-refused-requires
+refused-requires c κs = search needs
+
+returns : tie.Need-returns
+returns c = λ v. c .refused .ensures _ ∙ sym (way.leaf-above (sinkOf (c .before .before .before .before .args .m)) (sourceOf (c .before .before .before .before .args .m) v) (c .before .before .before .before .args .kind) (c .before .before .before .before .args .place) (c .before .before .before .before .args .value) _ (c .before .before .if1 .taken) (c .before .if2 .taken))
+
+put-requires : tie.Need-put-requires
+put-requires c κs = search needs
+
+same-length : tie.Need-same-length
+same-length c = search needs
+
+returns-2 : tie.Need-returns-2
+returns-2 c = λ v. c .before .before .put .ensures ∙ sym (way.leaf-boolean (sinkOf (c .before .before .before .before .before .before .before .args .m)) (sourceOf (c .before .before .before .before .before .before .before .args .m) v) (c .before .before .before .before .before .before .before .args .kind) (c .before .before .before .before .before .before .before .args .place) (c .before .before .before .before .before .before .before .args .value) _ (c .before .before .before .before .before .if1 .taken) (c .before .before .before .before .if2 .left))
+
+content-of-requires : tie.Need-content-of-requires
+content-of-requires c κs = search needs
+
+put-requires-2 : tie.Need-put-requires-2
+put-requires-2 c κs = search needs
+
+same-length-2 : tie.Need-same-length-2
+same-length-2 c = search needs
+
+returns-3 : tie.Need-returns-3
+returns-3 c = λ v. c .before .before .put2 .ensures ∙ ap (λ (n : ℕ). done (sinkOf (c .before .before .before .before .before .before .before .args .m)) (item (c .before .before .before .before .before .before .before .args .kind) (c .before .before .before .before .before .before .before .args .place) n) (stateOf (c .before .before .before .before .before .before .before .args .c) (c .before .before .before .before .before .before .before .args .table .now))) (c .before .before .before .content-of .ensures) ∙ sym (way.leaf-other (sinkOf (c .before .before .before .before .before .before .before .args .m)) (sourceOf (c .before .before .before .before .before .before .before .args .m) v) (c .before .before .before .before .before .before .before .args .kind) (c .before .before .before .before .before .before .before .args .place) (c .before .before .before .before .before .before .before .args .value) _ (c .before .before .before .before .before .if1 .left))
+
+pub leaf-done-spec : {M : Type 1} → statement M
+leaf-done-spec =
+    tie.close
+    (tie.spec
+    refused-requires
+    returns
+    put-requires
+    same-length
+    returns-2
+    content-of-requires
+    put-requires-2
+    same-length-2
+    returns-3)

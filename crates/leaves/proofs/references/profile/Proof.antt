@@ -1,0 +1,44 @@
+-- A profile.
+use borrow.Author.Needs.{needs}
+use Rattle.leaves.proofs.references.profile.Statement.{statement}
+use Rattle.leaves.proofs.references.profile.Tie as tie
+use mathlib.Core.Path.{_≡_, refl, sym, ap, subst, _∙_}
+use mathlib.Core.Bool.{true, false, cond}
+use mathlib.Core.List.{List}
+use Prim.Native.Nat.{ℕ, _+_, _-_, _≤_, _<_}
+use native.Mathlib.Omega.{arith}
+use lib.ListN.{length}
+use borrow.Author.Tests.{eq-eqb, ne-eqb, lt-ltb, le-ltb, le-leb, lt-leb}
+use Rattle.cdr.specs.declared.Size.the-variants.{Four}
+use Rattle.cdr.proofs.Alignment.{read-facts, octets-small}
+use Rattle.choices.specs.Branch.{choose}
+use Rattle.reading.specs.Sinks.{St, Item, item, number, run, failed, after, repeats, begun, taken, done, numberStep, tookNumber, tookOctets, octetsAt, octetsStep}
+use Rattle.reading.specs.Visit.{sizeOf, contentOf, leafDone, leafAt, enumDone, enumAt, textGot, textAt, countDone, countAt, tagDone, tagAt, runGot, runAt, profileAt, profilesAt, objrefAt}
+use Rattle.reading.proofs.Ways as way
+use Rattle.leaves.specs.Lent.{Lent, rowPut}
+use Rattle.leaves.specs.Walk.{sinkOf, sourceOf, stateOf, leafVisit}
+
+tag-requires : tie.Need-tag-requires
+tag-requires c κs = search needs
+
+same-length : tie.Need-same-length
+same-length c = search needs
+
+returns : tie.Need-returns
+unfolding profileAt
+returns c = sym (way.stops (runAt (sinkOf (c .before .before .before .before .before .before .before .before .args .m)) (sourceOf (c .before .before .before .before .before .before .before .before .args .m) (c .before .before .before .before .before .before .before .before .args .v .now))) _ _ (c .before .before .before .before .tag .ensures) (c .if1 .taken))
+
+counted-run-requires : tie.Need-counted-run-requires
+counted-run-requires c κs = search needs
+
+same-length-2 : tie.Need-same-length-2
+same-length-2 c = search needs
+
+returns-2 : tie.Need-returns-2
+unfolding profileAt
+returns-2 c = c .before .before .counted-run .ensures ∙ sym (way.goes-on (runAt (sinkOf (c .before .before .before .before .before .before .before .before .before .before .before .before .args .m)) (sourceOf (c .before .before .before .before .before .before .before .before .before .before .before .before .args .m) (c .before .before .before .before .before .before .before .before .before .before .before .before .args .v .now))) _ _ (c .before .before .before .before .before .before .before .before .tag .ensures) (c .before .before .before .before .if1 .left))
+
+pub profile-spec : {M : Type 1} → statement M
+profile-spec =
+    tie.close
+    (tie.spec tag-requires same-length returns counted-run-requires same-length-2 returns-2)

@@ -1,0 +1,67 @@
+-- So many profiles.
+use borrow.Author.Needs.{needs}
+use Rattle.leaves.proofs.references.profile_list.Statement.{statement}
+use Rattle.leaves.proofs.references.profile_list.Tie as tie
+use mathlib.Core.Path.{_≡_, refl, sym, ap, subst, _∙_}
+use mathlib.Core.Bool.{true, false, cond}
+use mathlib.Core.List.{List}
+use Prim.Native.Nat.{ℕ, _+_, _-_, _≤_, _<_}
+use native.Mathlib.Omega.{arith}
+use lib.ListN.{length}
+use borrow.Author.Tests.{eq-eqb, ne-eqb, lt-ltb, le-ltb, le-leb, lt-leb}
+use Rattle.cdr.specs.declared.Size.the-variants.{Four}
+use Rattle.cdr.proofs.Alignment.{read-facts, octets-small}
+use Rattle.choices.specs.Branch.{choose}
+use Rattle.reading.specs.Sinks.{St, Item, item, number, run, failed, after, repeats, begun, taken, done, numberStep, tookNumber, tookOctets, octetsAt, octetsStep}
+use Rattle.reading.specs.Visit.{sizeOf, contentOf, leafDone, leafAt, enumDone, enumAt, textGot, textAt, countDone, countAt, tagDone, tagAt, runGot, runAt, profileAt, profilesAt, objrefAt}
+use Rattle.reading.proofs.Ways as way
+use Rattle.leaves.specs.Lent.{Lent, rowPut}
+use Rattle.leaves.specs.Walk.{sinkOf, sourceOf, stateOf, leafVisit}
+use Rattle.leaves.proofs.Loops.{Going, going-none, going-all, going-stop, going-more}
+
+abbrev Inv-loop : tie.InvT-loop
+Inv-loop v m table₀ count d₀ k₀ table d k = Going (profileAt (sinkOf m) (sourceOf m v)) count k (stateOf d₀ table₀) (stateOf d table)
+abbrev μ-loop : tie.MeasureT-loop
+μ-loop v m table₀ count d₀ k₀ table d k = count - k
+loop-holds : tie.Need-loop-holds Inv-loop μ-loop
+loop-holds c = going-none
+
+profile-requires : tie.Need-profile-requires Inv-loop μ-loop
+profile-requires c κs = search needs
+
+same-length : tie.Need-same-length Inv-loop μ-loop
+same-length c = c .before .before .before .before .profile .kept .1 .1 .0 ∙ c .before .before .before .before .before .before .before .loop .inv .same
+
+returns : tie.Need-returns Inv-loop μ-loop
+returns c = going-stop (c .before .before .before .before .before .before .before .loop .inv) (c .before .before .before .before .before .before .loop-test .taken) (c .before .before .before .before .profile .ensures) (c .if1 .taken)
+
+add-k : tie.Need-add-k Inv-loop μ-loop
+add-k c = search needs
+
+loop-less : tie.Need-loop-less Inv-loop μ-loop
+loop-less c = omega arith
+
+loop-again : tie.Need-loop-again Inv-loop μ-loop
+loop-again c = going-more (c .before .before .before .before .before .before .before .loop .inv) (c .before .before .before .before .before .before .loop-test .taken) (c .before .before .before .before .profile .ensures) (c .before .before .before .before .profile .kept .1 .1 .0) (c .if1 .left)
+
+same-length-2 : tie.Need-same-length-2 Inv-loop μ-loop
+same-length-2 c = c .before .loop .inv .same
+
+returns-2 : tie.Need-returns-2 Inv-loop μ-loop
+returns-2 c = going-all (c .before .loop .inv) (c .loop-test .left)
+
+pub profile-list-spec : {M : Type 1} → statement M
+profile-list-spec =
+    tie.close
+    (tie.spec
+    Inv-loop
+    μ-loop
+    loop-holds
+    profile-requires
+    same-length
+    returns
+    add-k
+    loop-less
+    loop-again
+    same-length-2
+    returns-2)

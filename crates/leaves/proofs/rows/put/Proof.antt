@@ -1,0 +1,53 @@
+-- An item is finished.
+use borrow.Author.Needs.{needs}
+use Rattle.leaves.proofs.rows.put.Statement.{statement}
+use Rattle.leaves.proofs.rows.put.Tie as tie
+use mathlib.Core.Path.{_≡_, refl, sym, ap, subst, _∙_}
+use mathlib.Core.Bool.{true, false, cond}
+use mathlib.Core.List.{List}
+use Prim.Native.Nat.{ℕ, _+_, _-_, _≤_, _<_}
+use native.Mathlib.Omega.{arith}
+use lib.ListN.{length}
+use borrow.Author.Tests.{eq-eqb, ne-eqb, lt-ltb, le-ltb, le-leb, lt-leb}
+use Rattle.cdr.specs.declared.Size.the-variants.{Four}
+use Rattle.cdr.proofs.Alignment.{read-facts, octets-small}
+use Rattle.choices.specs.Branch.{choose}
+use Rattle.reading.specs.Sinks.{St, Item, item, number, run, failed, after, repeats, begun, taken, done, numberStep, tookNumber, tookOctets, octetsAt, octetsStep}
+use Rattle.reading.specs.Visit.{sizeOf, contentOf, leafDone, leafAt, enumDone, enumAt, textGot, textAt, countDone, countAt, tagDone, tagAt, runGot, runAt, profileAt, profilesAt, objrefAt}
+use Rattle.reading.proofs.Ways as way
+use Rattle.leaves.specs.Lent.{Lent, rowPut}
+use Rattle.leaves.specs.Walk.{sinkOf, sourceOf, stateOf, leafVisit}
+use Prim.Native.Nat.{_%_, _^_}
+
+is-full-requires : tie.Need-is-full-requires
+is-full-requires c κs = search needs
+
+refused-requires : tie.Need-refused-requires
+refused-requires c κs = search needs
+
+returns : tie.Need-returns
+returns c = c .refused .ensures (c .before .before .before .before .args .table .now) ∙ sym (way.done-full (sinkOf (c .before .before .before .before .args .m)) _ _ (sym (c .before .before .is-full .ensures) ∙ c .before .if1 .taken))
+
+put-in-requires : tie.Need-put-in-requires
+put-in-requires c κs = search needs
+
+wrapping-add-usize-requires : tie.Need-wrapping-add-usize-requires
+wrapping-add-usize-requires c κs = search needs
+
+same-length : tie.Need-same-length
+same-length c = search needs
+
+returns-2 : tie.Need-returns-2
+returns-2 c = ap (λ (n : ℕ). stateOf (record { at = c .before .before .before .before .before .before .before .before .args .c .at; visits = c .before .before .before .before .before .before .before .before .args .c .visits; items = n; fault = c .before .before .before .before .before .before .before .before .args .c .fault; last = c .before .before .before .before .before .before .before .before .args .c .last }) (c .before .before .before .put-in .last .0)) (c .wrapping-add-usize .ensures) ∙ ap (λ (l : List ℕ). stateOf (record { at = c .before .before .before .before .before .before .before .before .args .c .at; visits = c .before .before .before .before .before .before .before .before .args .c .visits; items = ((c .before .before .before .before .before .before .before .before .args .c .items + 1) % 2 ^ 64); fault = c .before .before .before .before .before .before .before .before .args .c .fault; last = c .before .before .before .before .before .before .before .before .args .c .last }) l) (c .before .before .before .put-in .ensures) ∙ sym (way.done-room (sinkOf (c .before .before .before .before .before .before .before .before .args .m)) _ _ (sym (c .before .before .before .before .before .before .is-full .ensures) ∙ c .before .before .before .before .before .if1 .left))
+
+pub put-spec : {M : Type 1} → statement M
+put-spec =
+    tie.close
+    (tie.spec
+    is-full-requires
+    refused-requires
+    returns
+    put-in-requires
+    wrapping-add-usize-requires
+    same-length
+    returns-2)

@@ -1,0 +1,66 @@
+-- A text.
+use borrow.Author.Needs.{needs}
+use Rattle.leaves.proofs.text.Statement.{statement}
+use Rattle.leaves.proofs.text.Tie as tie
+use mathlib.Core.Path.{_≡_, refl, sym, ap, subst, _∙_}
+use mathlib.Core.Bool.{true, false, cond}
+use mathlib.Core.List.{List}
+use Prim.Native.Nat.{ℕ, _+_, _-_, _≤_, _<_}
+use native.Mathlib.Omega.{arith}
+use lib.ListN.{length}
+use borrow.Author.Tests.{eq-eqb, ne-eqb, lt-ltb, le-ltb, le-leb, lt-leb}
+use Rattle.cdr.specs.declared.Size.the-variants.{Four}
+use Rattle.cdr.proofs.Alignment.{read-facts, octets-small}
+use Rattle.choices.specs.Branch.{choose}
+use Rattle.reading.specs.Sinks.{St, Item, item, number, run, failed, after, repeats, begun, taken, done, numberStep, tookNumber, tookOctets, octetsAt, octetsStep}
+use Rattle.reading.specs.Visit.{sizeOf, contentOf, leafDone, leafAt, enumDone, enumAt, textGot, textAt, countDone, countAt, tagDone, tagAt, runGot, runAt, profileAt, profilesAt, objrefAt}
+use Rattle.reading.proofs.Ways as way
+use Rattle.leaves.specs.Lent.{Lent, rowPut}
+use Rattle.leaves.specs.Walk.{sinkOf, sourceOf, stateOf, leafVisit}
+
+number-at-requires : tie.Need-number-at-requires
+number-at-requires c κs = search needs
+
+enum-known-at : tie.Need-enum-known-at
+enum-known-at c = search needs
+
+add-took : tie.Need-add-took
+add-took c = omega (arith, read-facts (c .before .before .before .before .before .before .before .args .v .now) (c .before .before .before .before .before .before .before .args .m .start) (c .before .before .before .before .before .before .before .args .c .at) Four (c .before .before .before .before .before .before .before .args .m .order) _ _ (sym (c .before .before .before .before .number-at .ensures) ∙ c .before .before .at .given .1) .fits)
+
+took-requires : tie.Need-took-requires
+took-requires c κs = search needs
+
+text-got-requires : tie.Need-text-got-requires
+text-got-requires c κs = search needs
+
+enum-told : tie.Need-enum-told
+enum-told c = search needs
+
+refused-requires : tie.Need-refused-requires
+refused-requires c κs = search needs
+
+same-length : tie.Need-same-length
+same-length c = search needs
+
+returns : tie.Need-returns
+unfolding textAt
+returns c = c .before .before .text-got .ensures _ ∙ ap (textGot (sinkOf (c .before .before .before .before .before .before .before .before .before .before .before .args .m)) (sourceOf (c .before .before .before .before .before .before .before .before .before .before .before .args .m) (c .before .before .before .before .before .before .before .before .before .before .before .args .v .now)) (c .before .before .before .before .before .before .before .before .before .before .before .args .bound) _ _) (c .before .before .before .took .ensures (c .before .before .before .before .before .before .before .before .before .before .before .args .m) (c .before .before .before .before .before .before .before .before .before .before .before .args .table .now) _ _ 4) ∙ sym (way.number-some (sinkOf (c .before .before .before .before .before .before .before .before .before .before .before .args .m)) (sourceOf (c .before .before .before .before .before .before .before .before .before .before .before .args .m) (c .before .before .before .before .before .before .before .before .before .before .before .args .v .now)) Four (textGot (sinkOf (c .before .before .before .before .before .before .before .before .before .before .before .args .m)) (sourceOf (c .before .before .before .before .before .before .before .before .before .before .before .args .m) (c .before .before .before .before .before .before .before .before .before .before .before .args .v .now)) (c .before .before .before .before .before .before .before .before .before .before .before .args .bound)) (stateOf (c .before .before .before .before .before .before .before .before .before .before .before .args .c) (c .before .before .before .before .before .before .before .before .before .before .before .args .table .now)) _ _ (sym (c .before .before .before .before .before .before .before .before .number-at .ensures) ∙ c .before .before .before .before .before .before .at .given .1))
+
+returns-2 : tie.Need-returns-2
+unfolding textAt
+returns-2 c = c .refused .ensures (c .before .before .before .before .before .before .args .table .now) ∙ sym (way.number-none (sinkOf (c .before .before .before .before .before .before .args .m)) (sourceOf (c .before .before .before .before .before .before .args .m) (c .before .before .before .before .before .before .args .v .now)) Four (textGot (sinkOf (c .before .before .before .before .before .before .args .m)) (sourceOf (c .before .before .before .before .before .before .args .m) (c .before .before .before .before .before .before .args .v .now)) (c .before .before .before .before .before .before .args .bound)) (stateOf (c .before .before .before .before .before .before .args .c) (c .before .before .before .before .before .before .args .table .now)) (sym (c .before .before .before .number-at .ensures) ∙ c .before .enum-told .given .1))
+
+pub text-spec : {M : Type 1} → statement M
+text-spec =
+    tie.close
+    (tie.spec
+    number-at-requires
+    enum-known-at
+    add-took
+    took-requires
+    text-got-requires
+    enum-told
+    refused-requires
+    same-length
+    returns
+    returns-2)

@@ -1,0 +1,37 @@
+-- Two walks: one looks, one fills.
+use borrow.Author.Needs.{needs}
+use Rattle.value.proofs.read_into.Statement.{statement}
+use Rattle.value.proofs.read_into.Tie as tie
+use mathlib.Core.Path.{_≡_, refl, sym, ap, _∙_}
+use native.Mathlib.Omega.{arith}
+use Prim.Native.Nat.{ℕ, _/_}
+use lib.ListN.{length}
+use borrow.Author.Tests.{lt-ltb, le-ltb}
+use Rattle.cdr.specs.declared.Order.{Order}
+use Rattle.reading.specs.Sinks.{source}
+use Rattle.reading.specs.Visit.{checked}
+use Rattle.reading.specs.Value.{valueAnswer, tableAfter}
+use Rattle.value.proofs.Walks as walks
+use Rattle.value.proofs.Answers as answers
+
+walk-requires : tie.Need-walk-requires
+walk-requires c κs = search needs
+
+same-length : tie.Need-same-length
+same-length c = search needs
+
+returns : tie.Need-returns
+returns c = walks.found-refusal (checked (c .before .before .before .before .before .before .before .before .before .args .t .now) (c .before .before .before .before .before .before .before .before .before .args .met)) (source (c .before .before .before .before .before .before .before .before .before .args .v .now) (c .before .before .before .before .before .before .before .before .before .args .order) (c .before .before .before .before .before .before .before .before .before .args .start)) (c .before .before .before .before .before .before .before .before .before .pre) (c .before .before .before .before .before .before .before .before .before .args .table .now) _ _ (c .before .before .before .before .walk .ensures) (c .if1 .taken)
+
+walk-requires-2 : tie.Need-walk-requires-2
+walk-requires-2 c κs = search needs
+
+same-length-2 : tie.Need-same-length-2
+same-length-2 c = search needs
+
+returns-2 : tie.Need-returns-2
+returns-2 c = walks.found-none (checked (c .before .before .before .before .before .before .before .before .before .before .before .before .before .args .t .now) (c .before .before .before .before .before .before .before .before .before .before .before .before .before .args .met)) (source (c .before .before .before .before .before .before .before .before .before .before .before .before .before .args .v .now) (c .before .before .before .before .before .before .before .before .before .before .before .before .before .args .order) (c .before .before .before .before .before .before .before .before .before .before .before .before .before .args .start)) (c .before .before .before .before .before .before .before .before .before .before .before .before .before .pre) (c .before .before .before .before .before .before .before .before .before .before .before .before .before .args .table .now) _ _ (c .before .before .before .before .before .before .before .before .walk .ensures) (c .before .before .before .before .if1 .left) _ _ (c .before .before .walk2 .ensures)
+
+pub read-into-spec : {M : Type 1} → statement M
+read-into-spec =
+    tie.close (tie.spec walk-requires same-length returns walk-requires-2 same-length-2 returns-2)

@@ -1,0 +1,3 @@
+-- A single item by its number.
+pub mod Single
+pub mod Inner

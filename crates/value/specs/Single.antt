@@ -1,0 +1,35 @@
+-- "A single item asked for by number comes as a signed, unsigned, single or double value."
+--   answerNumbers    an answer's number, and which case the item is and its 64 bits
+--   givenBy          "one not below the item count is 49, after the refusals of reading without 56"
+--   itemAnswer       the answer
+use Prim.Native.Nat.{ℕ}
+use mathlib.Core.List.{List, [], _∷_}
+use lib.Dec.{ltb, eqb}
+use lib.ListN.{length}
+use Rattle.choices.specs.Branch.{choose}
+use Rattle.cdr.specs.declared.Order.{Order}
+use Rattle.items.specs.Items.{itemOf, caseOf, bitsOf}
+use Rattle.typecode.specs.TypeCode.{checkedType}
+use Rattle.reading.specs.Sinks.{Source, St}
+use Rattle.reading.specs.Reading.{Log, anyRoom}
+use Rattle.reading.specs.Value.{overlong, onType, readingOf, itemNo}
+use Rattle.value.specs.declared.ItemAnswer.{ItemAnswer}
+use Rattle.value.specs.declared.ItemAnswer.the-variants.{Given, Refused}
+
+abbrev pub answerNumbers : ItemAnswer → List ℕ
+answerNumbers (Given item) = 0 ∷ caseOf item ∷ bitsOf item ∷ []
+answerNumbers (Refused number) = number ∷ 0 ∷ 0 ∷ []
+
+unfoldable pub givenBy : St Log → ℕ → ItemAnswer
+givenBy s n =
+    choose (eqb (s .fault) 0)
+    (λ _. choose (ltb n (length (s .kept .items)))
+    (λ _. Given (itemOf (itemNo (s .kept .items) n .kind) (itemNo (s .kept .items) n .content)))
+    (λ _. Refused 49))
+    (λ _. Refused (s .fault))
+
+unfoldable pub itemAnswer : List ℕ → Order → Source → ℕ → ItemAnswer
+itemAnswer v order x n =
+    choose (overlong v x)
+    (λ _. Refused 42)
+    (λ _. onType (checkedType v order .answer) (λ _. givenBy (readingOf anyRoom v order x) n) Refused)

@@ -1,0 +1,158 @@
+// Reading a value: its items into a lent table, or a single item by its number. 42 comes first, then the type's refusal, then the value's.
+ghost use mathlib.Core.Path.{_≡_};
+ghost use mathlib.Core.Bool.{_||_};
+ghost use Prim.Native.Nat.{_/_};
+ghost use lib.Dec.{ltb};
+ghost use lib.ListN.{length};
+ghost use Rattle.reading.specs.declared.ValueAnswer.the-variants.{Refused};
+ghost use Rattle.reading.specs.Sinks.{source};
+ghost use Rattle.reading.specs.Visit.{checked};
+ghost use Rattle.reading.specs.Reading.{anyRoom, reading};
+ghost use Rattle.reading.specs.Value.{mostOctets, valueAnswer, tableAfter};
+ghost use Rattle.value.specs.Single.{givenBy, itemAnswer};
+ghost use Rattle.value.specs.Inner.{Bounded, Read};
+use cdr::Index;
+use cdr::Order;
+use items::Item;
+use leaves::Mode;
+use met::Met;
+use reading::ValueAnswer;
+use typecode::TypeAnswer;
+
+// What a single item asked for by its number is, or 01's number of the refusal.
+pub enum ItemAnswer {
+    Given(Item),
+    Refused(u32),
+}
+
+// The most octets of a type and of a value.
+const OCTETS_LIMIT: usize = 16384;
+
+// Reads a value into the table, three numbers an item; a refusal leaves it as it was.
+pub fn read_value(
+    t: &[u8],
+    torder: Order,
+    v: &[u8],
+    order: Order,
+    start: Index,
+    table: &mut [u64],
+) -> ValueAnswer
+    ensures { λ r. ⌜ (r ≡ valueAnswer (now (t .entry)) torder (source (now (v .entry)) order start) (length (now (table .entry)) / 3)) × (now (table .exit) ≡ tableAfter (now (t .entry)) torder (source (now (v .entry)) order start) (now (table .entry))) ⌝ }
+{
+    if over_long(t.len(), v.len()) {
+        return refused(refusals::TOO_LONG);
+    }
+    let c = typecode::check_type(t, torder);
+    let met = c.met;
+    let answer = c.answer;
+    match answer {
+        TypeAnswer::Accepted { used: _, kinds: _ } => read_into(t, met, v, order, start, table),
+        TypeAnswer::Refused(refusal) => refused(refusal.number()),
+        TypeAnswer::Loop => refused(refusals::LOOP),
+    }
+}
+
+// Reads a value for the item of a number, counted from 0.
+pub fn read_item(
+    t: &[u8],
+    torder: Order,
+    v: &[u8],
+    order: Order,
+    start: Index,
+    number: u64,
+) -> ItemAnswer
+    ensures { λ r. ⌜ r ≡ itemAnswer (now (t .entry)) torder (source (now (v .entry)) order start) number ⌝ }
+{
+    if over_long(t.len(), v.len()) {
+        return ItemAnswer::Refused(refusals::TOO_LONG);
+    }
+    let c = typecode::check_type(t, torder);
+    let met = c.met;
+    let answer = c.answer;
+    match answer {
+        TypeAnswer::Accepted { used: _, kinds: _ } => pick(t, met, v, order, start, number),
+        TypeAnswer::Refused(refusal) => ItemAnswer::Refused(refusal.number()),
+        TypeAnswer::Loop => ItemAnswer::Refused(refusals::LOOP),
+    }
+}
+
+// Whether type or value has too many octets.
+fn over_long(t: usize, v: usize) -> bool
+    ensures { λ r. ⌜ r ≡ (ltb mostOctets t || ltb mostOctets v) ⌝ }
+{
+    if OCTETS_LIMIT < t {
+        return true;
+    }
+    OCTETS_LIMIT < v
+}
+
+// A refusal before any visit.
+fn refused(number: u32) -> ValueAnswer
+    ensures { λ r. ⌜ r ≡ Refused number 0 ⌝ }
+{
+    ValueAnswer::Refused { number, visits: 0 }
+}
+
+// Reads under a checked type: a first walk finds a refusal, and a second one fills the table.
+fn read_into(
+    t: &[u8],
+    met: Met,
+    v: &[u8],
+    order: Order,
+    start: Index,
+    table: &mut [u64],
+) -> ValueAnswer
+    requires { ⌜ Bounded (checked (now t) met) (source (now v) order start) ⌝ }
+    ensures { λ r. ⌜ Read (checked (now (t .entry)) met) (source (now (v .entry)) order start) (now (table .entry)) r (now (table .exit)) ⌝ }
+{
+    let looking = Mode {
+        order,
+        start,
+        limited: true,
+        fill: false,
+        first: 0,
+    };
+    let c = walking::walk(t, met, v, looking, table);
+    if c.fault != 0 {
+        return ValueAnswer::Refused {
+            number: c.fault,
+            visits: c.visits,
+        };
+    }
+    let filling = Mode {
+        order,
+        start,
+        limited: true,
+        fill: true,
+        first: 0,
+    };
+    let d = walking::walk(t, met, v, filling, table);
+    ValueAnswer::Accepted {
+        used: d.at,
+        items: d.items,
+        visits: d.visits,
+    }
+}
+
+// Reads under a checked type for one item, which goes into a row of its own.
+fn pick(t: &[u8], met: Met, v: &[u8], order: Order, start: Index, number: u64) -> ItemAnswer
+    requires { ⌜ Bounded (checked (now t) met) (source (now v) order start) ⌝ }
+    ensures { λ r. ⌜ r ≡ givenBy (reading anyRoom (source (now (v .entry)) order start) (checked (now (t .entry)) met)) number ⌝ }
+{
+    let mut row = [0u64; 3];
+    let picking = Mode {
+        order,
+        start,
+        limited: false,
+        fill: true,
+        first: number as usize,
+    };
+    let c = walking::walk(t, met, v, picking, &mut row);
+    if c.fault != 0 {
+        return ItemAnswer::Refused(c.fault);
+    }
+    if c.items as u64 <= number {
+        return ItemAnswer::Refused(refusals::NO_SUCH_ITEM);
+    }
+    ItemAnswer::Given(items::item_of(row[0], row[2]))
+}

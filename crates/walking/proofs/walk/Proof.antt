@@ -1,0 +1,36 @@
+-- The walk from the value's start.
+use borrow.Author.Needs.{needs}
+use Rattle.walking.proofs.walk.Statement.{statement}
+use Rattle.walking.proofs.walk.Tie as tie
+use mathlib.Core.Path.{_≡_, refl, sym, ap, _∙_}
+use native.Mathlib.Omega.{arith}
+use Prim.Native.Nat.{ℕ}
+use lib.ListN.{length}
+use Rattle.kinds.specs.declared.Parameters.{Parameters}
+use Rattle.met.specs.Met.{parametersOf, findPlace}
+use Rattle.met.proofs.Finding.{position-facts}
+use Rattle.walking.proofs.Nowhere.{place-nowhere}
+use Rattle.reading.specs.Visit.{checked, inside, elementsAt}
+use Rattle.reading.specs.Reading.{reads}
+use Rattle.reading.proofs.Ways as way
+use Rattle.leaves.specs.Walk.{sinkOf, sourceOf, stateOf, startOf}
+use Rattle.leaves.specs.declared.Cursor.{Cursor}
+use Rattle.kinds.specs.Parts.{placeOf}
+
+within-requires : tie.Need-within-requires
+within-requires c κs = search needs
+
+start-requires : tie.Need-start-requires
+start-requires c κs = search needs
+
+visit-requires : tie.Need-visit-requires
+visit-requires c κs = search needs
+
+same-length : tie.Need-same-length
+same-length c = search needs
+
+returns : tie.Need-returns
+returns c = c .before .before .visit .ensures ∙ ap (λ (p : Parameters). reads (sinkOf (c .before .before .before .before .before .before .before .before .before .args .m)) (sourceOf (c .before .before .before .before .before .before .before .before .before .args .m) (c .before .before .before .before .before .before .before .before .before .args .v .now)) (checked (c .before .before .before .before .before .before .before .before .before .args .t .now) (c .before .before .before .before .before .before .before .before .before .args .met)) 64 p (stateOf (c .before .before .before .start .result) (c .before .before .before .before .before .before .before .before .before .args .table .now))) (c .before .before .before .before .before .within .ensures) ∙ ap (λ (w : Cursor). reads (sinkOf (c .before .before .before .before .before .before .before .before .before .args .m)) (sourceOf (c .before .before .before .before .before .before .before .before .before .args .m) (c .before .before .before .before .before .before .before .before .before .args .v .now)) (checked (c .before .before .before .before .before .before .before .before .before .args .t .now) (c .before .before .before .before .before .before .before .before .before .args .met)) 64 (inside (checked (c .before .before .before .before .before .before .before .before .before .args .t .now) (c .before .before .before .before .before .before .before .before .before .args .met)) (placeOf 0)) (stateOf w (c .before .before .before .before .before .before .before .before .before .args .table .now))) (c .before .before .before .start .ensures)
+
+pub walk-spec : {M : Type 1} → statement M
+walk-spec = tie.close (tie.spec within-requires start-requires visit-requires same-length returns)

@@ -1,0 +1,257 @@
+// The walk over a value: the readers of struct, union, sequence and array call one another, with the open levels left falling at each
+// entry. Every function answers for any octets, list of kinds and table.
+ghost use mathlib.Core.Path.{_≡_};
+ghost use Rattle.kinds.specs.declared.Parameters.the-variants.{Leaf};
+ghost use Rattle.reading.specs.Visit.{Checked, checked, inside, elementsAt, sequenceAt, membersAt, exceptionAt, unionAt};
+ghost use Rattle.reading.specs.Reading.{reads, levels, topOf};
+ghost use Rattle.met.specs.Discriminants.{labelsFor};
+ghost use Rattle.leaves.specs.Walk.{sinkOf, sourceOf, stateOf, startOf};
+use cdr::Place;
+use kinds::Fields;
+use kinds::Labels;
+use kinds::Parameters;
+use kinds::Spot;
+use leaves::Cursor;
+use leaves::Mode;
+use met::Met;
+use met::Position;
+
+// The most levels that may be open.
+const LEVELS: u32 = 64;
+
+// Walks over the value of a checked type from its start.
+pub fn walk(t: &[u8], met: Met, v: &[u8], m: Mode, table: &mut [u64]) -> Cursor
+    ensures { λ r. ⌜ stateOf r (now (table .exit)) ≡ reads (sinkOf m) (sourceOf m (now (v .entry))) (checked (now (t .entry)) met) levels (topOf (checked (now (t .entry)) met)) (stateOf startOf (now (table .entry))) ⌝ }
+{
+    let top = within(t, met, Place(0));
+    visit(t, met, v, m, table, top, LEVELS, Cursor::start())
+}
+
+// The parameters of the kind at a place of the type.
+fn within(t: &[u8], met: Met, place: Place) -> Parameters
+    ensures { λ r. ⌜ r ≡ inside (checked (now (t .entry)) met) place ⌝ }
+{
+    match met.position(place) {
+        Position::Is(j) => met::parameters_of(t, met, j),
+        Position::NoPosition => met::parameters_of(t, met, met.count),
+    }
+}
+
+// A visit, with so many levels left.
+fn visit(
+    t: &[u8],
+    met: Met,
+    v: &[u8],
+    m: Mode,
+    table: &mut [u64],
+    p: Parameters,
+    left: u32,
+    c: Cursor,
+) -> Cursor
+    ensures { λ r. ⌜ stateOf r (now (table .exit)) ≡ reads (sinkOf m) (sourceOf m (now (v .entry))) (checked (now (t .entry)) met) left p (stateOf c (now (table .entry))) ⌝ }
+{
+    if left == 0 {
+        return c.refused(refusals::TOO_MANY_OPEN);
+    }
+    let below = left - 1;
+    let d = c.visit();
+    match p {
+        Parameters::Fault => d,
+        Parameters::Leaf(kind) => leaves::leaf(v, m, table, kind, d),
+        Parameters::Text(bound) => leaves::text(v, m, table, bound, d),
+        Parameters::Objref => leaves::reference(v, m, table, d),
+        Parameters::Struct(fields) => struct_members(t, met, v, m, table, fields, below, d),
+        Parameters::Exception(fields) => exception(t, met, v, m, table, fields, below, d),
+        Parameters::Union {
+            fields,
+            discriminant,
+            default,
+        } => union_member(t, met, v, m, table, fields, discriminant, default, below, d),
+        Parameters::Enum(names) => leaves::enumerated(v, m, table, names, d),
+        Parameters::Sequence { element, bound } => {
+            sequence(t, met, v, m, table, element, bound, below, d)
+        }
+        Parameters::Array { element, length } => {
+            let e = within(t, met, element);
+            elements(t, met, v, m, table, e, length, below, d)
+        }
+        Parameters::Alias(place) => {
+            let e = within(t, met, place);
+            visit(t, met, v, m, table, e, below, d)
+        }
+    }
+}
+
+// The members of a struct, in order.
+fn struct_members(
+    t: &[u8],
+    met: Met,
+    v: &[u8],
+    m: Mode,
+    table: &mut [u64],
+    fields: Fields,
+    left: u32,
+    c: Cursor,
+) -> Cursor
+    ensures { λ r. ⌜ stateOf r (now (table .exit)) ≡ membersAt (sinkOf m) (sourceOf m (now (v .entry))) (reads (sinkOf m) (sourceOf m (now (v .entry))) (checked (now (t .entry)) met) left) (checked (now (t .entry)) met) fields (fields .count) (fields .first) (stateOf c (now (table .entry))) ⌝ }
+{
+    let start = fields.start;
+    let order = fields.order;
+    let count = fields.count;
+    let mut at = fields.first;
+    let mut d = c;
+    let mut k: u64 = 0;
+    while k < count {
+        let Spot::At { place, next } = kinds::member_at(Labels::NoLabels, t, start, at, order)
+        else {
+            return d;
+        };
+        let e = within(t, met, place);
+        d = visit(t, met, v, m, table, e, left, d);
+        if d.fault != 0 {
+            return d;
+        }
+        at = next;
+        k += 1;
+    }
+    d
+}
+
+// An exception: its id, then its members.
+fn exception(
+    t: &[u8],
+    met: Met,
+    v: &[u8],
+    m: Mode,
+    table: &mut [u64],
+    fields: Fields,
+    left: u32,
+    c: Cursor,
+) -> Cursor
+    ensures { λ r. ⌜ stateOf r (now (table .exit)) ≡ exceptionAt (sinkOf m) (sourceOf m (now (v .entry))) (reads (sinkOf m) (sourceOf m (now (v .entry))) (checked (now (t .entry)) met) left) (checked (now (t .entry)) met) fields (stateOf c (now (table .entry))) ⌝ }
+{
+    let d = leaves::text(v, m, table, 0, c);
+    if d.fault != 0 {
+        return d;
+    }
+    struct_members(t, met, v, m, table, fields, left, d)
+}
+
+// A union: its discriminant, then the member that the discriminant chooses.
+fn union_member(
+    t: &[u8],
+    met: Met,
+    v: &[u8],
+    m: Mode,
+    table: &mut [u64],
+    fields: Fields,
+    discriminant: Place,
+    default: u64,
+    left: u32,
+    c: Cursor,
+) -> Cursor
+    ensures { λ r. ⌜ stateOf r (now (table .exit)) ≡ unionAt (sinkOf m) (sourceOf m (now (v .entry))) (reads (sinkOf m) (sourceOf m (now (v .entry))) (checked (now (t .entry)) met) left) (checked (now (t .entry)) met) (labelsFor (now (t .entry)) met discriminant) fields discriminant default (stateOf c (now (table .entry))) ⌝ }
+{
+    let switch = within(t, met, discriminant);
+    let d = visit(t, met, v, m, table, switch, left, c);
+    if d.fault != 0 {
+        return d;
+    }
+    let labels = met::labels_for(t, met, discriminant);
+    match cases::chosen_of(labels, t, fields, default, d.last) {
+        Spot::At { place, next: _ } => {
+            let e = within(t, met, place);
+            visit(t, met, v, m, table, e, left, d)
+        }
+        Spot::Nowhere => d,
+    }
+}
+
+// A sequence: its count, then its elements.
+fn sequence(
+    t: &[u8],
+    met: Met,
+    v: &[u8],
+    m: Mode,
+    table: &mut [u64],
+    element: Place,
+    bound: u64,
+    left: u32,
+    c: Cursor,
+) -> Cursor
+    ensures { λ r. ⌜ stateOf r (now (table .exit)) ≡ sequenceAt (sinkOf m) (sourceOf m (now (v .entry))) (reads (sinkOf m) (sourceOf m (now (v .entry))) (checked (now (t .entry)) met) left) (inside (checked (now (t .entry)) met) element) bound (stateOf c (now (table .entry))) ⌝ }
+{
+    let d = leaves::count(v, m, table, bound, c);
+    if d.fault != 0 {
+        return d;
+    }
+    let e = within(t, met, element);
+    elements(t, met, v, m, table, e, d.last, left, d)
+}
+
+// So many elements of one type.
+fn elements(
+    t: &[u8],
+    met: Met,
+    v: &[u8],
+    m: Mode,
+    table: &mut [u64],
+    e: Parameters,
+    count: u64,
+    left: u32,
+    c: Cursor,
+) -> Cursor
+    ensures { λ r. ⌜ stateOf r (now (table .exit)) ≡ elementsAt (sinkOf m) (sourceOf m (now (v .entry))) (reads (sinkOf m) (sourceOf m (now (v .entry))) (checked (now (t .entry)) met) left) e count (stateOf c (now (table .entry))) ⌝ }
+{
+    match e {
+        Parameters::Leaf(kind) => leaf_elements(v, m, table, kind, count, left, c),
+        _ => each(t, met, v, m, table, e, count, left, c),
+    }
+}
+
+// So many elements of a kind without parameters, which need no list of kinds.
+fn leaf_elements(
+    v: &[u8],
+    m: Mode,
+    table: &mut [u64],
+    kind: u64,
+    count: u64,
+    left: u32,
+    c: Cursor,
+) -> Cursor
+    ensures { λ r. ⌜ ((t : Checked) → stateOf r (now (table .exit)) ≡ elementsAt (sinkOf m) (sourceOf m (now (v .entry))) (reads (sinkOf m) (sourceOf m (now (v .entry))) t left) (Leaf kind) count (stateOf c (now (table .entry)))) ⌝ }
+{
+    if count == 0 {
+        return c;
+    }
+    if left == 0 {
+        return c.refused(refusals::TOO_MANY_OPEN);
+    }
+    leaves::leaves(v, m, table, kind, count, c)
+}
+
+// So many elements of one type, one after the other.
+fn each(
+    t: &[u8],
+    met: Met,
+    v: &[u8],
+    m: Mode,
+    table: &mut [u64],
+    e: Parameters,
+    count: u64,
+    left: u32,
+    c: Cursor,
+) -> Cursor
+    ensures { λ r. ⌜ stateOf r (now (table .exit)) ≡ elementsAt (sinkOf m) (sourceOf m (now (v .entry))) (reads (sinkOf m) (sourceOf m (now (v .entry))) (checked (now (t .entry)) met) left) e count (stateOf c (now (table .entry))) ⌝ }
+{
+    let mut d = c;
+    let mut k: u64 = 0;
+    while k < count {
+        d = visit(t, met, v, m, table, e, left, d);
+        if d.fault != 0 {
+            return d;
+        }
+        k += 1;
+    }
+    d
+}
