@@ -2,8 +2,7 @@
 use mathlib.Core.Path.{_≡_, refl, sym, ap, subst, _∙_}
 use mathlib.Core.List.{List, [], _∷_}
 use mathlib.Core.Bool.{Bool}
-use Prim.Native.Nat.{ℕ, _/_}
-use lib.ListN.{length}
+use Prim.Native.Nat.{ℕ}
 use Rattle.cdr.specs.declared.Order.{Order}
 use Rattle.cdr.specs.Align.{indexOf}
 use Rattle.items.specs.declared.Item.{Item}
@@ -11,28 +10,27 @@ use Rattle.items.specs.Items.{caseOf, bitsOf}
 use Rattle.reading.specs.declared.ValueAnswer.{ValueAnswer}
 use Rattle.reading.specs.declared.ValueAnswer.the-variants.{Accepted, Refused}
 use Rattle.reading.specs.Sinks.{source}
-use Rattle.reading.specs.Value.{valueAnswer, tableAfter}
-use Rattle.reading.specs.Demand.{visitsIn}
+use Rattle.reading.specs.Value.{roomIn, valueNumber, visitsIn, usedIn, valueAnswer, tableAfter}
 use Rattle.value.specs.declared.ItemAnswer.{ItemAnswer}
 use Rattle.value.specs.declared.ItemAnswer.the-variants.{Given, Refused as Ungiven}
-use Rattle.value.specs.Single.{itemAnswer}
+use Rattle.value.specs.Single.{itemNumber, givenIn, itemAnswer}
 use Rattle.capi.specs.Answers.{orderIs}
-use Rattle.capi.specs.Values.{valueAt, valueNumber, readAfter, itemNumber, givenAfter, ReadsC, PicksC}
+use Rattle.capi.specs.Values.{valueAt, ReadsC, PicksC}
 
 module _ (t : List ℕ) (little : Bool) (v : List ℕ) (order : Bool) (start : ℕ) (to vo : Order) (te : to ≡ orderIs little) (ve : vo ≡ orderIs order) where
   module _ (table numbers : List ℕ) (answer : ValueAnswer) (last : List ℕ)
-      (q : (answer ≡ valueAnswer t to (source v vo (indexOf start)) (length table / 3)) × (last ≡ tableAfter t to (source v vo (indexOf start)) table)) where
+      (q : (answer ≡ valueAnswer t to (source v vo (indexOf start)) (roomIn table)) × (last ≡ tableAfter t to (source v vo (indexOf start)) table)) where
     -- the answer with the orders that the flags say
-    named : (answer ≡ valueAnswer t (orderIs little) (valueAt v order start) (length table / 3)) × (last ≡ tableAfter t (orderIs little) (valueAt v order start) table)
+    named : (answer ≡ valueAnswer t (orderIs little) (valueAt v order start) (roomIn table)) × (last ≡ tableAfter t (orderIs little) (valueAt v order start) table)
     named =
-        subst (λ (o : Order). (answer ≡ valueAnswer t (orderIs little) (source v o (indexOf start)) (length table / 3)) × (last ≡ tableAfter t (orderIs little) (source v o (indexOf start)) table)) ve
-        (subst (λ (o : Order). (answer ≡ valueAnswer t o (source v vo (indexOf start)) (length table / 3)) × (last ≡ tableAfter t o (source v vo (indexOf start)) table)) te q)
+        subst (λ (o : Order). (answer ≡ valueAnswer t (orderIs little) (source v o (indexOf start)) (roomIn table)) × (last ≡ tableAfter t (orderIs little) (source v o (indexOf start)) table)) ve
+        (subst (λ (o : Order). (answer ≡ valueAnswer t o (source v vo (indexOf start)) (roomIn table)) × (last ≡ tableAfter t o (source v vo (indexOf start)) table)) te q)
 
     -- what the lent numbers hold is what the answer's case says
-    pub reads-as : (a : ValueAnswer) → answer ≡ a → ReadsC t little (valueAt v order start) table numbers (valueNumber a) last (readAfter a numbers) (visitsIn a)
+    pub reads-as : (a : ValueAnswer) → answer ≡ a → ReadsC t little (valueAt v order start) table numbers (valueNumber a) last (usedIn a numbers) (visitsIn a)
     reads-as a e =
         let f = sym e ∙ named .0 in
-        record { number = ap valueNumber f; table-is = named .1; numbers-are = ap (λ (r : ValueAnswer). readAfter r numbers) f; visits-are = ap visitsIn f }
+        record { number = ap valueNumber f; table-is = named .1; numbers-are = ap (λ (r : ValueAnswer). usedIn r numbers) f; visits-are = ap visitsIn f }
 
   module _ (n : ℕ) (given : List ℕ) (answer : ItemAnswer) (q : answer ≡ itemAnswer t to (source v vo (indexOf start)) n) where
     named-item : answer ≡ itemAnswer t (orderIs little) (valueAt v order start) n
@@ -43,12 +41,12 @@ module _ (t : List ℕ) (little : Bool) (v : List ℕ) (order : Bool) (start : �
     pub picks-refused : (number : ℕ) → answer ≡ Ungiven number → PicksC t little (valueAt v order start) n given number given
     picks-refused number e =
         let f = sym e ∙ named-item in
-        record { number = ap itemNumber f; given-is = ap (λ (r : ItemAnswer). givenAfter r given) f }
+        record { number = ap itemNumber f; given-is = ap (λ (r : ItemAnswer). givenIn r given) f }
 
     pub picks-given : (i : Item) (c b : ℕ) → answer ≡ Given i → c ≡ caseOf i → b ≡ bitsOf i → PicksC t little (valueAt v order start) n given 0 (c ∷ b ∷ [])
     picks-given i c b e ce be =
         let f = sym e ∙ named-item in
         record {
           number = ap itemNumber f;
-          given-is = ap (λ (z : ℕ). z ∷ b ∷ []) ce ∙ ap (λ (z : ℕ). caseOf i ∷ z ∷ []) be ∙ ap (λ (r : ItemAnswer). givenAfter r given) f;
+          given-is = ap (λ (z : ℕ). z ∷ b ∷ []) ce ∙ ap (λ (z : ℕ). caseOf i ∷ z ∷ []) be ∙ ap (λ (r : ItemAnswer). givenIn r given) f;
         }

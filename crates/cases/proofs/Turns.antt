@@ -16,7 +16,8 @@ use Rattle.kinds.specs.declared.Spot.{Spot}
 use Rattle.kinds.specs.declared.Spot.the-variants.{At, Nowhere}
 use Rattle.kinds.specs.Parts.{onSpot, memberAt}
 use Rattle.met.specs.Discriminants.{labelIs}
-use Rattle.reading.specs.Visit.{caseOf, memberNo, noDefault, defaultOf, chosenOf}
+use Rattle.fields.specs.Fields.{noDefault}
+use Rattle.reading.specs.Visit.{caseOf, memberNo, defaultOf, chosenOf}
 
 left-suc : (n j : ℕ) → j < n → n - j ≡ suc (n - (j + 1))
 left-suc n j h = omega arith

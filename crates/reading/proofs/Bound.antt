@@ -1,5 +1,5 @@
 -- The visits of a reading are at most k * (n + 1), with k kinds and n octets: between two octets taken, kinds of falling ranks are entered.
-use mathlib.Core.Path.{_≡_, refl, sym, subst}
+use mathlib.Core.Path.{_≡_, ap, refl, sym, subst}
 use mathlib.Core.List.{List}
 use mathlib.Core.Bool.{Bool, true, false, _||_, true≢false}
 use Prim.Native.Nat.{ℕ, zero, suc, _+_, _-_, _*_, _<_, _≤_}
@@ -24,15 +24,15 @@ use Rattle.kinds.specs.Parts.{placeOf}
 use Rattle.met.specs.declared.Met.{Met}
 use Rattle.met.specs.Met.{findPlace, parametersOf}
 use Rattle.met.specs.Discriminants.{labelsFor}
-use Rattle.met.proofs.Finding.{find-hit}
+use Rattle.met.proofs.Finding.{position-is, find-hit}
 use Rattle.loops.specs.Loops.{rank}
 use Rattle.steps.specs.Steps.{stands, memberIs, fieldIs, leads, steps}
 use Rattle.fields.specs.Fields.{topOnly}
-use Rattle.accepted.specs.Sound.{NotTop, Inner, Members, Sound}
+use Rattle.accepted.specs.Sound.{Listed, NotTop, Inner, Members, Sound}
 use Rattle.accepted.specs.Sound.Members.{none, one}
 use Rattle.accepted.specs.Accepted.{AcceptedAs}
 use Rattle.reading.specs.Sinks.{Source, Sink, St, begun}
-use Rattle.reading.specs.Visit.{Checked, checked, inside, countAt, textAt, membersAt, exceptionAt, elementsAt, sequenceAt, chosenOf, armAt, unionAt, leafAt, enter}
+use Rattle.reading.specs.Visit.{Checked, checked, atPosition, inside, countAt, textAt, membersAt, exceptionAt, elementsAt, sequenceAt, chosenOf, armAt, unionAt, leafAt, enter}
 use Rattle.reading.specs.Reading.{Log, logging, levels, atStart, topOf, reads, reading}
 use Rattle.reading.proofs.Spent.{Within, itemsOf, visitsOf, Spent, weaker, nothing-spent, refused-here, after-spent, repeats-loose, repeats-spent, leaf-spent, enum-spent, text-spent, count-spent, objref-spent}
 use Rattle.reading.proofs.Chosen.{InnerIf, chosen-inner}
@@ -163,11 +163,17 @@ module _ (full : ℕ → Bool) (x : Source) (v : List ℕ) (order : Order) (k : 
       begun-spent (R j) s (enter sink x f t (parametersOf v m j) (begun sink s)) (type .ranked j l .0)
       (enter-spent f part (R j - 1) (parametersOf v m j) (type .good j l .sound) w (λ i h. falls-below j i l h) (begun sink s) e)
 
+  -- a place of the list has the parameters of its position
+  inside-listed : (p : Place) → Listed m p → inside t p ≡ parametersOf v m (findPlace m p)
+  unfolding inside
+  inside-listed p h = ap (atPosition t) (position-is m p (findPlace m p) refl h)
+
   reads-spent : (l : ℕ) → Ranked (reads sink x t l)
-  unfolding reads inside
+  unfolding reads
   reads-spent zero p h s e = refused-here (R (findPlace m p)) 55 e (omega arith)
   reads-spent (suc l) p h s e =
-      visit-spent (reads sink x t l) (reads-spent l) (findPlace m p) (listed-low p h) (inner-takes (parametersOf v m (findPlace m p)) (h .1)) s e
+      subst (λ (q : Parameters). Spent k x (R (findPlace m p)) s (enter sink x (reads sink x t l) t q (begun sink s))) (sym (inside-listed p (h .0)))
+      (visit-spent (reads sink x t l) (reads-spent l) (findPlace m p) (listed-low p h) (inner-takes (parametersOf v m (findPlace m p)) (h .1)) s e)
 
   -- ---- the whole reading
 
@@ -204,15 +210,17 @@ module _ (full : ℕ → Bool) (x : Source) (v : List ℕ) (order : Order) (k : 
       rw z at (find-hit (m .places) 0 (m .count) 0 (omega arith) (type .first .0))
 
   top-bounded : (l : ℕ) → Bounded (reads sink x t l (topOf t) atStart)
-  unfolding reads inside
+  unfolding reads
   top-bounded zero = spent-bounded 0 _ (omega arith) (refused-here 0 55 within (omega arith))
   top-bounded (suc l) =
       let j : ℕ = findPlace m (placeOf 0) in
       let f : Parameters → St Log → St Log = reads sink x t l in
       let low : j < k = let a = top-first in let b = type .some in omega arith in
-      takes-or-not (parametersOf v m j)
+      let listed : Listed m (placeOf 0) = let a = type .kinds in omega arith in
+      subst (λ (q : Parameters). Bounded (enter sink x f t q (begun sink atStart))) (sym (inside-listed (placeOf 0) listed))
+      (takes-or-not (parametersOf v m j)
       (λ w. spent-bounded (R j) _ (type .ranked j low .1) (visit-spent f (reads-spent l) j low w atStart within))
-      (λ kind e h. rw e (subst Bounded (nothing-read f kind (begun sink atStart) h) only-begun))
+      (λ kind e h. rw e (subst Bounded (nothing-read f kind (begun sink atStart) h) only-begun)))
 
   bounded : Bounded (reading full x t)
   unfolding reading

@@ -1,9 +1,10 @@
 -- The whole reading: what a single visit does, tied to itself, with the open levels left falling at each entry.
 --   reads      a visit with so many levels left; "55 a visit with 64 open above it, not counted"
---   Log        all that is told, in the order of reading: visits begun, pieces taken, items finished
+--   Log        all that is told, in the order of reading: visits begun, pieces taken, items finished; `log` the same from its parts
 --   logging    the sink that logs; `full` says after how many items there is no room
 --   anyRoom    reading without 56
 --   roomFor    room for so many items
+--   levels     "64 open"
 --   atStart    the state before the first octet
 --   topOf      the type's top
 --   reading    the reading of a value from its start

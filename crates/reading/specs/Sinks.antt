@@ -1,21 +1,27 @@
 -- The reading of a value goes on from state to state, and tells a sink of each visit that it begins, each piece of octets that it takes
 -- and each item that it finishes.
---   Source        "value octets and order, starting index"
---   Item          "items are three 64-bit numbers: kind, place, content"
---   Piece         octets that the reading takes: a number of so many octets behind a gap, or octets as they are
+--   Source        "value octets and order, starting index (taken modulo 8)": a gap depends on the index modulo 8 alone (`gap-modulo-8`, in
+--                 `cdr`), so the index stands here as it is given; `source` the same from its parts
+--   Item          "items are three 64-bit numbers: kind, place, content"; `item` the same from its parts
+--   Piece         octets that the reading takes: a number of so many octets behind a gap, or octets as they are; for rewriting
 --   Sink          who is told; A is what it keeps, and `full` says that there is no room for an item
---   St            where the reading is: the next octet, the refusal's number or 0, the number taken last as it is recorded, and what the
---                 sink keeps
+--   St            a state, where the reading is: the next octet, the refusal's number or 0, the number taken last as it is recorded, and
+--                 what the sink keeps; `st` the same from its parts
 --   failed        a refusal
 --   after         a step, unless something is refused already
+--   repeats       n times the same step
+--   onRead        what follows a number that is read, or its lack
+--   lastOf        the number taken last, after a piece
 --   begun         a visit begins
 --   taken         a piece is taken, and the next octet is the one after it
 --   putIn         an item is finished
---   done          "56 no room for a finished item"
---   onRead        what follows a number that is read, or its lack
+--   done          "56 no room for a finished item", or the item is put
+--   readAt        the number of a size at or after the next octet
+--   tookNumber    the state after a number was taken
 --   numberStep    a number of a size behind the smallest gap, and what is done with its place and value; "50 octets end"
+--   octetsAt      n octets from a place on
+--   tookOctets    the state after n octets were taken as they are
 --   octetsStep    n octets as they are, and what is done with their place and with them; "50 octets end"
---   repeats       n times the same step
 use Prim.Native.Nat.{ℕ, zero, suc, _+_, _-_}
 use mathlib.Core.List.{List}
 use mathlib.Core.Bool.{Bool}

@@ -1,18 +1,21 @@
 -- What reading a value answers: 42 "before the type check", then the type's refusal "with the same number", then the value's.
---   mostOctets      "over 16,384"
---   answerNumbers   an answer's number, and octets used, items and visits: "a refusal gives the visits begun"
+--   roomIn          how many items a lent table has room for: "three numbers an item"
+--   valueNumber     01's number of an answer, 0 for an accepted value
+--   visitsIn        the visits that an answer gives: "a refusal gives the visits begun"
+--   usedIn          octets used and items of an accepted value
+--   answerNumbers   an answer's number, and octets used, items and visits: a refusal's other numbers are 0
 --   answerOf        "acceptance gives octets used, items and visits"
 --   readingOf       the reading under the type that octets give
---   overlong        "42, also for over 16,384 value octets"
+--   overlong        "42, also for over 16,384 value octets", comes before the type check
 --   onType          what follows an accepted type, and a refused one's number
 --   valueAnswer     the answer, where there is room for so many items
 --   flat            items as numbers, three each
 --   filledBy        a table that an answer fills or leaves
---   itemNo          "numbers start at 0": the item of a number
+--   itemNo          "numbers start at 0": the item of a number; past the last, three zeros
 --   tableAfter      "lent memory that an answer doesn't fill keeps its contents": the items from the table's start, or as it was
 use Prim.Native.Nat.{ℕ, zero, suc, _/_}
-use mathlib.Core.List.{List, [], _∷_}
-use mathlib.Core.Bool.{Bool, true, false, _||_}
+use mathlib.Core.List.{List, [], _∷_, _++_}
+use mathlib.Core.Bool.{Bool, _||_}
 use lib.Dec.{ltb, eqb}
 use lib.ListN.{length}
 use lib.Seq.{sets}
@@ -20,7 +23,7 @@ use Rattle.choices.specs.Branch.{choose}
 use Rattle.cdr.specs.declared.Order.{Order}
 use Rattle.typecode.specs.declared.TypeAnswer.{TypeAnswer}
 use Rattle.typecode.specs.declared.TypeAnswer.the-variants.{Accepted as accepted, Refused as refused, Loop}
-use Rattle.typecode.specs.declared.CheckedType.{CheckedType}
+use Rattle.checking.specs.Types.{octetsLimit}
 use Rattle.typecode.specs.TypeCode.{answerNumber, checkedType}
 use Rattle.reading.specs.declared.ValueAnswer.{ValueAnswer}
 use Rattle.reading.specs.declared.ValueAnswer.the-variants.{Accepted, Refused}
@@ -28,12 +31,23 @@ use Rattle.reading.specs.Sinks.{Source, Item, item, St}
 use Rattle.reading.specs.Visit.{checked}
 use Rattle.reading.specs.Reading.{Log, roomFor, reading}
 
-abbrev pub mostOctets : ℕ
-mostOctets = 16384
+abbrev pub roomIn : List ℕ → ℕ
+roomIn table = length table / 3
+
+abbrev pub valueNumber : ValueAnswer → ℕ
+valueNumber (Accepted used items visits) = 0
+valueNumber (Refused number visits) = number
+
+abbrev pub visitsIn : ValueAnswer → ℕ
+visitsIn (Accepted used items visits) = visits
+visitsIn (Refused number visits) = visits
+
+abbrev pub usedIn : ValueAnswer → List ℕ → List ℕ
+usedIn (Accepted used items visits) before = used ∷ items ∷ []
+usedIn (Refused number visits) before = before
 
 abbrev pub answerNumbers : ValueAnswer → List ℕ
-answerNumbers (Accepted used items visits) = 0 ∷ used ∷ items ∷ visits ∷ []
-answerNumbers (Refused number visits) = number ∷ 0 ∷ 0 ∷ visits ∷ []
+answerNumbers a = valueNumber a ∷ (usedIn a (0 ∷ 0 ∷ []) ++ (visitsIn a ∷ []))
 
 abbrev pub answerOf : St Log → ValueAnswer
 answerOf s =
@@ -45,7 +59,7 @@ unfoldable pub readingOf : (ℕ → Bool) → List ℕ → Order → Source → 
 readingOf full v order x = reading full x (checked v (checkedType v order .met))
 
 abbrev pub overlong : List ℕ → Source → Bool
-overlong v x = ltb mostOctets (length v) || ltb mostOctets (length (x .octets))
+overlong v x = ltb octetsLimit (length v) || ltb octetsLimit (length (x .octets))
 
 abbrev pub onType : {A : Type 0} → TypeAnswer → (Unit {0} → A) → (ℕ → A) → A
 onType (accepted used kinds) f g = f tt
@@ -68,7 +82,7 @@ filledBy (Refused number visits) table is = table
 
 unfoldable pub tableAfter : List ℕ → Order → Source → List ℕ → List ℕ
 tableAfter v order x table =
-    filledBy (valueAnswer v order x (length table / 3)) table (readingOf (roomFor (length table / 3)) v order x .kept .items)
+    filledBy (valueAnswer v order x (roomIn table)) table (readingOf (roomFor (roomIn table)) v order x .kept .items)
 
 unfoldable pub itemNo : List Item → ℕ → Item
 itemNo [] n = item 0 0 0

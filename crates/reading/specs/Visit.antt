@@ -1,6 +1,8 @@
--- What a single visit does, for every kind. f reads what is inside, one level down; x is the value, t the checked type, v its octets.
---   Checked        a checked type: its octets, and the kinds met in it
---   inside         the parameters of the kind at a place of the type
+-- What a single visit does, for every kind. f reads what is inside, one level down; t is the checked type, v its octets.
+--   Checked        a checked type: its octets, and the kinds met in it; `checked` the same from its parts
+--   atPosition     the parameters of the kind at a position of the list
+--   inside         the parameters of the kind at a place of the type; where the list has none there, which no accepted type leads to, a
+--                  fault
 --   sizeOf         the octets of a primitive: 2 for short and ushort, 4 for long, ulong and float, 8 for double, longlong and ulonglong, 1
 --                  for boolean, char and octet
 --   contentOf      "signed content is sign-extended"
@@ -25,13 +27,13 @@
 --   exceptionAt    "exception: a text id, then members"; "an exception's id none"
 --   elementsAt     n elements, all of one type
 --   sequenceAt     "sequence: count, then elements"
---   caseOf         the first of n members from an index on that has a label, or none
+--   caseOf         the first of n members from an index on that has the label x, or none
 --   memberNo       the member of a number, counted from an index on
---   noDefault      "-1 for none"
 --   defaultOf      the default member, if there is one
 --   chosenOf       "the member with that label, else the default, else none"
 --   armAt          the chosen member, if there is one
---   unionAt        "union: discriminant, then the member"; the discriminant's number is the one taken last
+--   unionAt        "union: discriminant, then the member"; a discriminant takes one number, through any aliases, so the one taken last is
+--                  its own
 --   enter          what a visit does, by the kind's parameters; an accepted type has no fault
 use Prim.Native.Nat.{ℕ, zero, suc, _+_, _-_}
 use mathlib.Core.List.{List}
@@ -57,8 +59,11 @@ use Rattle.kinds.specs.declared.Parameters.{Parameters}
 use Rattle.kinds.specs.declared.Parameters.the-variants.{Fault, Leaf, Text, Objref, Struct, Exception, Union, Enum, Sequence, Array, Alias}
 use Rattle.kinds.specs.Parts.{onSpot, memberAt}
 use Rattle.met.specs.declared.Met.{Met}
-use Rattle.met.specs.Met.{findPlace, parametersOf}
+use Rattle.met.specs.declared.Position.{Position}
+use Rattle.met.specs.declared.Position.the-variants.{Is, NoPosition}
+use Rattle.met.specs.Met.{positionOf, parametersOf}
 use Rattle.met.specs.Discriminants.{labelsFor, labelIs}
+use Rattle.fields.specs.Fields.{noDefault}
 use Rattle.reading.specs.Sinks.{Source, Item, item, Sink, St, failed, after, repeats, begun, done, numberStep, octetsStep}
 
 pub record Checked : Type 0 where
@@ -68,8 +73,12 @@ pub record Checked : Type 0 where
 abbrev pub checked : List ℕ → Met → Checked
 checked v m = record { octets = v; met = m }
 
+abbrev pub atPosition : Checked → Position → Parameters
+atPosition t (Is j) = parametersOf (t .octets) (t .met) j
+atPosition t NoPosition = Fault
+
 unfoldable pub inside : Checked → Place → Parameters
-inside t p = parametersOf (t .octets) (t .met) (findPlace (t .met) p)
+inside t p = atPosition t (positionOf (t .met) p)
 
 unfoldable pub sizeOf : ℕ → Size
 sizeOf kind =
@@ -91,9 +100,6 @@ caseOf labels v b order x (suc n) i =
 unfoldable pub memberNo : Labels → List ℕ → Place → Order → ℕ → Index → Spot
 memberNo labels v b order zero i = memberAt labels v b i order
 memberNo labels v b order (suc n) i = onSpot (memberAt labels v b i order) Nowhere (λ p next. memberNo labels v b order n next)
-
-abbrev pub noDefault : ℕ
-noDefault = 4294967295
 
 unfoldable pub defaultOf : Labels → List ℕ → Fields → ℕ → Spot
 defaultOf labels v g default =

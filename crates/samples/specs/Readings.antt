@@ -5,8 +5,14 @@
 --   wrong            an exception without members
 --   readings         the table
 --   readings-hold    the statement
+--   itemGiven        what an item asked for by number is: 01's number, which case it is, and its 64 bits
+--   singles          items, and what they are
+--   singles-hold     the statement
 use mathlib.Core.List.{List, [], _∷_}
+use mathlib.Core.Bool.{Bool, true, _&&_}
 use Prim.Native.Nat.{ℕ}
+use lib.ListN.{replicate}
+use Rattle.cdr.specs.declared.Order.the-variants.{Big}
 use lib.Dec.{T}
 use Rattle.cdr.specs.Number.{littleNumber, littleOctets, numberOf, octetsOf, numberAt}
 use Rattle.choices.specs.Branch.{choose}
@@ -28,8 +34,10 @@ use Rattle.cdr.specs.Number.{signExtended}
 use Rattle.reading.specs.Sinks.{after, repeats, taken, done, numberStep as numberTaken, octetsStep}
 use Rattle.reading.specs.Visit.{inside, sizeOf, contentOf, leafDone, leafAt, textDone, textGot, textAt, countDone, countAt, elementsAt, sequenceAt, enter, defaultOf, chosenOf, caseOf, memberNo, unionAt, enumDone, enumAt, exceptionAt, tagDone, tagAt, runDone, runGot, runAt, profileAt, profilesAt, objrefAt, membersAt as valueMembers}
 use Rattle.reading.specs.Reading.{reads, reading}
-use Rattle.reading.specs.Value.{readingOf, valueAnswer, flat}
-use Rattle.samples.specs.Samples.{paper, enough, value, Sample, holds}
+use Rattle.reading.specs.Value.{readingOf, valueAnswer, flat, tableAfter, itemNo}
+use Rattle.items.specs.Items.{itemOf}
+use Rattle.value.specs.Single.{itemNumber, givenIn, givenBy, itemAnswer}
+use Rattle.samples.specs.Samples.{paper, lent, fromStart, value, same, Sample, holds}
 
 abbrev alias : List ℕ
 alias = paper 32 0x0000001500000018000000000000000100000000000000010000000000000003
@@ -46,21 +54,44 @@ wrong = paper 32 0x0000001600000018000000000000000100000000000000010000000000000
 unfoldable pub readings : List Sample
 readings =
     -- an alias is a visit, and its target another
-    record { asked = value enough alias (paper 4 5); given = 0 ∷ 4 ∷ 1 ∷ 2 ∷ 3 ∷ 0 ∷ 5 ∷ [] }
+    record { asked = value lent alias (paper 4 5); given = 0 ∷ 4 ∷ 1 ∷ 2 ∷ 3 ∷ 0 ∷ 5 ∷ replicate 7 9 }
     -- a discriminant is a visit; a label that matches is taken before the default, whatever the gap holds
-    ∷ record { asked = value enough switch (paper 8 0x00AABBCC00000007); given = 0 ∷ 8 ∷ 2 ∷ 3 ∷ 8 ∷ 0 ∷ 0 ∷ 3 ∷ 4 ∷ 7 ∷ [] }
-    ∷ record { asked = value enough switch (paper 2 0x01FE); given = 0 ∷ 2 ∷ 2 ∷ 3 ∷ 8 ∷ 0 ∷ 1 ∷ 10 ∷ 1 ∷ 0xFE ∷ [] }
+    ∷ record { asked = value lent switch (paper 8 0x00AABBCC00000007); given = 0 ∷ 8 ∷ 2 ∷ 3 ∷ 8 ∷ 0 ∷ 0 ∷ 3 ∷ 4 ∷ 7 ∷ replicate 4 9 }
+    ∷ record { asked = value lent switch (paper 2 0x01FE); given = 0 ∷ 2 ∷ 2 ∷ 3 ∷ 8 ∷ 0 ∷ 1 ∷ 10 ∷ 1 ∷ 0xFE ∷ replicate 4 9 }
     -- no label, no default: the discriminant alone
-    ∷ record { asked = value enough letters (paper 1 0x62); given = 0 ∷ 1 ∷ 1 ∷ 2 ∷ 9 ∷ 0 ∷ 0x62 ∷ [] }
+    ∷ record { asked = value lent letters (paper 1 0x62); given = 0 ∷ 1 ∷ 1 ∷ 2 ∷ 9 ∷ 0 ∷ 0x62 ∷ replicate 7 9 }
     -- an exception's id is an item and no visit
-    ∷ record { asked = value enough wrong (paper 6 0x000000024100); given = 0 ∷ 6 ∷ 1 ∷ 1 ∷ 18 ∷ 4 ∷ 1 ∷ [] }
+    ∷ record { asked = value lent wrong (paper 6 0x000000024100); given = 0 ∷ 6 ∷ 1 ∷ 1 ∷ 18 ∷ 4 ∷ 1 ∷ replicate 7 9 }
     -- a boolean of 2 is 51 where there is no room, and one of 1 is 56
-    ∷ record { asked = value 0 (paper 4 8) (paper 1 2); given = 51 ∷ 0 ∷ 0 ∷ 1 ∷ [] }
-    ∷ record { asked = value 0 (paper 4 8) (paper 1 1); given = 56 ∷ 0 ∷ 0 ∷ 1 ∷ [] }
+    ∷ record { asked = value [] (paper 4 8) (paper 1 2); given = 51 ∷ 0 ∷ 0 ∷ 1 ∷ [] }
+    ∷ record { asked = value [] (paper 4 8) (paper 1 1); given = 56 ∷ 0 ∷ 0 ∷ 1 ∷ [] }
     -- a short is sign-extended
-    ∷ record { asked = value enough (paper 4 2) (paper 2 0xFFFE); given = 0 ∷ 2 ∷ 1 ∷ 1 ∷ 2 ∷ 0 ∷ 0xFFFFFFFFFFFFFFFE ∷ [] }
+    ∷ record { asked = value lent (paper 4 2) (paper 2 0xFFFE); given = 0 ∷ 2 ∷ 1 ∷ 1 ∷ 2 ∷ 0 ∷ 0xFFFFFFFFFFFFFFFE ∷ replicate 7 9 }
     ∷ []
 
 pub readings-hold : T (holds readings)
-unfolding littleNumber littleOctets numberOf octetsOf numberAt choose readOf fieldOf stringOf textOf endsText overBound runOf countedOf formOf fieldIn skipField skipCounted targetOf aimed spotAt memberAt namesIn countIn typeIn elementIn unionIn encapsulated parametersAt added findIn findPlace positionOf parametersOf leafLabels labelsAfter labelsFor outOfKind labelAmong belowTop entryOf textStep namesStep numberStep countStep anyCount headStep exceptionStep lengthStep textsStep enumStep partOf badDefault switchStep entered closed targetStep indirectionAt nameStep membersAt labelsAt switchedAt discriminantAt endedAt compositeAt enteredAt kindAt enterAt typeAt walkedOf closure anyBelow loopFound memberIs steps loopLast checkedType signExtended after repeats taken done numberTaken octetsStep inside sizeOf contentOf leafDone leafAt textDone textGot textAt countDone countAt elementsAt sequenceAt enter reads reading readingOf valueAnswer flat defaultOf chosenOf caseOf memberNo unionAt enumDone enumAt exceptionAt tagDone tagAt runDone runGot runAt profileAt profilesAt objrefAt valueMembers readings
+unfolding littleNumber littleOctets numberOf octetsOf numberAt choose readOf fieldOf stringOf textOf endsText overBound runOf countedOf formOf fieldIn skipField skipCounted targetOf aimed spotAt memberAt namesIn countIn typeIn elementIn unionIn encapsulated parametersAt added findIn findPlace positionOf parametersOf leafLabels labelsAfter labelsFor outOfKind labelAmong belowTop entryOf textStep namesStep numberStep countStep anyCount headStep exceptionStep lengthStep textsStep enumStep partOf badDefault switchStep entered closed targetStep indirectionAt nameStep membersAt labelsAt switchedAt discriminantAt endedAt compositeAt enteredAt kindAt enterAt typeAt walkedOf closure anyBelow loopFound memberIs steps loopLast checkedType signExtended after repeats taken done numberTaken octetsStep inside sizeOf contentOf leafDone leafAt textDone textGot textAt countDone countAt elementsAt sequenceAt enter reads reading readingOf valueAnswer flat tableAfter defaultOf chosenOf caseOf memberNo unionAt enumDone enumAt exceptionAt tagDone tagAt runDone runGot runAt profileAt profilesAt objrefAt valueMembers readings
 readings-hold = tt
+
+-- an item's number, which case it is and its 64 bits
+abbrev pub itemGiven : ℕ → List ℕ → List ℕ → List ℕ
+itemGiven n v x = itemNumber (itemAnswer v Big (fromStart x) n) ∷ givenIn (itemAnswer v Big (fromStart x) n) []
+
+unfoldable pub singles : Bool
+singles =
+    -- "numbers start at 0"; a long is signed
+    same (itemGiven 0 (paper 4 3) (paper 4 0xFFFFFFFE)) (0 ∷ 0 ∷ 0xFFFFFFFFFFFFFFFE ∷ [])
+    -- "one not below the item count is 49"
+    && (same (itemGiven 1 (paper 4 3) (paper 4 0xFFFFFFFE)) (49 ∷ [])
+    -- "the floats with exactly the recorded bits", a NaN's too
+    && (same (itemGiven 0 (paper 4 6) (paper 4 0x7FA00001)) (0 ∷ 2 ∷ 0x7FA00001 ∷ [])
+    && (same (itemGiven 0 (paper 4 7) (paper 8 0xFFF0000000000001)) (0 ∷ 3 ∷ 0xFFF0000000000001 ∷ [])
+    -- ulonglong and octet are unsigned
+    && (same (itemGiven 0 (paper 4 24) (paper 8 0xFFF0000000000001)) (0 ∷ 1 ∷ 0xFFF0000000000001 ∷ [])
+    && (same (itemGiven 0 (paper 4 10) (paper 1 0xFF)) (0 ∷ 1 ∷ 0xFF ∷ [])
+    -- 49 comes after the value's refusals
+    && same (itemGiven 7 (paper 4 8) (paper 1 2)) (51 ∷ []))))))
+
+pub singles-hold : T singles
+unfolding littleNumber littleOctets numberOf octetsOf numberAt choose readOf fieldOf stringOf textOf endsText overBound runOf countedOf formOf fieldIn skipField skipCounted targetOf aimed spotAt memberAt namesIn countIn typeIn elementIn unionIn encapsulated parametersAt added findIn findPlace positionOf parametersOf leafLabels labelsAfter labelsFor outOfKind labelAmong belowTop entryOf textStep namesStep numberStep countStep anyCount headStep exceptionStep lengthStep textsStep enumStep partOf badDefault switchStep entered closed targetStep indirectionAt nameStep membersAt labelsAt switchedAt discriminantAt endedAt compositeAt enteredAt kindAt enterAt typeAt walkedOf closure anyBelow loopFound memberIs steps loopLast checkedType signExtended after repeats taken done numberTaken octetsStep inside sizeOf contentOf leafDone leafAt textDone textGot textAt countDone countAt elementsAt sequenceAt enter reads reading readingOf valueAnswer flat tableAfter defaultOf chosenOf caseOf memberNo unionAt enumDone enumAt exceptionAt tagDone tagAt runDone runGot runAt profileAt profilesAt objrefAt valueMembers itemNo givenBy itemAnswer itemOf singles
+singles-hold = tt

@@ -1,6 +1,8 @@
 -- The samples of paper 01 that are marked P, as one table under one statement.
 --   paper           octets as the paper prints them: so many, and their digits as one number
 --   Question        what a sample asks
+--   fromStart       a value's octets, big-endian from index 0
+--   lent            a table with room for three items and a number more
 --   answer          what the definitions answer, as numbers
 --   Sample          a question, and the numbers that answer it: what the paper gives, and what follows from it
 --   same            whether two lists of numbers are equal
@@ -10,6 +12,7 @@
 use mathlib.Core.List.{List, [], _∷_, _++_}
 use mathlib.Core.Bool.{Bool, true, false, _&&_}
 use Prim.Native.Nat.{ℕ}
+use lib.ListN.{replicate}
 use lib.Dec.{T, eqb}
 use Rattle.cdr.specs.declared.Order.{Order}
 use Rattle.cdr.specs.declared.Order.the-variants.{Big}
@@ -34,44 +37,33 @@ use Rattle.steps.specs.Steps.{memberIs, steps}
 use Rattle.typecode.specs.TypeCode.{answerNumbers, loopLast, checkedType}
 use Rattle.cdr.specs.Align.{indexOf}
 use Rattle.cdr.specs.Number.{signExtended}
-use Rattle.reading.specs.declared.ValueAnswer.{ValueAnswer}
-use Rattle.reading.specs.declared.ValueAnswer.the-variants.{Accepted, Refused}
-use Rattle.reading.specs.Sinks.{Source, source, Item, after, repeats, taken, done, numberStep as numberTaken, octetsStep}
+use Rattle.reading.specs.Sinks.{Source, source, after, repeats, taken, done, numberStep as numberTaken, octetsStep}
 use Rattle.reading.specs.Visit.{inside, sizeOf, contentOf, leafDone, leafAt, textDone, textGot, textAt, countDone, countAt, elementsAt, sequenceAt, enter}
-use Rattle.reading.specs.Reading.{reads, roomFor, reading}
-use Rattle.reading.specs.Value.{answerNumbers as valueNumbers, readingOf, valueAnswer, flat}
+use Rattle.reading.specs.Reading.{reads, reading}
+use Rattle.reading.specs.Value.{roomIn, answerNumbers as valueNumbers, readingOf, valueAnswer, flat, tableAfter}
 
 abbrev pub paper : ℕ → ℕ → List ℕ
 paper n digits = octetsOf Big n digits
 
 -- `frame`: octets of a message; the number, then minor, order, more, type, size, whether it has a request id, request id
 -- `type`: a byte order and the octets of a TypeCode; the number, then octets used and kinds written
--- `value`: the items that there is room for, the octets of a TypeCode and of a value, both big-endian from index 0; the number, then octets
--- used, items and visits, and kind, place and content of each item
+-- `value`: a lent table, and the octets of a TypeCode and of a value, both big-endian from index 0; the number, then octets used, items and
+-- visits, and all that the table then holds: kind, place and content of each item, and what was there behind them
 pub data Question : Type 0 where
   frame : List ℕ → Question
   type : Order → List ℕ → Question
-  value : ℕ → List ℕ → List ℕ → Question
+  value : List ℕ → List ℕ → List ℕ → Question
 
--- a value's octets, big-endian from index 0
 abbrev pub fromStart : List ℕ → Source
 fromStart x = source x Big (indexOf 0)
 
--- room for as many items as any value has
-abbrev pub enough : ℕ
-enough = 16384
-
--- an accepted value's items, three numbers each
-abbrev pub itemsOf : ValueAnswer → List Item → List ℕ
-itemsOf (Accepted used items visits) is = flat is
-itemsOf (Refused number visits) is = []
+abbrev pub lent : List ℕ
+lent = replicate 10 9
 
 abbrev pub answer : Question → List ℕ
 answer (frame v) = frameNumbers (frameOf v)
 answer (type order v) = answerNumbers (checkedType v order .answer)
-answer (value room v x) =
-    valueNumbers (valueAnswer v Big (fromStart x) room)
-    ++ itemsOf (valueAnswer v Big (fromStart x) room) (readingOf (roomFor room) v Big (fromStart x) .kept .items)
+answer (value table v x) = valueNumbers (valueAnswer v Big (fromStart x) (roomIn table)) ++ tableAfter v Big (fromStart x) table
 
 pub record Sample : Type 0 where
   pub asked : Question
@@ -98,18 +90,18 @@ samples =
     -- "empty type: 30"
     ∷ record { asked = type Big []; given = 30 ∷ 0 ∷ 0 ∷ [] }
     -- "type 00000000, no value octets: 1 visit, no items"
-    ∷ record { asked = value enough (paper 4 0) []; given = 0 ∷ 0 ∷ 0 ∷ 1 ∷ [] }
+    ∷ record { asked = value lent (paper 4 0) []; given = 0 ∷ 0 ∷ 0 ∷ 1 ∷ lent }
     -- "T with ..: items 2, 1, -1; 3 visits"; kinds and places are as the type and the octets say
     ∷ record {
-      asked = value enough (paper 20 0x000000130000000C000000000000000300000000) (paper 12 0x0000000200000001FFFFFFFF);
-      given = 0 ∷ 12 ∷ 3 ∷ 3 ∷ 19 ∷ 0 ∷ 2 ∷ 3 ∷ 4 ∷ 1 ∷ 3 ∷ 8 ∷ 0xFFFFFFFFFFFFFFFF ∷ []
+      asked = value lent (paper 20 0x000000130000000C000000000000000300000000) (paper 12 0x0000000200000001FFFFFFFF);
+      given = 0 ∷ 12 ∷ 3 ∷ 3 ∷ 19 ∷ 0 ∷ 2 ∷ 3 ∷ 4 ∷ 1 ∷ 3 ∷ 8 ∷ 0xFFFFFFFFFFFFFFFF ∷ 9 ∷ []
     }
     -- "first eight octets only: 50, 3 visits"
-    ∷ record { asked = value enough (paper 20 0x000000130000000C000000000000000300000000) (paper 8 0x0000000200000001); given = 50 ∷ 0 ∷ 0 ∷ 3 ∷ [] }
+    ∷ record { asked = value lent (paper 20 0x000000130000000C000000000000000300000000) (paper 8 0x0000000200000001); given = 50 ∷ 0 ∷ 0 ∷ 3 ∷ lent }
     -- "type 00000008, value 02: 51, 1 visit"
-    ∷ record { asked = value enough (paper 4 8) (paper 1 2); given = 51 ∷ 0 ∷ 0 ∷ 1 ∷ [] }
+    ∷ record { asked = value lent (paper 4 8) (paper 1 2); given = 51 ∷ 0 ∷ 0 ∷ 1 ∷ lent }
     ∷ []
 
 pub samples-hold : T (holds samples)
-unfolding littleNumber littleOctets numberOf octetsOf numberAt majorExists minorExists versionExists flagsAllowed typeExists bodyStartsWithId readsFragments isRequestOrReply isBare hasRequestId sizeAllowed fragmentAllowed eightsAllowed sizedOf messageOf frameOf choose readOf fieldOf stringOf textOf endsText overBound runOf countedOf formOf fieldIn skipField skipCounted targetOf aimed spotAt memberAt namesIn countIn typeIn elementIn unionIn encapsulated parametersAt added findIn findPlace positionOf parametersOf leafLabels labelsAfter labelsFor outOfKind labelAmong belowTop entryOf textStep namesStep numberStep countStep anyCount headStep exceptionStep lengthStep textsStep enumStep partOf badDefault switchStep entered closed targetStep indirectionAt nameStep membersAt labelsAt switchedAt discriminantAt endedAt compositeAt enteredAt kindAt enterAt typeAt walkedOf closure anyBelow loopFound memberIs steps loopLast checkedType signExtended after repeats taken done numberTaken octetsStep inside sizeOf contentOf leafDone leafAt textDone textGot textAt countDone countAt elementsAt sequenceAt enter reads reading readingOf valueAnswer flat samples
+unfolding littleNumber littleOctets numberOf octetsOf numberAt majorExists minorExists versionExists flagsAllowed typeExists bodyStartsWithId readsFragments isRequestOrReply isBare hasRequestId sizeAllowed fragmentAllowed eightsAllowed sizedOf messageOf frameOf choose readOf fieldOf stringOf textOf endsText overBound runOf countedOf formOf fieldIn skipField skipCounted targetOf aimed spotAt memberAt namesIn countIn typeIn elementIn unionIn encapsulated parametersAt added findIn findPlace positionOf parametersOf leafLabels labelsAfter labelsFor outOfKind labelAmong belowTop entryOf textStep namesStep numberStep countStep anyCount headStep exceptionStep lengthStep textsStep enumStep partOf badDefault switchStep entered closed targetStep indirectionAt nameStep membersAt labelsAt switchedAt discriminantAt endedAt compositeAt enteredAt kindAt enterAt typeAt walkedOf closure anyBelow loopFound memberIs steps loopLast checkedType signExtended after repeats taken done numberTaken octetsStep inside sizeOf contentOf leafDone leafAt textDone textGot textAt countDone countAt elementsAt sequenceAt enter reads reading readingOf valueAnswer flat tableAfter samples
 samples-hold = tt

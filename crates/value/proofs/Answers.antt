@@ -22,7 +22,8 @@ use Rattle.reading.specs.declared.ValueAnswer.the-variants.{Accepted, Refused}
 use Rattle.reading.specs.Sinks.{Source, source, St}
 use Rattle.reading.specs.Visit.{Checked, checked}
 use Rattle.reading.specs.Reading.{Log, anyRoom, roomFor, reading}
-use Rattle.reading.specs.Value.{mostOctets, overlong, onType, answerOf, readingOf, valueAnswer, filledBy, tableAfter}
+use Rattle.checking.specs.Types.{octetsLimit}
+use Rattle.reading.specs.Value.{roomIn, overlong, onType, answerOf, readingOf, valueAnswer, filledBy, tableAfter}
 use Rattle.reading.proofs.Bound.{visits-bound, items-bound}
 use Rattle.value.specs.declared.ItemAnswer.{ItemAnswer}
 use Rattle.value.specs.declared.ItemAnswer.the-variants.{Given, Refused as refusedItem}
@@ -37,7 +38,7 @@ module _ (v : List ℕ) (order : Order) (x : Source) where
   pub bounded : (used k : ℕ) → checkedType v order .answer ≡ accepted used k → overlong v x ≡ false → Bounded type x
   bounded used k q short =
       let a : AcceptedAs v order k (checkedType v order .met) = accepted-as v order used k q in
-      let n : length (x .octets) ≤ mostOctets = ltb-false _ _ (neither (ltb mostOctets (length v)) (ltb mostOctets (length (x .octets))) short .1) in
+      let n : length (x .octets) ≤ octetsLimit = ltb-false _ _ (neither (ltb octetsLimit (length v)) (ltb octetsLimit (length (x .octets))) short .1) in
       record {
         visits = λ full. let b = visits-bound full x v order k (checkedType v order .met) a in
           let m = mul-le-mul (a .most) (suc-le n) in omega arith;
@@ -59,20 +60,20 @@ module _ (v : List ℕ) (order : Order) (x : Source) where
 
   module _ (table : List ℕ) where
     abbrev answer : ValueAnswer
-    answer = valueAnswer v order x (length table / 3)
+    answer = valueAnswer v order x (roomIn table)
 
     pub table-refused : (number visits : ℕ) → Refused number visits ≡ answer → table ≡ tableAfter v order x table
     unfolding tableAfter
     table-refused number visits e =
-        ap (λ (a : ValueAnswer). filledBy a table (readingOf (roomFor (length table / 3)) v order x .kept .items)) e
+        ap (λ (a : ValueAnswer). filledBy a table (readingOf (roomFor (roomIn table)) v order x .kept .items)) e
 
     -- the reading under an accepted type is the answer, and fills the table
     pub value-read : overlong v x ≡ false → (used k : ℕ) → checkedType v order .answer ≡ accepted used k → (r : ValueAnswer) (after : List ℕ)
         → Read type x table r after → (r ≡ answer) × (after ≡ tableAfter v order x table)
     unfolding tableAfter readingOf
     value-read short used k q r after read =
-        let e : answer ≡ readInto type x table = value-type (length table / 3) short (accepted used k) q in
-        (read .answer ∙ sym e, read .filled ∙ ap (λ (a : ValueAnswer). filledBy a table (reading (roomFor (length table / 3)) x type .kept .items)) (sym e))
+        let e : answer ≡ readInto type x table = value-type (roomIn table) short (accepted used k) q in
+        (read .answer ∙ sym e, read .filled ∙ ap (λ (a : ValueAnswer). filledBy a table (reading (roomFor (roomIn table)) x type .kept .items)) (sym e))
 
   module _ (n : ℕ) where
     pub item-long : overlong v x ≡ true → refusedItem 42 ≡ itemAnswer v order x n

@@ -1,14 +1,15 @@
 -- "A single item asked for by number comes as a signed, unsigned, single or double value."
---   answerNumbers    an answer's number, and which case the item is and its 64 bits
+--   itemNumber       01's number of an answer, 0 for an item
+--   givenIn          which case an item is, and its 64 bits
 --   givenBy          "one not below the item count is 49, after the refusals of reading without 56"
 --   itemAnswer       the answer
 use Prim.Native.Nat.{ℕ}
-use mathlib.Core.List.{List, [], _∷_}
+use mathlib.Core.List.{List}
 use lib.Dec.{ltb, eqb}
 use lib.ListN.{length}
 use Rattle.choices.specs.Branch.{choose}
 use Rattle.cdr.specs.declared.Order.{Order}
-use Rattle.items.specs.Items.{itemOf, caseOf, bitsOf}
+use Rattle.items.specs.Items.{itemOf, itemNumbers}
 use Rattle.typecode.specs.TypeCode.{checkedType}
 use Rattle.reading.specs.Sinks.{Source, St}
 use Rattle.reading.specs.Reading.{Log, anyRoom}
@@ -16,9 +17,13 @@ use Rattle.reading.specs.Value.{overlong, onType, readingOf, itemNo}
 use Rattle.value.specs.declared.ItemAnswer.{ItemAnswer}
 use Rattle.value.specs.declared.ItemAnswer.the-variants.{Given, Refused}
 
-abbrev pub answerNumbers : ItemAnswer → List ℕ
-answerNumbers (Given item) = 0 ∷ caseOf item ∷ bitsOf item ∷ []
-answerNumbers (Refused number) = number ∷ 0 ∷ 0 ∷ []
+abbrev pub itemNumber : ItemAnswer → ℕ
+itemNumber (Given item) = 0
+itemNumber (Refused number) = number
+
+abbrev pub givenIn : ItemAnswer → List ℕ → List ℕ
+givenIn (Given item) before = itemNumbers item
+givenIn (Refused number) before = before
 
 unfoldable pub givenBy : St Log → ℕ → ItemAnswer
 givenBy s n =

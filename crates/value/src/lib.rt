@@ -1,14 +1,13 @@
 // Reading a value: its items into a lent table, or a single item by its number. 42 comes first, then the type's refusal, then the value's.
 ghost use mathlib.Core.Path.{_≡_};
 ghost use mathlib.Core.Bool.{_||_};
-ghost use Prim.Native.Nat.{_/_};
 ghost use lib.Dec.{ltb};
-ghost use lib.ListN.{length};
 ghost use Rattle.reading.specs.declared.ValueAnswer.the-variants.{Refused};
 ghost use Rattle.reading.specs.Sinks.{source};
 ghost use Rattle.reading.specs.Visit.{checked};
 ghost use Rattle.reading.specs.Reading.{anyRoom, reading};
-ghost use Rattle.reading.specs.Value.{mostOctets, valueAnswer, tableAfter};
+ghost use Rattle.checking.specs.Types.{octetsLimit};
+ghost use Rattle.reading.specs.Value.{roomIn, valueAnswer, tableAfter};
 ghost use Rattle.value.specs.Single.{givenBy, itemAnswer};
 ghost use Rattle.value.specs.Inner.{Bounded, Read};
 use cdr::Index;
@@ -37,7 +36,7 @@ pub fn read_value(
     start: Index,
     table: &mut [u64],
 ) -> ValueAnswer
-    ensures { λ r. ⌜ (r ≡ valueAnswer (now (t .entry)) torder (source (now (v .entry)) order start) (length (now (table .entry)) / 3)) × (now (table .exit) ≡ tableAfter (now (t .entry)) torder (source (now (v .entry)) order start) (now (table .entry))) ⌝ }
+    ensures { λ r. ⌜ (r ≡ valueAnswer (now (t .entry)) torder (source (now (v .entry)) order start) (roomIn (now (table .entry)))) × (now (table .exit) ≡ tableAfter (now (t .entry)) torder (source (now (v .entry)) order start) (now (table .entry))) ⌝ }
 {
     if over_long(t.len(), v.len()) {
         return refused(refusals::TOO_LONG);
@@ -78,7 +77,7 @@ pub fn read_item(
 
 // Whether type or value has too many octets.
 fn over_long(t: usize, v: usize) -> bool
-    ensures { λ r. ⌜ r ≡ (ltb mostOctets t || ltb mostOctets v) ⌝ }
+    ensures { λ r. ⌜ r ≡ (ltb octetsLimit t || ltb octetsLimit v) ⌝ }
 {
     if OCTETS_LIMIT < t {
         return true;

@@ -33,7 +33,7 @@ fn within(t: &[u8], met: Met, place: Place) -> Parameters
 {
     match met.position(place) {
         Position::Is(j) => met::parameters_of(t, met, j),
-        Position::NoPosition => met::parameters_of(t, met, met.count),
+        Position::NoPosition => Parameters::Fault,
     }
 }
 
@@ -82,7 +82,7 @@ fn visit(
     }
 }
 
-// The members of a struct, in order.
+// The members of a struct or an exception, in order.
 fn struct_members(
     t: &[u8],
     met: Met,

@@ -10,7 +10,7 @@ use borrow.Author.Tests.{lt-ltb, le-ltb}
 use Rattle.cdr.specs.declared.Order.{Order}
 use Rattle.reading.specs.Sinks.{source}
 use Rattle.reading.specs.Visit.{checked}
-use Rattle.reading.specs.Value.{valueAnswer, tableAfter}
+use Rattle.reading.specs.Value.{roomIn, valueAnswer, tableAfter}
 use Rattle.value.proofs.Walks as walks
 use Rattle.value.proofs.Answers as answers
 

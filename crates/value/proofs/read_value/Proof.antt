@@ -10,7 +10,7 @@ use borrow.Author.Tests.{lt-ltb, le-ltb}
 use Rattle.cdr.specs.declared.Order.{Order}
 use Rattle.reading.specs.Sinks.{source}
 use Rattle.reading.specs.Visit.{checked}
-use Rattle.reading.specs.Value.{valueAnswer, tableAfter}
+use Rattle.reading.specs.Value.{roomIn, valueAnswer, tableAfter}
 use Rattle.value.proofs.Walks as walks
 use Rattle.value.proofs.Answers as answers
 use Rattle.typecode.specs.declared.CheckedType.{CheckedType}
@@ -30,7 +30,7 @@ refused-requires : tie.Need-refused-requires
 refused-requires c κs = search needs
 
 returns : tie.Need-returns
-returns c = let e = c .refused .ensures ∙ answers.value-long (c .before .before .before .before .before .before .args .t .now) (c .before .before .before .before .before .before .args .torder) (source (c .before .before .before .before .before .before .args .v .now) (c .before .before .before .before .before .before .args .order) (c .before .before .before .before .before .before .args .start)) (length (c .before .before .before .before .before .before .args .table .now) / 3) (sym (c .before .before .over-long .ensures) ∙ c .before .if1 .taken) in (e, answers.table-refused (c .before .before .before .before .before .before .args .t .now) (c .before .before .before .before .before .before .args .torder) (source (c .before .before .before .before .before .before .args .v .now) (c .before .before .before .before .before .before .args .order) (c .before .before .before .before .before .before .args .start)) (c .before .before .before .before .before .before .args .table .now) 42 0 (answers.value-long (c .before .before .before .before .before .before .args .t .now) (c .before .before .before .before .before .before .args .torder) (source (c .before .before .before .before .before .before .args .v .now) (c .before .before .before .before .before .before .args .order) (c .before .before .before .before .before .before .args .start)) (length (c .before .before .before .before .before .before .args .table .now) / 3) (sym (c .before .before .over-long .ensures) ∙ c .before .if1 .taken)))
+returns c = let e = c .refused .ensures ∙ answers.value-long (c .before .before .before .before .before .before .args .t .now) (c .before .before .before .before .before .before .args .torder) (source (c .before .before .before .before .before .before .args .v .now) (c .before .before .before .before .before .before .args .order) (c .before .before .before .before .before .before .args .start)) (roomIn (c .before .before .before .before .before .before .args .table .now)) (sym (c .before .before .over-long .ensures) ∙ c .before .if1 .taken) in (e, answers.table-refused (c .before .before .before .before .before .before .args .t .now) (c .before .before .before .before .before .before .args .torder) (source (c .before .before .before .before .before .before .args .v .now) (c .before .before .before .before .before .before .args .order) (c .before .before .before .before .before .before .args .start)) (c .before .before .before .before .before .before .args .table .now) 42 0 (answers.value-long (c .before .before .before .before .before .before .args .t .now) (c .before .before .before .before .before .before .args .torder) (source (c .before .before .before .before .before .before .args .v .now) (c .before .before .before .before .before .before .args .order) (c .before .before .before .before .before .before .args .start)) (roomIn (c .before .before .before .before .before .before .args .table .now)) (sym (c .before .before .over-long .ensures) ∙ c .before .if1 .taken)))
 
 check-type-requires : tie.Need-check-type-requires
 check-type-requires c κs = search needs
@@ -63,10 +63,10 @@ returns-2 : tie.Need-returns-2
 returns-2 c = answers.value-read (c .before .before .before .before .before .before .before .before .before .before .before .before .before .args .t .now) (c .before .before .before .before .before .before .before .before .before .before .before .before .before .args .torder) (source (c .before .before .before .before .before .before .before .before .before .before .before .before .before .args .v .now) (c .before .before .before .before .before .before .before .before .before .before .before .before .before .args .order) (c .before .before .before .before .before .before .before .before .before .before .before .before .before .args .start)) (c .before .before .before .before .before .before .before .before .before .before .before .before .before .args .table .now) (sym (c .before .before .before .before .before .before .before .before .before .over-long .ensures) ∙ c .before .before .before .before .before .before .before .before .if1 .left) _ _ (ap (λ (c : CheckedType). c .answer) (sym (c .before .before .before .before .before .before .before .check-type .ensures)) ∙ c .before .before .before .before .enum-told .given .1) _ _ (subst (λ (m : Met). Read (checked (c .before .before .before .before .before .before .before .before .before .before .before .before .before .args .t .now) m) (source (c .before .before .before .before .before .before .before .before .before .before .before .before .before .args .v .now) (c .before .before .before .before .before .before .before .before .before .before .before .before .before .args .order) (c .before .before .before .before .before .before .before .before .before .before .before .before .before .args .start)) (c .before .before .before .before .before .before .before .before .before .before .before .before .before .args .table .now) (c .before .before .read-into .result) (c .before .before .read-into .last .1 .1 .1 .1 .1 .0)) (ap (λ (c : CheckedType). c .met) (c .before .before .before .before .before .before .before .check-type .ensures)) (c .before .before .read-into .ensures))
 
 returns-3 : tie.Need-returns-3
-returns-3 c = let e = ap (λ (n : ℕ). Refused n 0) (c .before .number .ensures) ∙ sym (answers.value-type (c .before .before .before .before .before .before .before .before .before .before .before .before .args .t .now) (c .before .before .before .before .before .before .before .before .before .before .before .before .args .torder) (source (c .before .before .before .before .before .before .before .before .before .before .before .before .args .v .now) (c .before .before .before .before .before .before .before .before .before .before .before .before .args .order) (c .before .before .before .before .before .before .before .before .before .before .before .before .args .start)) (length (c .before .before .before .before .before .before .before .before .before .before .before .before .args .table .now) / 3) (sym (c .before .before .before .before .before .before .before .before .over-long .ensures) ∙ c .before .before .before .before .before .before .before .if1 .left) _ (ap (λ (c : CheckedType). c .answer) (sym (c .before .before .before .before .before .before .check-type .ensures)) ∙ c .before .before .before .answer .given .1)) in (c .refused2 .ensures ∙ e, answers.table-refused (c .before .before .before .before .before .before .before .before .before .before .before .before .args .t .now) (c .before .before .before .before .before .before .before .before .before .before .before .before .args .torder) (source (c .before .before .before .before .before .before .before .before .before .before .before .before .args .v .now) (c .before .before .before .before .before .before .before .before .before .before .before .before .args .order) (c .before .before .before .before .before .before .before .before .before .before .before .before .args .start)) (c .before .before .before .before .before .before .before .before .before .before .before .before .args .table .now) _ 0 e)
+returns-3 c = let e = ap (λ (n : ℕ). Refused n 0) (c .before .number .ensures) ∙ sym (answers.value-type (c .before .before .before .before .before .before .before .before .before .before .before .before .args .t .now) (c .before .before .before .before .before .before .before .before .before .before .before .before .args .torder) (source (c .before .before .before .before .before .before .before .before .before .before .before .before .args .v .now) (c .before .before .before .before .before .before .before .before .before .before .before .before .args .order) (c .before .before .before .before .before .before .before .before .before .before .before .before .args .start)) (roomIn (c .before .before .before .before .before .before .before .before .before .before .before .before .args .table .now)) (sym (c .before .before .before .before .before .before .before .before .over-long .ensures) ∙ c .before .before .before .before .before .before .before .if1 .left) _ (ap (λ (c : CheckedType). c .answer) (sym (c .before .before .before .before .before .before .check-type .ensures)) ∙ c .before .before .before .answer .given .1)) in (c .refused2 .ensures ∙ e, answers.table-refused (c .before .before .before .before .before .before .before .before .before .before .before .before .args .t .now) (c .before .before .before .before .before .before .before .before .before .before .before .before .args .torder) (source (c .before .before .before .before .before .before .before .before .before .before .before .before .args .v .now) (c .before .before .before .before .before .before .before .before .before .before .before .before .args .order) (c .before .before .before .before .before .before .before .before .before .before .before .before .args .start)) (c .before .before .before .before .before .before .before .before .before .before .before .before .args .table .now) _ 0 e)
 
 returns-4 : tie.Need-returns-4
-returns-4 c = let e = sym (answers.value-type (c .before .before .before .before .before .before .before .before .before .before .args .t .now) (c .before .before .before .before .before .before .before .before .before .before .args .torder) (source (c .before .before .before .before .before .before .before .before .before .before .args .v .now) (c .before .before .before .before .before .before .before .before .before .before .args .order) (c .before .before .before .before .before .before .before .before .before .before .args .start)) (length (c .before .before .before .before .before .before .before .before .before .before .args .table .now) / 3) (sym (c .before .before .before .before .before .before .over-long .ensures) ∙ c .before .before .before .before .before .if1 .left) _ (ap (λ (c : CheckedType). c .answer) (sym (c .before .before .before .before .check-type .ensures)) ∙ c .before .enum-told2 .given .1)) in (c .refused3 .ensures ∙ e, answers.table-refused (c .before .before .before .before .before .before .before .before .before .before .args .t .now) (c .before .before .before .before .before .before .before .before .before .before .args .torder) (source (c .before .before .before .before .before .before .before .before .before .before .args .v .now) (c .before .before .before .before .before .before .before .before .before .before .args .order) (c .before .before .before .before .before .before .before .before .before .before .args .start)) (c .before .before .before .before .before .before .before .before .before .before .args .table .now) 39 0 e)
+returns-4 c = let e = sym (answers.value-type (c .before .before .before .before .before .before .before .before .before .before .args .t .now) (c .before .before .before .before .before .before .before .before .before .before .args .torder) (source (c .before .before .before .before .before .before .before .before .before .before .args .v .now) (c .before .before .before .before .before .before .before .before .before .before .args .order) (c .before .before .before .before .before .before .before .before .before .before .args .start)) (roomIn (c .before .before .before .before .before .before .before .before .before .before .args .table .now)) (sym (c .before .before .before .before .before .before .over-long .ensures) ∙ c .before .before .before .before .before .if1 .left) _ (ap (λ (c : CheckedType). c .answer) (sym (c .before .before .before .before .check-type .ensures)) ∙ c .before .enum-told2 .given .1)) in (c .refused3 .ensures ∙ e, answers.table-refused (c .before .before .before .before .before .before .before .before .before .before .args .t .now) (c .before .before .before .before .before .before .before .before .before .before .args .torder) (source (c .before .before .before .before .before .before .before .before .before .before .args .v .now) (c .before .before .before .before .before .before .before .before .before .before .args .order) (c .before .before .before .before .before .before .before .before .before .before .args .start)) (c .before .before .before .before .before .before .before .before .before .before .args .table .now) 39 0 e)
 
 pub read-value-spec : {M : Type 1} → statement M
 read-value-spec =

@@ -8,9 +8,7 @@ use Prim.Native.Nat.{ℕ}
 use lib.ListN.{length}
 use Rattle.kinds.specs.declared.Parameters.{Parameters}
 use Rattle.met.specs.Met.{parametersOf, findPlace}
-use Rattle.met.proofs.Finding.{position-facts}
-use Rattle.walking.proofs.Nowhere.{place-nowhere}
-use Rattle.reading.specs.Visit.{checked, inside, elementsAt}
+use Rattle.reading.specs.Visit.{checked, atPosition, inside, elementsAt}
 use Rattle.reading.specs.Reading.{reads}
 use Rattle.reading.proofs.Ways as way
 use Rattle.leaves.specs.Walk.{sinkOf, sourceOf, stateOf, startOf}

@@ -8,9 +8,7 @@ use Prim.Native.Nat.{ℕ}
 use lib.ListN.{length}
 use Rattle.kinds.specs.declared.Parameters.{Parameters}
 use Rattle.met.specs.Met.{parametersOf, findPlace}
-use Rattle.met.proofs.Finding.{position-facts}
-use Rattle.walking.proofs.Nowhere.{place-nowhere}
-use Rattle.reading.specs.Visit.{checked, inside, elementsAt}
+use Rattle.reading.specs.Visit.{checked, atPosition, inside, elementsAt}
 use Rattle.reading.specs.Reading.{reads}
 use Rattle.reading.proofs.Ways as way
 use Rattle.leaves.specs.Walk.{sinkOf, sourceOf, stateOf, startOf}
@@ -27,25 +25,15 @@ parameters-of-requires c κs = search needs
 enum-told : tie.Need-enum-told
 enum-told c = search needs
 
-parameters-of-requires-2 : tie.Need-parameters-of-requires-2
-parameters-of-requires-2 c κs = search needs
-
 returns : tie.Need-returns
 unfolding inside
-returns c = c .parameters-of .ensures ∙ ap (parametersOf (c .before .before .before .before .before .before .args .t .now) (c .before .before .before .before .before .before .args .met)) (sym (position-facts (c .before .before .before .before .before .before .args .met) (c .before .before .before .before .before .before .args .place) _ (sym (c .before .before .before .before .position .ensures) ∙ c .before .before .j .given .1) .0))
+returns c = c .parameters-of .ensures ∙ ap (atPosition (checked (c .before .before .before .before .before .before .args .t .now) (c .before .before .before .before .before .before .args .met))) (sym (c .before .before .j .given .1) ∙ c .before .before .before .before .position .ensures)
 
 returns-2 : tie.Need-returns-2
 unfolding inside
-returns-2 c = c .parameters-of2 .ensures ∙ ap (parametersOf (c .before .before .before .before .before .args .t .now) (c .before .before .before .before .before .args .met)) (sym (place-nowhere (c .before .before .before .before .before .args .met) (c .before .before .before .before .before .args .place) (sym (c .before .before .before .position .ensures) ∙ c .before .enum-told .given .1)))
+returns-2 c = ap (atPosition (checked (c .before .before .before .before .args .t .now) (c .before .before .before .before .args .met))) (sym (c .enum-told .given .1) ∙ c .before .before .position .ensures)
 
 pub within-spec : {M : Type 1} → statement M
 within-spec =
     tie.close
-    (tie.spec
-    position-requires
-    enum-known-j
-    parameters-of-requires
-    enum-told
-    parameters-of-requires-2
-    returns
-    returns-2)
+    (tie.spec position-requires enum-known-j parameters-of-requires enum-told returns returns-2)
