@@ -11,3 +11,4 @@ pub mod Bound
 pub mod Keeping
 pub mod Faults
 pub mod Demand
+pub mod Indices
