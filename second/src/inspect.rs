@@ -1,9 +1,17 @@
 //! The program over questions, one a line.
 //!
 //! A question is words with exactly one space between. ORDER is `big` or
-//! `little`; octets are digits of either case, `-` for none.
+//! `little`; octets are digits of either case, `-` for none; START, ROOM and
+//! NUMBER are decimal digits, of a number of 64 bits.
 //!
 //! - `type ORDER TYPE`: is the TypeCode accepted? `ok USED K` or `no N`.
+//! - `value ORDER TYPE ORDER VALUE START ROOM`: what does the value read as, its
+//!   first octet having index START, with room for ROOM items?
+//!   `ok USED VISITS COUNT ITEMS` or `no N VISITS`. ITEMS is `KIND:PLACE:CONTENT`
+//!   for each, with commas between, `-` for none.
+//! - `item ORDER TYPE ORDER VALUE START NUMBER`: what is the value's item of this
+//!   number, from 0? `ok signed X`, `ok unsigned X`, `ok single BITS`,
+//!   `ok double BITS` or `no N`. BITS are 8 or 16 upper-case digits.
 //!
 //! A line that is no question is answered `?`.
 
@@ -13,15 +21,16 @@ use std::io::{BufRead, BufWriter, Write};
 use crate::hexline::digits_into;
 use crate::lines::{next_line, Failure, BLOCK};
 use crate::typecode::{check, Checked};
+use crate::value::{self, Accepted, Content, Input, Item, Lent, Refused, LONGEST_VALUE};
 
 /// The most characters of a question.
 pub const LONGEST_QUESTION: usize = 131_072;
 
 /// The most words of a question.
-const MOST_WORDS: usize = 3;
+const MOST_WORDS: usize = 7;
 
 /// What a line was answered.
-#[derive(Clone, Copy, PartialEq, Eq, Debug)]
+#[derive(Clone, PartialEq, Eq, Debug)]
 enum Answer {
     /// The line is no question.
     NoQuestion,
@@ -29,6 +38,12 @@ enum Answer {
     Refused(u32),
     /// The TypeCode is accepted: the octets used and the kinds written.
     Type(usize, usize),
+    /// The value is accepted.
+    Value(Accepted),
+    /// The value is refused.
+    RefusedValue(Refused),
+    /// The value has this item.
+    Item(Content),
 }
 
 impl fmt::Display for Answer {
@@ -37,8 +52,39 @@ impl fmt::Display for Answer {
             Answer::NoQuestion => write!(formatter, "?"),
             Answer::Refused(refusal) => write!(formatter, "no {refusal}"),
             Answer::Type(used, kinds) => write!(formatter, "ok {used} {kinds}"),
+            Answer::Value(accepted) => write_accepted(formatter, accepted),
+            Answer::RefusedValue(Refused { number, visits }) => {
+                write!(formatter, "no {number} {visits}")
+            }
+            Answer::Item(Content::Signed(number)) => write!(formatter, "ok signed {number}"),
+            Answer::Item(Content::Unsigned(number)) => write!(formatter, "ok unsigned {number}"),
+            Answer::Item(Content::Single(bits)) => write!(formatter, "ok single {bits:08X}"),
+            Answer::Item(Content::Double(bits)) => write!(formatter, "ok double {bits:016X}"),
         }
     }
+}
+
+/// Writes the answer of an accepted value.
+fn write_accepted(formatter: &mut fmt::Formatter<'_>, accepted: &Accepted) -> fmt::Result {
+    let Accepted {
+        used,
+        visits,
+        items,
+    } = accepted;
+    write!(formatter, "ok {used} {visits} {} ", items.len())?;
+    if items.is_empty() {
+        return write!(formatter, "-");
+    }
+    for (index, item) in items.iter().enumerate() {
+        let Item {
+            kind,
+            place,
+            content,
+        } = item;
+        let comma = if index == 0 { "" } else { "," };
+        write!(formatter, "{comma}{kind}:{place}:{content}")?;
+    }
+    Ok(())
 }
 
 /// Answers every line of the input.
@@ -73,7 +119,47 @@ fn answer(line: &[u8]) -> Answer {
 fn answer_words(words: &[&[u8]]) -> Option<Answer> {
     match *words {
         [b"type", order, octets] => Some(answer_type(is_little(order)?, &octets_of(octets)?)),
+        [b"value", ref value @ .., room] => answer_about(value, number_of(room)?, answer_value),
+        [b"item", ref value @ .., number] => answer_about(value, number_of(number)?, answer_item),
         _ => None,
+    }
+}
+
+/// Answers what is asked about a value with a number, if the words are a value.
+fn answer_about(words: &[&[u8]], number: u64, answer: fn(Input, u64) -> Answer) -> Option<Answer> {
+    let [type_order, typecode, value_order, value, start] = words else {
+        return None;
+    };
+    let (typecode, value) = (octets_of(typecode)?, octets_of(value)?);
+    let input = Input {
+        typecode: Lent {
+            octets: &typecode,
+            little: is_little(type_order)?,
+        },
+        value: Lent {
+            octets: &value,
+            little: is_little(value_order)?,
+        },
+        // Only the index modulo 8 matters.
+        start: (number_of(start)? % 8) as usize,
+    };
+    Some(answer(input, number))
+}
+
+/// Says what a value reads as, with room for so many items.
+fn answer_value(input: Input, room: u64) -> Answer {
+    let room = room.min(LONGEST_VALUE as u64) as usize;
+    match value::read(input, room) {
+        Ok(accepted) => Answer::Value(accepted),
+        Err(refused) => Answer::RefusedValue(refused),
+    }
+}
+
+/// Says what a value's item of this number is.
+fn answer_item(input: Input, number: u64) -> Answer {
+    match value::item(input, number) {
+        Ok(content) => Answer::Item(content),
+        Err(refusal) => Answer::Refused(refusal),
     }
 }
 
@@ -102,6 +188,14 @@ fn octets_of(word: &[u8]) -> Option<Vec<u8>> {
         b"-" => Some(octets),
         digits => digits_into(digits, &mut octets).ok().map(|()| octets),
     }
+}
+
+/// The number of 64 bits that a word of decimal digits spells.
+fn number_of(word: &[u8]) -> Option<u64> {
+    if !word.iter().all(u8::is_ascii_digit) {
+        return None;
+    }
+    std::str::from_utf8(word).ok()?.parse().ok()
 }
 
 #[cfg(test)]
@@ -138,6 +232,120 @@ mod tests {
     }
 
     #[test]
+    fn samples_of_values() {
+        const T: &str = "000000130000000C000000000000000300000000";
+        for (question, expected) in [
+            (
+                format!("value big {T} big 0000000200000001FFFFFFFF 0 3"),
+                "ok 12 3 3 19:0:2,3:4:1,3:8:18446744073709551615",
+            ),
+            (
+                format!("value big {T} big 0000000200000001FFFFFFFF 0 2"),
+                "no 56 3",
+            ),
+            (format!("value big {T} big 0000000200000001 0 3"), "no 50 3"),
+            (
+                format!("value big {T} little 00000200000000010000ffffffff 6 99"),
+                "ok 14 3 3 19:2:2,3:6:256,3:10:18446744073709551615",
+            ),
+            (format!("value big {T} big 00000000 0 0"), "no 56 1"),
+            (format!("value big {T} big 00000000 0 1"), "ok 4 1 1 19:0:0"),
+            ("value big 00000000 big - 0 0".into(), "ok 0 1 0 -"),
+            ("value big 00000008 big 02 0 1".into(), "no 51 1"),
+            ("value big - big 02 0 1".into(), "no 30 0"),
+            (
+                "value big 0000001200000000 big 0000000100 0 1".into(),
+                "ok 5 1 1 18:4:0",
+            ),
+            (
+                "value big 0000001200000000 big 00000000 0 1".into(),
+                "no 53 1",
+            ),
+            (
+                format!("item big {T} big 0000000200000001FFFFFFFF 0 0"),
+                "ok unsigned 2",
+            ),
+            (
+                format!("item big {T} big 0000000200000001FFFFFFFF 0 2"),
+                "ok signed -1",
+            ),
+            (
+                format!("item big {T} big 0000000200000001FFFFFFFF 0 3"),
+                "no 49",
+            ),
+            (format!("item big {T} big 0000000200000001 0 3"), "no 50"),
+            ("item big 0000000B big 00 0 0".into(), "no 31"),
+            (
+                "item little 06000000 little 0100a07f 8 0".into(),
+                "ok single 7FA00001",
+            ),
+            (
+                "item big 00000007 big fff0000000000001 0 0".into(),
+                "ok double FFF0000000000001",
+            ),
+            (
+                "item big 00000007 big 000000000000000000000000 4 0".into(),
+                "ok double 0000000000000000",
+            ),
+        ] {
+            assert_eq!(output(question.as_bytes()), format!("{expected}\n"));
+        }
+    }
+
+    #[test]
+    fn numbers_of_a_question() {
+        for (numbers, expected) in [
+            ("0 0", "no 56 1"),
+            ("0 1", "ok 1 1 1 10:0:7"),
+            ("0 00001", "ok 1 1 1 10:0:7"),
+            ("0 0000000000000000000000000000000000001", "ok 1 1 1 10:0:7"),
+            ("0 18446744073709551615", "ok 1 1 1 10:0:7"),
+            ("18446744073709551615 1", "ok 1 1 1 10:0:7"),
+            ("0018446744073709551615 1", "ok 1 1 1 10:0:7"),
+            ("0 18446744073709551616", "?"),
+            ("18446744073709551616 1", "?"),
+            ("0 99999999999999999999999999", "?"),
+            ("0 +1", "?"),
+            ("+0 1", "?"),
+            ("0 -1", "?"),
+            ("0 -", "?"),
+            ("- 1", "?"),
+            ("0 ", "?"),
+            (" 1", "?"),
+            ("0 1 ", "?"),
+            ("0 1 1", "?"),
+            ("0  1", "?"),
+            ("0", "?"),
+            ("0 0x1", "?"),
+            ("0 A", "?"),
+            ("0 1\r", "?"),
+            ("0 1\u{661}", "?"),
+        ] {
+            let question = format!("value big 0000000A big 07 {numbers}");
+            assert_eq!(output(question.as_bytes()), format!("{expected}\n"));
+            let answers = ["ok unsigned 7\n", "no 49\n", "?\n"];
+            let answer = output(question.replace("value", "item").as_bytes());
+            assert!(answers.contains(&&answer[..]));
+            assert_eq!(answer == "?\n", expected == "?");
+        }
+    }
+
+    #[test]
+    fn the_largest_value_question_fits() {
+        let typecode = format!("0000000A{}", "0".repeat(32_760));
+        let value = "7F".repeat(16_384);
+        let question = format!("value little {typecode} little {value} 7 16384");
+        assert!(question.len() < LONGEST_QUESTION);
+        let question = question.replace("little 0000000A", "big 0000000A");
+        assert_eq!(
+            output_in_blocks(question.as_bytes(), BLOCK),
+            "ok 1 1 1 10:0:127\n"
+        );
+        let longer = question.replace(" 7 16384", "00 7 16384");
+        assert_eq!(output_in_blocks(longer.as_bytes(), BLOCK), "no 42 0\n");
+    }
+
+    #[test]
     fn orders_and_digits_of_either_case() {
         assert_eq!(output(b"type big 00000003"), "ok 4 1\n");
         assert_eq!(output(b"type little 03000000"), "ok 4 1\n");
@@ -154,7 +362,7 @@ mod tests {
 
     #[test]
     fn lines_that_are_no_question() {
-        let lines: [&[u8]; 30] = [
+        let lines: [&[u8]; 42] = [
             b" ",
             b"-",
             b"00000003",
@@ -185,6 +393,18 @@ mod tests {
             b"types big 00000003",
             b"type big \xC3\xA9",
             b"big type 00000003",
+            b"type big 00000003 0 0",
+            b"value",
+            b"item",
+            b"value big 00000003",
+            b"value big 00000003 big 00000003",
+            b"value big 00000003 big 00000003 0",
+            b"value big 00000003 big 00000003 0 1 1",
+            b"value big 00000003 00000003 0 1",
+            b"value big 00000003 Big 00000003 0 1",
+            b"value big 00000003 big 0000003 0 1",
+            b"value big  big 00000003 0 1",
+            b"Item big 00000003 big 00000003 0 0",
         ];
         for line in lines {
             let input = [line, b"\ntype big 00000003\n"].concat();

@@ -11,7 +11,9 @@ pub mod lines;
 pub mod primitive;
 pub mod recording;
 pub mod refusal;
+pub mod shape;
 pub mod typecode;
+pub mod value;
 
 pub use frame::{frame, Header};
 pub use hexline::{decode, encode};

@@ -1,14 +1,5 @@
 //! Primitives in either byte order.
 
-/// Reads an unsigned short.
-pub fn ushort(octets: [u8; 2], little: bool) -> u16 {
-    if little {
-        u16::from_le_bytes(octets)
-    } else {
-        u16::from_be_bytes(octets)
-    }
-}
-
 /// Reads an unsigned long.
 pub fn ulong(octets: [u8; 4], little: bool) -> u32 {
     if little {
@@ -18,12 +9,15 @@ pub fn ulong(octets: [u8; 4], little: bool) -> u32 {
     }
 }
 
-/// Reads an unsigned long long.
-pub fn ulonglong(octets: [u8; 8], little: bool) -> u64 {
+/// Reads an unsigned number of at most eight octets.
+pub fn number<const SIZE: usize>(octets: [u8; SIZE], little: bool) -> u64 {
+    let mut wide = [0; 8];
     if little {
-        u64::from_le_bytes(octets)
+        wide[..SIZE].copy_from_slice(&octets);
+        u64::from_le_bytes(wide)
     } else {
-        u64::from_be_bytes(octets)
+        wide[8 - SIZE..].copy_from_slice(&octets);
+        u64::from_be_bytes(wide)
     }
 }
 
@@ -38,17 +32,20 @@ pub fn ulong_octets(number: u32, little: bool) -> [u8; 4] {
 
 #[cfg(test)]
 mod tests {
-    use super::{ulong, ulong_octets, ulonglong, ushort};
+    use super::{number, ulong, ulong_octets};
 
     #[test]
     fn reads_both_orders() {
         assert_eq!(ulong([0x01, 0x02, 0x03, 0x04], false), 0x0102_0304);
         assert_eq!(ulong([0x01, 0x02, 0x03, 0x04], true), 0x0403_0201);
-        assert_eq!(ushort([0x01, 0x02], false), 0x0102);
-        assert_eq!(ushort([0x01, 0x02], true), 0x0201);
-        let octets = [0x01, 0x02, 0x03, 0x04, 0x05, 0x06, 0x07, 0x08];
-        assert_eq!(ulonglong(octets, false), 0x0102_0304_0506_0708);
-        assert_eq!(ulonglong(octets, true), 0x0807_0605_0403_0201);
+        assert_eq!(number([0x81], false), 0x81);
+        assert_eq!(number([0x81], true), 0x81);
+        assert_eq!(number([0x81, 0x02], false), 0x8102);
+        assert_eq!(number([0x01, 0x82], true), 0x8201);
+        assert_eq!(number([0x81, 0x02, 0x03, 0x04], false), 0x8102_0304);
+        let octets = [0x81, 0x02, 0x03, 0x04, 0x05, 0x06, 0x07, 0x08];
+        assert_eq!(number(octets, false), 0x8102_0304_0506_0708);
+        assert_eq!(number(octets, true), 0x0807_0605_0403_0281);
     }
 
     #[test]

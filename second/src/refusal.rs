@@ -64,6 +64,23 @@ pub const LOOP: u32 = 39;
 pub const KIND_BELOW_TOP: u32 = 40;
 /// Over 16,384 octets lent.
 pub const OCTETS_TOO_MANY: u32 = 42;
+/// A number not below the count of a value's items.
+pub const NO_SUCH_ITEM: u32 = 49;
+/// Octets of the value end.
+pub const VALUE_CUT: u32 = 50;
+/// A boolean above 1.
+pub const BOOLEAN_UNFIT: u32 = 51;
+/// An enum not below its count of names.
+pub const ENUM_UNFIT: u32 = 52;
+/// A string in a value of length 0, without a last zero octet or with an
+/// earlier one.
+pub const STRING_UNFIT: u32 = 53;
+/// A string or sequence over its bound.
+pub const BOUND_PASSED: u32 = 54;
+/// A visit with 64 open above it.
+pub const TOO_MANY_OPEN: u32 = 55;
+/// No room for a finished item.
+pub const NO_ROOM: u32 = 56;
 
 /// Gives the refusal unless the demand is met.
 pub fn demand(met: bool, refusal: u32) -> Result<(), u32> {

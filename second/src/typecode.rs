@@ -2,11 +2,12 @@
 
 use std::ffi::CStr;
 
-use crate::primitive::{ulong, ulonglong, ushort};
+use crate::primitive::{number, ulong};
 use crate::refusal::{
     demand, COUNT_ZERO, ENCAPSULATION_UNFIT, KIND_BELOW_TOP, KIND_UNKNOWN, LOOP, NESTED_TOO_DEEP,
     OCTETS_TOO_MANY, TARGET_UNFIT, TEXT_UNFIT, TOO_MANY_KINDS, TYPE_CUT, UNION_UNFIT,
 };
+use crate::shape::{Digest, Member, Members, Scalar, Shape, Size, Union};
 
 /// The kind null.
 pub const NULL: u32 = 0;
@@ -85,6 +86,22 @@ pub struct Met {
 /// Checks a TypeCode in the given byte order; refusal 42, then the first of 30
 /// to 38 and 40 in octet order, then 39.
 pub fn check(octets: &[u8], little: bool) -> Result<Checked, u32> {
+    let (used, types) = read_type::<false>(octets, little)?;
+    Ok(Checked {
+        used,
+        kinds: types.kinds.iter().map(|kind| kind.met).collect(),
+    })
+}
+
+/// Checks a TypeCode likewise, for the reading of values.
+pub fn digest(octets: &[u8], little: bool) -> Result<Digest, u32> {
+    let (used, types) = read_type::<true>(octets, little)?;
+    let shapes = types.kinds.iter().map(|kind| kind.shape).collect();
+    Ok(Digest::new(used, shapes, types.members))
+}
+
+/// Reads a TypeCode: the octets used and the kinds met. Refusals as the check's.
+fn read_type<const KEEP: bool>(octets: &[u8], little: bool) -> Result<(usize, Types<KEEP>), u32> {
     demand(octets.len() <= LONGEST_TYPE, OCTETS_TOO_MANY)?;
     let mut top = Part {
         octets,
@@ -92,13 +109,10 @@ pub fn check(octets: &[u8], little: bool) -> Result<Checked, u32> {
         start: 0,
         little,
     };
-    let mut types = Types { kinds: Vec::new() };
+    let mut types = Types::default();
     types.read(&mut top, 1)?;
     demand(!Graph::of(&types).has_loop(), LOOP)?;
-    Ok(Checked {
-        used: top.index,
-        kinds: types.kinds.iter().map(|kind| kind.met).collect(),
-    })
+    Ok((top.index, types))
 }
 
 /// An encapsulation in the reading, or the top, which has no order octet.
@@ -189,55 +203,18 @@ impl<'a> Part<'a> {
         demand(self.rest().is_empty(), ENCAPSULATION_UNFIT)
     }
 
-    /// Reads a label; refusal 30, then 35 if it is out of its kind.
-    fn label(&mut self, labels: Labels) -> Result<u64, u32> {
+    /// Reads a label of a discriminant; refusal 30, then 35 if it is out of its
+    /// kind.
+    fn label(&mut self, discriminant: Scalar) -> Result<u64, u32> {
         let little = self.little;
-        let label = match labels.size {
-            Size::One => u64::from(u8::from_be_bytes(self.primitive()?)),
-            Size::Two => u64::from(ushort(self.primitive()?, little)),
-            Size::Four => u64::from(ulong(self.primitive()?, little)),
-            Size::Eight => ulonglong(self.primitive()?, little),
+        let label = match discriminant.size {
+            Size::One => number::<1>(self.primitive()?, little),
+            Size::Two => number::<2>(self.primitive()?, little),
+            Size::Four => number::<4>(self.primitive()?, little),
+            Size::Eight => number::<8>(self.primitive()?, little),
         };
-        demand(label <= labels.highest, UNION_UNFIT)?;
+        demand(label <= discriminant.highest, UNION_UNFIT)?;
         Ok(label)
-    }
-}
-
-/// The octets of a label.
-#[derive(Clone, Copy)]
-enum Size {
-    /// One octet.
-    One,
-    /// Two octets.
-    Two,
-    /// Four octets.
-    Four,
-    /// Eight octets.
-    Eight,
-}
-
-/// What a discriminant's kind says of the labels. Labels are taken as unsigned.
-#[derive(Clone, Copy)]
-struct Labels {
-    /// The octets of each.
-    size: Size,
-    /// The highest there can be.
-    highest: u64,
-}
-
-impl Labels {
-    /// The labels of a discriminant, if there can be such a one.
-    fn of(discriminant: &Kind) -> Option<Self> {
-        let (size, highest) = match discriminant.number {
-            BOOLEAN => (Size::One, 1),
-            CHAR => (Size::One, u64::MAX),
-            SHORT | USHORT => (Size::Two, u64::MAX),
-            LONG | ULONG => (Size::Four, u64::MAX),
-            ENUM => (Size::Four, u64::from(discriminant.names) - 1),
-            LONGLONG | ULONGLONG => (Size::Eight, u64::MAX),
-            _ => return None,
-        };
-        Some(Labels { size, highest })
     }
 }
 
@@ -257,17 +234,23 @@ struct Kind {
     inside: u64,
     /// The kind without aliases: of a finished alias another one.
     resolved: usize,
-    /// The names of an enum.
-    names: u32,
+    /// What values of it are, once it is finished.
+    shape: Shape,
 }
 
-/// The kinds met, at most 64.
-struct Types {
+/// The kinds met, at most 64. The members are kept for the reading of values, or
+/// only the labels of unions while these are read.
+#[derive(Default)]
+struct Types<const KEEP: bool> {
     /// The kinds, in the order met, which is the order of their places.
     kinds: Vec<Kind>,
+    /// The members of the kinds that are finished, if they are kept.
+    members: Vec<Member>,
+    /// Those of the kinds that are still being read, the top's first.
+    unfinished: Vec<Member>,
 }
 
-impl Types {
+impl<const KEEP: bool> Types<KEEP> {
     /// Reads a type at the given nesting. Says which kind it is, of an
     /// indirection its target.
     fn read(&mut self, part: &mut Part, nesting: usize) -> Result<usize, u32> {
@@ -282,7 +265,7 @@ impl Types {
             little: part.little,
         };
         let kind = self.meet(number, nesting, met)?;
-        self.read_parameters(part, kind)?;
+        self.kinds[kind].shape = self.read_parameters(part, kind)?;
         self.kinds[kind].open = false;
         Ok(kind)
     }
@@ -328,113 +311,163 @@ impl Types {
             open: true,
             inside: 0,
             resolved: kind,
-            names: 0,
+            shape: Shape::Nothing,
         });
         Ok(kind)
     }
 
     /// Reads what follows a kind.
-    fn read_parameters(&mut self, part: &mut Part, kind: usize) -> Result<(), u32> {
+    fn read_parameters(&mut self, part: &mut Part, kind: usize) -> Result<Shape, u32> {
         match self.kinds[kind].number {
-            STRING => part.ulong().map(|_bound| ()),
+            STRING => part.ulong().map(Shape::Text),
             OBJREF..=ENUM | SEQUENCE..=EXCEPTION => {
                 let mut inner = part.encapsulation()?;
-                self.read_encapsulated(&mut inner, kind)?;
-                inner.end()
+                let shape = self.read_encapsulated(&mut inner, kind)?;
+                inner.end()?;
+                Ok(shape)
             }
-            _ => Ok(()),
+            number => Ok(Scalar::primitive(number).map_or(Shape::Nothing, Shape::Scalar)),
         }
     }
 
     /// Reads the parameters that stand in an encapsulation, after its order
     /// octet.
-    fn read_encapsulated(&mut self, part: &mut Part, kind: usize) -> Result<(), u32> {
+    fn read_encapsulated(&mut self, part: &mut Part, kind: usize) -> Result<Shape, u32> {
         match self.kinds[kind].number {
-            OBJREF => part.id_and_name(),
-            STRUCT | EXCEPTION => self.read_struct(part, kind),
+            OBJREF => part.id_and_name().map(|()| Shape::Objref),
+            STRUCT => self.read_struct(part, kind),
+            EXCEPTION => self.read_exception(part, kind),
             UNION => self.read_union(part, kind),
-            ENUM => self.read_enum(part, kind),
+            ENUM => self.read_enum(part),
             ALIAS => self.read_alias(part, kind),
             SEQUENCE => self.read_sequence(part, kind),
             _ => self.read_array(part, kind),
         }
     }
 
-    /// Reads the parameters of a struct or exception.
-    fn read_struct(&mut self, part: &mut Part, kind: usize) -> Result<(), u32> {
+    /// Reads the parameters of a struct.
+    fn read_struct(&mut self, part: &mut Part, kind: usize) -> Result<Shape, u32> {
         part.id_and_name()?;
-        let members = match self.kinds[kind].number {
-            EXCEPTION => part.ulong()?,
-            _ => part.count()?,
-        };
-        for _ in 0..members {
-            self.read_member(part, kind)?;
-        }
-        Ok(())
+        let count = part.count()?;
+        self.read_members(part, kind, count).map(Shape::Struct)
     }
 
-    /// Reads the name and type of a member.
-    fn read_member(&mut self, part: &mut Part, holder: usize) -> Result<(), u32> {
+    /// Reads the parameters of an exception.
+    fn read_exception(&mut self, part: &mut Part, kind: usize) -> Result<Shape, u32> {
+        part.id_and_name()?;
+        let count = part.ulong()?;
+        self.read_members(part, kind, count).map(Shape::Exception)
+    }
+
+    /// Reads so many members.
+    fn read_members(&mut self, part: &mut Part, kind: usize, count: u32) -> Result<Members, u32> {
+        let first = self.unfinished.len();
+        for _ in 0..count {
+            let member = Member {
+                label: 0,
+                kind: self.read_member(part, kind)?,
+            };
+            if KEEP {
+                self.unfinished.push(member);
+            }
+        }
+        Ok(self.finish_members(first))
+    }
+
+    /// Reads the name and type of a member. Says which kind it is.
+    fn read_member(&mut self, part: &mut Part, holder: usize) -> Result<usize, u32> {
         part.text()?;
-        self.read_inside(part, holder)?;
-        Ok(())
+        self.read_inside(part, holder)
+    }
+
+    /// Finishes the members from this one on.
+    fn finish_members(&mut self, first: usize) -> Members {
+        let start = self.members.len();
+        if KEEP {
+            self.members.extend_from_slice(&self.unfinished[first..]);
+        }
+        self.unfinished.truncate(first);
+        Members::new(start..self.members.len())
     }
 
     /// Reads the parameters of a union.
-    fn read_union(&mut self, part: &mut Part, kind: usize) -> Result<(), u32> {
+    fn read_union(&mut self, part: &mut Part, kind: usize) -> Result<Shape, u32> {
         part.id_and_name()?;
         let discriminant = self.read_inside(part, kind)?;
-        let labels = Labels::of(self.resolve(discriminant)).ok_or(UNION_UNFIT)?;
+        let scalar = self.chooser(discriminant).ok_or(UNION_UNFIT)?;
         let default = part.long()?;
-        let members = part.count()?;
-        let highest = i64::from(members) - 1;
+        let count = part.count()?;
+        let highest = i64::from(count) - 1;
         demand((-1..=highest).contains(&default.into()), UNION_UNFIT)?;
-        // The labels read, in rising order.
-        let mut seen = Vec::new();
-        for _ in 0..members {
-            let label = part.label(labels)?;
-            let index = seen.binary_search(&label).err().ok_or(UNION_UNFIT)?;
-            seen.insert(index, label);
-            self.read_member(part, kind)?;
+        let default_number = u32::try_from(default).ok();
+        let mut default = None;
+        let first = self.unfinished.len();
+        for number in 0..count {
+            let label = part.label(scalar)?;
+            let index = self.label_index(first, label)?;
+            let member = self.read_member(part, kind)?;
+            let labelled = Member {
+                label,
+                kind: member,
+            };
+            self.unfinished.insert(index, labelled);
+            if default_number == Some(number) {
+                default = Some(member);
+            }
         }
-        Ok(())
+        Ok(Shape::Union(Union {
+            discriminant,
+            members: self.finish_members(first),
+            default,
+        }))
     }
 
-    /// The kind without aliases.
-    fn resolve(&self, kind: usize) -> &Kind {
-        &self.kinds[self.kinds[kind].resolved]
+    /// Where a label belongs among those of the members from this one on, which
+    /// are in rising order; refusal 35.
+    fn label_index(&self, first: usize, label: u64) -> Result<usize, u32> {
+        let found = self.unfinished[first..].binary_search_by_key(&label, |member| member.label);
+        let index = found.err().ok_or(UNION_UNFIT)?;
+        Ok(first + index)
+    }
+
+    /// What a union is chosen by whose discriminant is this kind, aliased or
+    /// not, if it can be chosen by that.
+    fn chooser(&self, kind: usize) -> Option<Scalar> {
+        match self.kinds[self.kinds[kind].resolved].shape {
+            Shape::Scalar(scalar) if scalar.can_choose() => Some(scalar),
+            _ => None,
+        }
     }
 
     /// Reads the parameters of an enum.
-    fn read_enum(&mut self, part: &mut Part, kind: usize) -> Result<(), u32> {
+    fn read_enum(&mut self, part: &mut Part) -> Result<Shape, u32> {
         part.id_and_name()?;
         let names = part.count()?;
-        self.kinds[kind].names = names;
         for _ in 0..names {
             part.text()?;
         }
-        Ok(())
+        Ok(Shape::Scalar(Scalar::enumeration(names)))
     }
 
     /// Reads the parameters of an alias. A kind that is still being read is no
     /// alias, so that the type's own aliases are resolved by now.
-    fn read_alias(&mut self, part: &mut Part, kind: usize) -> Result<(), u32> {
+    fn read_alias(&mut self, part: &mut Part, kind: usize) -> Result<Shape, u32> {
         part.id_and_name()?;
         let aliased = self.read_inside(part, kind)?;
         self.kinds[kind].resolved = self.kinds[aliased].resolved;
-        Ok(())
+        Ok(Shape::Alias(aliased))
     }
 
     /// Reads the parameters of a sequence.
-    fn read_sequence(&mut self, part: &mut Part, kind: usize) -> Result<(), u32> {
-        self.read_inside(part, kind)?;
-        part.ulong().map(|_bound| ())
+    fn read_sequence(&mut self, part: &mut Part, kind: usize) -> Result<Shape, u32> {
+        let element = self.read_inside(part, kind)?;
+        part.ulong().map(|bound| Shape::Sequence(element, bound))
     }
 
     /// Reads the parameters of an array.
-    fn read_array(&mut self, part: &mut Part, kind: usize) -> Result<(), u32> {
-        self.read_inside(part, kind)?;
-        part.count().map(|_length| ())
+    fn read_array(&mut self, part: &mut Part, kind: usize) -> Result<Shape, u32> {
+        let element = self.read_inside(part, kind)?;
+        part.count().map(|length| Shape::Array(element, length))
     }
 }
 
@@ -446,7 +479,7 @@ struct Graph {
 
 impl Graph {
     /// The steps of a type; from a sequence there is none.
-    fn of(types: &Types) -> Self {
+    fn of<const KEEP: bool>(types: &Types<KEEP>) -> Self {
         let steps = types.kinds.iter().map(|kind| match kind.number {
             SEQUENCE => 0,
             _ => kind.inside,

@@ -11,6 +11,7 @@ use borrow.Author.Tests.{lt-ltb, le-ltb, ltb-true, ltb-false}
 use Rattle.choices.proofs.Choices.{by-test}
 use Rattle.choices.specs.Branch.{choose}
 use Rattle.decimals.specs.Decimal.{digit, decimalWithin, decimal}
+use Rattle.decimals.specs.Numerals.{valueFrom}
 
 -- a number of one digit, and of more
 pub one-digit : (n x : ℕ) → x < 10 → decimalWithin (suc n) x ≡ digit x ∷ []
@@ -71,11 +72,7 @@ module _ (x n rest : ℕ) (l end : List ℕ) (f : n ≤ length l) (e : decimalWi
       let s : suc (n - 1) ≡ n = omega arith in
       first-stored l (n - 1) rest (omega arith) h ∙ rw s e
 
--- the number that decimal digits stand for, after the digits before them
-abbrev pub valueFrom : ℕ → List ℕ → ℕ
-valueFrom before [] = before
-valueFrom before (d ∷ ds) = valueFrom (before * 10 + (d - 48)) ds
-
+-- the last digit of more
 value-last : (before : ℕ) (ds : List ℕ) (d : ℕ) → valueFrom before (ds ++ (d ∷ [])) ≡ valueFrom before ds * 10 + (d - 48)
 value-last before [] d = refl
 value-last before (x ∷ ds) d = value-last (before * 10 + (x - 48)) ds d
@@ -144,3 +141,16 @@ decimal-is x h =
       leading = within-leading 20 x h;
       zero-is = λ e. rw e (one-digit 19 0 (omega arith));
     }
+
+-- the digits of a number counted, one less left with each turn, and the first
+module _ (n x : ℕ) (h : 0 < n) (k : n ≤ 20) where
+  left-is : 21 - n ≡ suc (20 - n)
+  left-is = omega arith
+
+  pub counted-turn : 10 ≤ x → length (decimalWithin (21 - n) x) ≡ length (decimalWithin (21 - (n + 1)) (x / 10)) + 1
+  counted-turn t =
+      let e : 21 - (n + 1) ≡ 20 - n = omega arith in
+      rw (left-is, more-digits (20 - n) x t, e, length-append)
+
+  pub counted-last : x < 10 → length (decimalWithin (21 - n) x) ≡ 1
+  counted-last t = rw (left-is, one-digit (20 - n) x t)

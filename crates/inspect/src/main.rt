@@ -1,9 +1,14 @@
-// Answers questions about types: each line of standard input is a question, each line of standard output its answer. A read or a write that
-// fails is said on standard error, and no more answers are written.
+// Answers questions about types and values: each line of standard input is a question, each line of standard output its answer. A read or a
+// write that fails is said on standard error, and no more answers are written.
 use libc::STDERR_FILENO;
 use libc::STDIN_FILENO;
 use libc::STDOUT_FILENO;
 use questions::LINE_ROOM;
+use questions::LONGEST;
+use questions::TABLE_ROOM;
+
+// The characters that answers are gathered to, at least, before they are written.
+const GATHERED: usize = 65536;
 
 // Where answering stands: the characters kept of the line begun, and whether every read and write has gone well.
 struct Standing {
@@ -14,16 +19,17 @@ struct Standing {
 fn main() {
     let mut block = io::large_buffer();
     let mut line = [0u8; LINE_ROOM];
-    let mut out = [0u8; 65536];
-    let read = read_all(&mut block, &mut line, &mut out);
+    let mut out = [0u8; LONGEST + GATHERED];
+    let mut table = [0u64; TABLE_ROOM];
+    let read = read_all(&mut block, &mut line, &mut out, &mut table);
     if !read.ok {
         return;
     }
-    end_line(&mut line, &mut out, read.kept);
+    end_line(&mut line, &mut out, &mut table, read.kept);
 }
 
 // Reads standard input to its end, and writes the answer of every line that ends in an LF.
-fn read_all(block: &mut [u8], line: &mut [u8], out: &mut [u8]) -> Standing {
+fn read_all(block: &mut [u8], line: &mut [u8], out: &mut [u8], table: &mut [u64]) -> Standing {
     let mut kept = 0;
     // A proved loop has to end, and nothing says that the input does: no run uses up so many turns.
     let mut turns = u64::MAX;
@@ -36,7 +42,7 @@ fn read_all(block: &mut [u8], line: &mut [u8], out: &mut [u8]) -> Standing {
         if n == 0 {
             return Standing { kept, ok: true };
         }
-        let taken = take_block(&block[..n], line, out, kept);
+        let taken = take_block(&block[..n], line, out, table, kept);
         if !taken.ok {
             return taken;
         }
@@ -47,11 +53,17 @@ fn read_all(block: &mut [u8], line: &mut [u8], out: &mut [u8]) -> Standing {
 }
 
 // Writes the answers of the lines that end in a block, as many at a time as there is memory for.
-fn take_block(block: &[u8], line: &mut [u8], out: &mut [u8], before: usize) -> Standing {
+fn take_block(
+    block: &[u8],
+    line: &mut [u8],
+    out: &mut [u8],
+    table: &mut [u64],
+    before: usize,
+) -> Standing {
     let mut kept = before;
     let mut from = 0;
     while from < block.len() {
-        let done = questions::answer_block(block, from, line, out, kept);
+        let done = questions::answer_block(block, from, line, out, table, kept);
         kept = done.kept;
         let next = done.next;
         if next <= from {
@@ -66,11 +78,11 @@ fn take_block(block: &[u8], line: &mut [u8], out: &mut [u8], before: usize) -> S
 }
 
 // Answers the line that was begun, if one was, as an LF would end it.
-fn end_line(line: &mut [u8], out: &mut [u8], kept: usize) {
+fn end_line(line: &mut [u8], out: &mut [u8], table: &mut [u64], kept: usize) {
     if kept == 0 {
         return;
     }
-    take_block(b"\n", line, out, kept);
+    take_block(b"\n", line, out, table, kept);
 }
 
 // Writes the first characters of the output's memory; says whether that went well.

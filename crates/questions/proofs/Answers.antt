@@ -2,41 +2,41 @@
 use mathlib.Core.Path.{_≡_, refl, sym, ap, _∙_}
 use mathlib.Core.Bool.{true, false}
 use mathlib.Core.List.{List, [], _∷_, _++_}
-use Prim.Native.Nat.{ℕ, _+_, _-_, _*_, _%_, _<_, _≤_}
+use Prim.Native.Nat.{ℕ, zero, suc, _+_, _-_, _*_, _%_, _<_, _≤_}
 use native.Mathlib.Omega.{arith}
 use types.Run.{OneOf, miss}
 use denote.Enum.Declared.{tagOf}
 use lib.Dec.{eqb}
 use lib.ListN.{length, take, drop, length-drop}
 use lib.Seq.{take-all}
-use borrow.Author.Tests.{eq-eqb, ne-eqb, eqb-false, lt-ltb, le-ltb}
+use borrow.Author.Tests.{eq-eqb, ne-eqb, eqb-false}
 use Rattle.choices.proofs.Choices.{by-test}
 use Rattle.choices.specs.Branch.{choose}
 use Rattle.cdr.specs.declared.Order.{Order}
 use Rattle.cdr.specs.declared.Named.{Named}
 use Rattle.cdr.specs.declared.Named.the-variants.{Is, NoOrder}
-use Rattle.decimals.specs.Decimal.{decimal}
-use Rattle.decimals.specs.Puts.{Put}
-use Rattle.decimals.proofs.Puts.{take-written, put-taken, number-most}
+use Rattle.decimals.proofs.Puts.{take-written}
 use Rattle.hexline.specs.declared.Decoded.{Decoded}
 use Rattle.hexline.specs.declared.Decoded.the-variants.{Octets}
 use Rattle.hexline.specs.Decoding.{allDigits, lineOctets, digitsDecoded, Decodes}
 use Rattle.hexline.proofs.Answers.{taken, digits-accepted}
 use Rattle.hexline.proofs.Laws.{octets-length}
 use Rattle.hexline.proofs.Decoded.{the-type as decoded-type}
-use Rattle.lines.specs.Lines.{lf}
 use Rattle.typecode.specs.declared.TypeAnswer.{TypeAnswer}
 use Rattle.typecode.specs.declared.TypeAnswer.the-variants.{Accepted as ok, Refused as refused, Loop}
 use Rattle.typecode.specs.TypeCode.{answerNumber, checkedType}
 use Rattle.typecode.proofs.TypeAnswer.{the-type as answer-type}
-use Rattle.questions.specs.declared.Reply.{Reply}
-use Rattle.questions.specs.declared.Reply.the-variants.{Accepted, Refused, NoQuestion}
-use Rattle.questions.specs.declared.words.Octets.{Octets as OctetsAnswer}
-use Rattle.questions.specs.declared.words.Octets.the-variants.{Count, NotOctets}
-use Rattle.questions.specs.Words.{space, wordsFrom, words, sameWord, noneWord, orderWord, octets, octetsWord}
-use Rattle.questions.specs.Questions.{lineMost, typeWord, noQuestion, orderedType, namedType, typeQuestion, questionOf}
-use Rattle.questions.specs.Replies.{typeReply, replyTo, acceptedText, refusedText, replyText, answerLine}
-use Rattle.questions.specs.Inner.{FirstWord, WordRead}
+use Rattle.words.specs.Words.{space, wordsFrom, words, sameWord, orderWord}
+use Rattle.words.specs.Found.{FirstWord}
+use Rattle.printing.specs.declared.Reply.{Reply}
+use Rattle.printing.specs.declared.Reply.the-variants.{Typed, Read, Refused, Unread, Signed, Unsigned, Single, Double, NoQuestion}
+use Rattle.printing.proofs.Reply.{the-type as reply-type}
+use Rattle.questions.specs.declared.octets.Octets.{Octets as OctetsAnswer}
+use Rattle.questions.specs.declared.octets.Octets.the-variants.{Count, NotOctets}
+use Rattle.questions.specs.Octets.{noneWord, octets, octetsWord}
+use Rattle.questions.specs.Questions.{noQuestion, orderedType, namedType, typeQuestion}
+use Rattle.questions.specs.Replies.{typeReply, itemShown, replyTo}
+use Rattle.questions.specs.Inner.{WordRead, numbersOf}
 
 -- a part up to the end of a line
 pub part-all : (v : List ℕ) (b : ℕ) → take (length v - b) (drop b v) ≡ drop b v
@@ -125,41 +125,21 @@ module _ (rest : List ℕ) (end : ℕ) (f : FirstWord rest end) where
         → replyTo (orderedType order (words (take (length rest - (end + 1)) (drop (end + 1) rest)))) ≡ replyTo (typeQuestion (words rest))
     type-ordered order e = rw (part-all rest (end + 1), f .more h, ← e)
 
--- a line, by its first word
-module _ (line : List ℕ) where
-  pub line-over : lineMost < length line → NoQuestion ≡ replyTo (questionOf line)
-  unfolding questionOf choose
-  line-over h = rw (lt-ltb lineMost (length line) h)
+-- an item by its case: the last of four
+pub shown-last : (case bits : ℕ) → (case ≡ 0 → ⊥) → (case ≡ 1 → ⊥) → (case ≡ 2 → ⊥) → Double bits ≡ itemShown case bits
+shown-last zero bits a b c = absurd (a refl)
+shown-last (suc zero) bits a b c = absurd (b refl)
+shown-last (suc (suc zero)) bits a b c = absurd (c refl)
+shown-last (suc (suc (suc n))) bits a b c = refl
 
-  module _ (l : length line ≤ lineMost) (end : ℕ) (f : FirstWord line end) where
-    pub line-alone : length line ≤ end → NoQuestion ≡ replyTo (questionOf line)
-    unfolding questionOf choose
-    line-alone h = rw (le-ltb lineMost (length line) l, f .only h) (by-test (sameWord line typeWord) (λ e. rw e) (λ e. rw e))
-
-    module _ (h : end < length line) where
-      pub line-type : true ≡ sameWord (take end line) typeWord
-          → replyTo (typeQuestion (words (take (length line - (end + 1)) (drop (end + 1) line)))) ≡ replyTo (questionOf line)
-      unfolding questionOf choose
-      line-type e = rw (part-all line (end + 1), le-ltb lineMost (length line) l, f .more h, ← e)
-
-      pub line-other : false ≡ sameWord (take end line) typeWord → NoQuestion ≡ replyTo (questionOf line)
-      unfolding questionOf choose
-      line-other e = rw (le-ltb lineMost (length line) l, f .more h, ← e)
-
--- the text of an answer fits 45 characters, and stands where it was put
-pub text-most : (reply : Reply) → length (replyText reply) ≤ 45
-unfolding acceptedText refusedText
-text-most (Accepted used kinds) =
-    omega (arith, number-most used (space ∷ (decimal kinds ++ (lf ∷ []))), number-most kinds (lf ∷ []))
-text-most (Refused number) = omega (arith, number-most number (lf ∷ []))
-text-most NoQuestion = omega arith
-
-module _ (line : List ℕ) (reply : Reply) (e : reply ≡ replyTo (questionOf line)) (out : List ℕ) (end : ℕ) (last : List ℕ)
-    (p : Put out 0 (replyText reply) end last) (n : length out ≡ 45)
-  where
-    pub text-end : end ≤ 45
-    text-end = omega (arith, p .end, text-most reply)
-
-    pub text-is : take end last ≡ answerLine line
-    unfolding answerLine
-    text-is = put-taken p (omega (arith, text-end)) ∙ ap replyText e
+-- the numbers of an answer that is no value
+pub numbers-none : (r : Reply) → OneOf (0 ∷ 2 ∷ 3 ∷ 4 ∷ 5 ∷ 6 ∷ 7 ∷ 8 ∷ []) (tagOf reply-type r) → 0 ≡ numbersOf r
+numbers-none (Read used visits count) k = absurd (miss (0 ∷ 2 ∷ 3 ∷ 4 ∷ 5 ∷ 6 ∷ 7 ∷ 8 ∷ []) 1 tt k)
+numbers-none (Typed used kinds) k = refl
+numbers-none (Refused number) k = refl
+numbers-none (Unread number visits) k = refl
+numbers-none (Signed x) k = refl
+numbers-none (Unsigned x) k = refl
+numbers-none (Single x) k = refl
+numbers-none (Double x) k = refl
+numbers-none NoQuestion k = refl

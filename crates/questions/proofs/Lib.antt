@@ -1,6 +1,7 @@
--- Words found and compared, and what the steps of answering a line amount to; what need not be kept of a line, the turns of a block, calls over a whole input, and samples.
-pub mod Found
+-- What the steps of answering a line amount to; what need not be kept of a line, the turns of a block, calls over a whole input, and samples.
 pub mod Answers
+pub mod Readings
+pub mod Firsts
 pub mod Cuts
 pub mod Turns
 pub mod Inputs

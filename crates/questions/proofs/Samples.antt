@@ -1,16 +1,18 @@
 -- The definitions at small inputs, computed.
 use mathlib.Core.Path.{_≡_, refl}
-use mathlib.Core.List.{List, [], _∷_}
+use mathlib.Core.List.{List, [], _∷_, _++_}
 use Prim.Native.Nat.{ℕ}
 use Rattle.choices.specs.Branch.{choose}
 use Rattle.cdr.specs.declared.Order.the-variants.{Big, Little}
-use Rattle.decimals.specs.Decimal.{decimalWithin}
+use Rattle.decimals.specs.Numerals.{allNumerals, numberUpto, numberFrom, numberWord}
 use Rattle.hexline.specs.Digit.{isDigit, digitValue}
 use Rattle.hexline.specs.Decoding.{octetOf, allDigits, lineOctets}
-use Rattle.questions.specs.declared.Reply.the-variants.{Accepted, Refused, NoQuestion}
-use Rattle.questions.specs.Words.{wordsFrom, sameWord, orderWord, octetsWord}
-use Rattle.questions.specs.Questions.{typeIn, noQuestion, questionOf}
-use Rattle.questions.specs.Replies.{acceptedText, refusedText, replyText}
+use Rattle.cdr.specs.Align.{indexOf}
+use Rattle.reading.specs.Sinks.{source}
+use Rattle.words.specs.Words.{wordsFrom, sameWord, orderWord}
+use Rattle.words.specs.Fields.{codedFirst, fieldsOf}
+use Rattle.questions.specs.Octets.{octetsWord}
+use Rattle.questions.specs.Questions.{valueWord, itemWord, typeIn, valueIn, itemIn, noQuestion, aboutOf, questionOf}
 
 -- `type ` and `type big `
 abbrev behindType : List ℕ → List ℕ
@@ -39,10 +41,25 @@ pub not-asked :
 unfolding choose isDigit digitValue octetOf allDigits lineOctets wordsFrom sameWord orderWord octetsWord questionOf
 not-asked = (refl, refl, refl, refl, refl, refl, refl)
 
--- `ok 20 2`, `no 39`, `?`, each with its LF
-pub texts :
-    (replyText (Accepted 20 2) ≡ 111 ∷ 107 ∷ 32 ∷ 50 ∷ 48 ∷ 32 ∷ 50 ∷ 10 ∷ [])
-    × (replyText (Refused 39) ≡ 110 ∷ 111 ∷ 32 ∷ 51 ∷ 57 ∷ 10 ∷ [])
-    × (replyText NoQuestion ≡ 63 ∷ 10 ∷ [])
-unfolding choose decimalWithin acceptedText refusedText
-texts = (refl, refl, refl)
+-- `value big 00 little 0A 7 ROOM`, and `item` with NUMBER
+abbrev behindWord : List ℕ → List ℕ → List ℕ
+behindWord word rest =
+    word ++ (32 ∷ 98 ∷ 105 ∷ 103 ∷ 32 ∷ 48 ∷ 48 ∷ 32 ∷ 108 ∷ 105 ∷ 116 ∷ 116 ∷ 108 ∷ 101 ∷ 32 ∷ 48 ∷ 65 ∷ 32 ∷ 55 ∷ 32 ∷ rest)
+
+abbrev behindValue : List ℕ → List ℕ
+behindValue rest = behindWord valueWord rest
+
+abbrev behindItem : List ℕ → List ℕ
+behindItem rest = behindWord itemWord rest
+
+-- a room of 007; an item 18446744073709551615; one more is no question, nor is a room that is missing, has a sign, or has a word behind it
+pub asked-values :
+    (questionOf (behindValue (48 ∷ 48 ∷ 55 ∷ [])) ≡ valueIn Big (0 ∷ []) (source (10 ∷ []) Little (indexOf 7)) 7)
+    × (questionOf (behindItem (49 ∷ 56 ∷ 52 ∷ 52 ∷ 54 ∷ 55 ∷ 52 ∷ 52 ∷ 48 ∷ 55 ∷ 51 ∷ 55 ∷ 48 ∷ 57 ∷ 53 ∷ 53 ∷ 49 ∷ 54 ∷ 49 ∷ 53 ∷ []))
+    ≡ itemIn Big (0 ∷ []) (source (10 ∷ []) Little (indexOf 7)) 18446744073709551615)
+    × (questionOf (behindItem (49 ∷ 56 ∷ 52 ∷ 52 ∷ 54 ∷ 55 ∷ 52 ∷ 52 ∷ 48 ∷ 55 ∷ 51 ∷ 55 ∷ 48 ∷ 57 ∷ 53 ∷ 53 ∷ 49 ∷ 54 ∷ 49 ∷ 54 ∷ [])) ≡ noQuestion)
+    × (questionOf (behindValue []) ≡ noQuestion)
+    × (questionOf (behindValue (45 ∷ 55 ∷ [])) ≡ noQuestion)
+    × (questionOf (behindValue (55 ∷ 32 ∷ 55 ∷ [])) ≡ noQuestion)
+unfolding choose isDigit digitValue octetOf allDigits lineOctets wordsFrom sameWord orderWord octetsWord codedFirst fieldsOf aboutOf allNumerals numberUpto numberFrom numberWord questionOf
+asked-values = (refl, refl, refl, refl, refl, refl)

@@ -18,16 +18,11 @@ use Rattle.writing.specs.Write.{Stored}
 use Rattle.writing.proofs.Stores.{take-stored, drop-stored}
 use Rattle.decimals.proofs.Puts.{put-upto, put-always}
 use Rattle.questions.specs.declared.Progress.{Progress}
-use Rattle.questions.specs.Questions.{questionOf}
-use Rattle.questions.specs.Replies.{replyTo, answerLine}
-use Rattle.questions.specs.Blocks.{longest, answersOf, answersAfter, BlockAnswered}
+use Rattle.questions.specs.Replies.{answerLine}
+use Rattle.questions.specs.Blocks.{answersOf, answersAfter, BlockAnswered}
 use Rattle.questions.specs.Turns.{Goes, Onto}
-use Rattle.questions.proofs.Answers.{text-most}
+use Rattle.questions.proofs.Firsts.{answer-most}
 use Rattle.questions.proofs.Cuts.{answer-same, begun-cut}
-
-pub answer-most : (line : List ℕ) → length (answerLine line) ≤ longest
-unfolding answerLine
-answer-most line = text-most (replyTo (questionOf line))
 
 pub onto-self : (block : List ℕ) (a : Progress) (line out : List ℕ) → Onto block a line out a line out
 onto-self block a line out =
@@ -71,7 +66,7 @@ onto-then {block} {a} {line} {out} {b} {lineThen} {outThen} {c} p q =
     }
 
 -- a turn
-module _ (block : List ℕ) (at : Progress) (line out : List ℕ) (g : Goes (length block) (length line) (length out) at) (t : Taken) (l : List ℕ)
+module _ (block : List ℕ) (at : Progress) (line out : List ℕ) (table : ℕ) (g : Goes (length block) (length line) (length out) table at) (t : Taken) (l : List ℕ)
     (k : LineTaken block (at .next) line (at .kept) t l)
   where
     abbrev taken : Taken
@@ -178,10 +173,10 @@ module _ (block : List ℕ) (at : Progress) (line out : List ℕ) (g : Goes (len
           })
 
 -- a whole call
-pub block-answered : (block : List ℕ) (from : ℕ) (line out : List ℕ) (kept : ℕ) (start r : Progress) (lineLast outLast : List ℕ)
+pub block-answered : (block : List ℕ) (from : ℕ) (line out : List ℕ) (table kept : ℕ) (start r : Progress) (lineLast outLast : List ℕ)
     → start ≡ record { kept = kept; next = min from (length block); filled = 0 } → Onto block start line out r lineLast outLast
-    → (Goes (length block) (length lineLast) (length outLast) r → ⊥) → BlockAnswered block from line out kept r lineLast outLast
-block-answered block from line out kept start r lineLast outLast e o off =
+    → (Goes (length block) (length lineLast) (length outLast) table r → ⊥) → BlockAnswered block from line out table kept r lineLast outLast
+block-answered block from line out table kept start r lineLast outLast e o off =
     let p : Onto block (record { kept = kept; next = min from (length block); filled = 0 }) line out r lineLast outLast = rw e at o in
     let i = p .inside (omega arith) in
     let z = p .sized in
@@ -190,15 +185,15 @@ block-answered block from line out kept start r lineLast outLast e o off =
       answered = λ rest. sym (ap (λ (x : List ℕ). answersAfter kept line (x ++ rest)) (drop-within from block)) ∙ p .answered rest;
       within = p .within (omega arith);
       unfilled = p .unfilled;
-      reached = λ h k.
+      reached = λ h g k.
           by-test (ltb (r .next) (length block))
-          (λ t. absurd (off (record { more = ltb-true _ _ t; whole = omega arith; room = omega arith })))
+          (λ t. absurd (off (record { more = ltb-true _ _ t; whole = omega arith; tabled = g; room = omega arith })))
           (λ t. omega (arith, ltb-false (r .next) (length block) t));
-      onward = λ h k l.
+      onward = λ h g k l.
           by-test (ltb (r .next) (length block))
           (λ t.
           by-test (ltb 0 (r .filled))
           (λ u. omega (arith, p .moved (ltb-true _ _ u)))
-          (λ u. let v = ltb-false 0 (r .filled) u in absurd (off (record { more = ltb-true _ _ t; whole = omega arith; room = omega arith }))))
+          (λ u. let v = ltb-false 0 (r .filled) u in absurd (off (record { more = ltb-true _ _ t; whole = omega arith; tabled = g; room = omega arith }))))
           (λ t. let v = ltb-false (r .next) (length block) t in omega arith);
     }

@@ -1,6 +1,8 @@
 -- What answering a block of the input gives.
 --   lineRoom         the characters that are kept of a line: one more than a line may have tells an over-long one
---   longest          the characters of the longest answer: two numbers of at most 20 digits, `ok`, two spaces and an LF
+--   tableRoom        the numbers of a table for 16,384 items
+--   longest          the characters of the longest answer: three numbers of at most 20 digits, `ok` and four spaces; and 16,384 items of three
+--                    such numbers, two colons and a comma or an LF
 --   answersOf        the text that lines are answered: "each output line its answer"
 --   answersAfter     the text that is owed where characters of a line are kept, by the input that is left
 --   BlockAnswered    what a call ensures
@@ -15,8 +17,11 @@ use Rattle.questions.specs.Replies.{answerLine}
 abbrev pub lineRoom : ℕ
 lineRoom = 131073
 
+abbrev pub tableRoom : ℕ
+tableRoom = 49152
+
 abbrev pub longest : ℕ
-longest = 45
+longest = 1032258
 
 unfoldable pub answersOf : List (List ℕ) → List ℕ
 answersOf [] = []
@@ -29,12 +34,12 @@ answersAfter kept line input = answersOf (linesFrom (take kept line) input)
 --   answered    the text, and what is owed after it, are what was owed, whatever follows the block
 --   within      the text fits,
 --   unfilled    and the output behind it is as it was
---   reached     where room is left for one more answer, the whole block was taken,
+--   reached     where room is left for one more answer, in a table of enough numbers, the whole block was taken,
 --   onward      and a call that has room for one takes some of it
-pub record BlockAnswered (block : List ℕ) (from : ℕ) (line out : List ℕ) (kept : ℕ) (r : Progress) (lineLast outLast : List ℕ) : Type 0 where
+pub record BlockAnswered (block : List ℕ) (from : ℕ) (line out : List ℕ) (table kept : ℕ) (r : Progress) (lineLast outLast : List ℕ) : Type 0 where
   pub answered : (rest : List ℕ) → answersAfter kept line (drop from block ++ rest)
       ≡ take (r .filled) outLast ++ answersAfter (r .kept) lineLast (drop (r .next) block ++ rest)
   pub within : r .filled ≤ length out
   pub unfilled : drop (r .filled) outLast ≡ drop (r .filled) out
-  pub reached : lineRoom ≤ length line → r .filled + longest ≤ length out → r .next ≡ length block
-  pub onward : lineRoom ≤ length line → longest ≤ length out → from < length block → from < r .next
+  pub reached : lineRoom ≤ length line → tableRoom ≤ table → r .filled + longest ≤ length out → r .next ≡ length block
+  pub onward : lineRoom ≤ length line → tableRoom ≤ table → longest ≤ length out → from < length block → from < r .next

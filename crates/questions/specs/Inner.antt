@@ -1,20 +1,31 @@
 -- What the private functions of the crate promise each other; nothing that a caller is told rests on these names.
---   FirstWord     where the first word ends: it is the only one (only), or others follow its space (more)
 --   octetsRead    what a word is as octets, by the answer and the memory that they were written into
 --   countOf       how many octets are written
 --   WordRead      what a word stands for was read, and is within the memory
+--   aboutRead     the words of a question about a value, by the answer and the memory that the octets were written into
+--   typesOf       how many octets of the type are written
+--   valuesOf      how many octets of the value are written
+--   AboutRead     the words were read, and the octets are within the memory
+--   numbersOf     how many numbers of the table an answer has
+--   Replied       a question's answer was found, and its items are in the table
 use mathlib.Core.Path.{_≡_}
-use mathlib.Core.List.{List, [], _∷_}
-use Prim.Native.Nat.{ℕ, _+_, _<_, _≤_}
-use lib.ListN.{length, take, drop}
-use Rattle.questions.specs.declared.words.Octets.{Octets}
-use Rattle.questions.specs.declared.words.Octets.the-variants.{Count, NotOctets}
-use Rattle.questions.specs.Words.{words, Octets as OctetsOf, octets, notOctets, octetsWord}
-
-pub record FirstWord (line : List ℕ) (r : ℕ) : Type 0 where
-  pub within : r ≤ length line
-  pub only : length line ≤ r → words line ≡ line ∷ []
-  pub more : r < length line → words line ≡ take r line ∷ words (drop (r + 1) line)
+use mathlib.Core.List.{List}
+use Prim.Native.Nat.{ℕ, _*_, _≤_}
+use lib.ListN.{length, take}
+use Rattle.cdr.specs.Align.{indexOf}
+use Rattle.reading.specs.Sinks.{source}
+use Rattle.words.specs.Words.{words}
+use Rattle.words.specs.Fields.{fieldsOf}
+use Rattle.printing.specs.declared.Reply.{Reply}
+use Rattle.printing.specs.declared.Reply.the-variants.{Typed, Read, Refused, Unread, Signed, Unsigned, Single, Double, NoQuestion}
+use Rattle.printing.specs.Items.{itemsOf}
+use Rattle.questions.specs.declared.octets.Octets.{Octets}
+use Rattle.questions.specs.declared.octets.Octets.the-variants.{Count, NotOctets}
+use Rattle.questions.specs.declared.about.About.{About}
+use Rattle.questions.specs.declared.about.About.the-variants.{Is, NotAbout}
+use Rattle.questions.specs.Octets.{Octets as OctetsOf, octets, notOctets, octetsWord}
+use Rattle.questions.specs.Questions.{Question, About as AboutOf, about, notAbout, aboutOf}
+use Rattle.questions.specs.Replies.{replyTo, itemsIn}
 
 abbrev pub octetsRead : Octets → List ℕ → OctetsOf
 octetsRead (Count n) memory = octets (take n memory)
@@ -27,3 +38,37 @@ countOf NotOctets = 0
 pub record WordRead (word : List ℕ) (r : Octets) (memory : List ℕ) : Type 0 where
   pub stands : octetsRead r memory ≡ octetsWord word
   pub within : countOf r ≤ length memory
+
+abbrev pub aboutRead : About → List ℕ → List ℕ → AboutOf
+aboutRead (Is typed types order values start number) t v =
+    about typed (take types t) (source (take values v) order (indexOf start)) number
+aboutRead NotAbout t v = notAbout
+
+abbrev pub typesOf : About → ℕ
+typesOf (Is typed types order values start number) = types
+typesOf NotAbout = 0
+
+abbrev pub valuesOf : About → ℕ
+valuesOf (Is typed types order values start number) = values
+valuesOf NotAbout = 0
+
+pub record AboutRead (rest : List ℕ) (r : About) (t v : List ℕ) : Type 0 where
+  pub stands : aboutRead r t v ≡ aboutOf (fieldsOf (words rest))
+  pub typed : typesOf r ≤ length t
+  pub valued : valuesOf r ≤ length v
+
+abbrev pub numbersOf : Reply → ℕ
+numbersOf (Read used visits count) = count * 3
+numbersOf (Typed used kinds) = 0
+numbersOf (Refused number) = 0
+numbersOf (Unread number visits) = 0
+numbersOf (Signed x) = 0
+numbersOf (Unsigned x) = 0
+numbersOf (Single x) = 0
+numbersOf (Double x) = 0
+numbersOf NoQuestion = 0
+
+pub record Replied (q : Question) (r : Reply) (table : List ℕ) : Type 0 where
+  pub reply : r ≡ replyTo q
+  pub items : itemsOf (take (numbersOf r) table) ≡ itemsIn q
+  pub within : numbersOf r ≤ length table

@@ -1,5 +1,5 @@
 -- The questions that a line may be, and their answers.
-pub mod Words
+pub mod Octets
 pub mod Questions
 pub mod Replies
 pub mod Blocks

@@ -1,13 +1,18 @@
 -- What a line asks: "each input line is a question".
---   lineMost        the most characters of a line
---   typeWord        the word `type`
---   Question        the check of octets as a type in a byte order, or no question
---   typeOctets      the question by the octets that TYPE stands for
---   orderedType     by the words behind ORDER: TYPE, and no more
---   namedType       by the order that ORDER names
---   typeQuestion    by the words behind `type`: ORDER and those behind it
---   questionFrom    by the words of a line: the first says what is asked
---   questionOf      by a line; one of more characters than a line may have is no question
+--   lineMost                         the most characters of a line
+--   typeWord, valueWord, itemWord    the words `type`, `value` and `item`
+--   Question                         the check of octets as a type in a byte order; the reading of a value under a type, with room for so many
+--                                    items; an item of it by number; or no question
+--   typeOctets                       the question by the octets that TYPE stands for
+--   orderedType                      by the words behind ORDER: TYPE, and no more
+--   namedType                        by the order that ORDER names
+--   typeQuestion                     by the words behind `type`: ORDER and those behind it
+--   About                            a type's order and octets, a value, and ROOM or NUMBER; or that the words are others
+--   onOctets                         what follows octets that a word stands for
+--   aboutOf                          by the words behind `value` or `item`: what TYPE and VALUE stand for, START the index of the value's first octet
+--   aboutQuestion                    the question about a value
+--   questionFrom                     by the words of a line: the first says what is asked
+--   questionOf                       by a line; one of more characters than a line may have is no question
 use mathlib.Core.List.{List, [], _∷_}
 use Prim.Native.Nat.{ℕ}
 use lib.Dec.{ltb}
@@ -16,7 +21,11 @@ use Rattle.choices.specs.Branch.{choose}
 use Rattle.cdr.specs.declared.Order.{Order}
 use Rattle.cdr.specs.declared.Named.{Named}
 use Rattle.cdr.specs.declared.Named.the-variants.{Is, NoOrder}
-use Rattle.questions.specs.Words.{words, sameWord, orderWord, Octets, octets, notOctets, octetsWord}
+use Rattle.cdr.specs.Align.{indexOf}
+use Rattle.reading.specs.Sinks.{Source, source}
+use Rattle.words.specs.Words.{words, sameWord, orderWord}
+use Rattle.words.specs.Fields.{FieldsOf, are, notFields, fieldsOf}
+use Rattle.questions.specs.Octets.{Octets, octets, notOctets, octetsWord}
 
 abbrev pub lineMost : ℕ
 lineMost = 131072
@@ -24,8 +33,16 @@ lineMost = 131072
 abbrev pub typeWord : List ℕ
 typeWord = 116 ∷ 121 ∷ 112 ∷ 101 ∷ []
 
+abbrev pub valueWord : List ℕ
+valueWord = 118 ∷ 97 ∷ 108 ∷ 117 ∷ 101 ∷ []
+
+abbrev pub itemWord : List ℕ
+itemWord = 105 ∷ 116 ∷ 101 ∷ 109 ∷ []
+
 pub data Question : Type 0 where
   typeIn : Order → List ℕ → Question
+  valueIn : Order → List ℕ → Source → (room : ℕ) → Question
+  itemIn : Order → List ℕ → Source → (number : ℕ) → Question
   noQuestion : Question
 
 abbrev pub typeOctets : Order → Octets → Question
@@ -45,9 +62,32 @@ abbrev pub typeQuestion : List (List ℕ) → Question
 typeQuestion [] = noQuestion
 typeQuestion (order ∷ rest) = namedType (orderWord order) rest
 
+pub data About : Type 0 where
+  about : Order → List ℕ → Source → ℕ → About
+  notAbout : About
+
+abbrev pub onOctets : Octets → (List ℕ → About) → About
+onOctets (octets v) f = f v
+onOctets notOctets f = notAbout
+
+unfoldable pub aboutOf : FieldsOf → About
+aboutOf (are typed value start number) =
+    onOctets (octetsWord (typed .word))
+    (λ t. onOctets (octetsWord (value .word))
+    (λ v. about (typed .order) t (source v (value .order) (indexOf start)) number))
+aboutOf notFields = notAbout
+
+abbrev pub aboutQuestion : (Order → List ℕ → Source → ℕ → Question) → About → Question
+aboutQuestion ask (about order t x number) = ask order t x number
+aboutQuestion ask notAbout = noQuestion
+
 abbrev pub questionFrom : List (List ℕ) → Question
 questionFrom [] = noQuestion
-questionFrom (word ∷ rest) = choose (sameWord word typeWord) (λ _. typeQuestion rest) (λ _. noQuestion)
+questionFrom (word ∷ rest) =
+    choose (sameWord word typeWord) (λ _. typeQuestion rest)
+    (λ _. choose (sameWord word valueWord) (λ _. aboutQuestion valueIn (aboutOf (fieldsOf rest)))
+    (λ _. choose (sameWord word itemWord) (λ _. aboutQuestion itemIn (aboutOf (fieldsOf rest)))
+    (λ _. noQuestion)))
 
 unfoldable pub questionOf : List ℕ → Question
 questionOf line = choose (ltb lineMost (length line)) (λ _. noQuestion) (λ _. questionFrom (words line))

@@ -1,41 +1,74 @@
 -- What a question is answered, and the text of it: "each output line its answer".
---   typeReply       what the check of a type gives
---   replyTo         the answer of a question
---   acceptedText    `ok USED K`
---   refusedText     `no N`
---   replyText       the text of an answer: "a line that is no question is answered `?`"
---   answerLine      the text that a line is answered, its LF included
-use mathlib.Core.List.{List, [], _∷_, _++_}
-use Prim.Native.Nat.{ℕ}
-use Rattle.decimals.specs.Decimal.{decimal}
-use Rattle.lines.specs.Lines.{lf}
+--   typeReply     what the check of a type gives
+--   valueReply    what the reading of a value gives
+--   itemShown     an item by its case and its bits
+--   itemReply     what an item of a value gives
+--   mostItems     "above 16,384 it means 16,384"
+--   roomOf        the items that ROOM means
+--   replyTo       the answer of a question: "a line that is no question is answered `?`"
+--   itemsGiven    the items of an accepted value
+--   itemsIn       the items that stand in the answer
+--   answerLine    the text that a line is answered, its LF included
+use mathlib.Core.List.{List, []}
+use Prim.Native.Nat.{ℕ, zero, suc, min}
+use Rattle.items.specs.Items.{caseOf, bitsOf}
+use Rattle.reading.specs.declared.ValueAnswer.{ValueAnswer}
+use Rattle.reading.specs.declared.ValueAnswer.the-variants.{Accepted as accepted, Refused as notAccepted}
+use Rattle.reading.specs.Sinks.{Item}
+use Rattle.reading.specs.Reading.{roomFor}
+use Rattle.reading.specs.Value.{valueAnswer, readingOf}
 use Rattle.typecode.specs.declared.TypeAnswer.{TypeAnswer}
 use Rattle.typecode.specs.declared.TypeAnswer.the-variants.{Accepted as ok, Refused as refused, Loop}
 use Rattle.typecode.specs.TypeCode.{answerNumber, checkedType}
-use Rattle.questions.specs.declared.Reply.{Reply}
-use Rattle.questions.specs.declared.Reply.the-variants.{Accepted, Refused, NoQuestion}
-use Rattle.questions.specs.Words.{space}
-use Rattle.questions.specs.Questions.{Question, typeIn, noQuestion, questionOf}
+use Rattle.printing.specs.declared.Reply.{Reply}
+use Rattle.printing.specs.declared.Reply.the-variants.{Typed, Read, Refused, Unread, Signed, Unsigned, Single, Double, NoQuestion}
+use Rattle.printing.specs.Replies.{replyText}
+use Rattle.value.specs.declared.ItemAnswer.{ItemAnswer}
+use Rattle.value.specs.declared.ItemAnswer.the-variants.{Given, Refused as noItem}
+use Rattle.value.specs.Single.{itemAnswer}
+use Rattle.questions.specs.Questions.{Question, typeIn, valueIn, itemIn, noQuestion, questionOf}
 
 abbrev pub typeReply : TypeAnswer → Reply
-typeReply (ok used kinds) = Accepted used kinds
+typeReply (ok used kinds) = Typed used kinds
 typeReply (refused why) = Refused (answerNumber (refused why))
 typeReply Loop = Refused (answerNumber Loop)
 
+abbrev pub valueReply : ValueAnswer → Reply
+valueReply (accepted used items visits) = Read used visits items
+valueReply (notAccepted number visits) = Unread number visits
+
+abbrev pub itemShown : ℕ → ℕ → Reply
+itemShown zero bits = Signed bits
+itemShown (suc zero) bits = Unsigned bits
+itemShown (suc (suc zero)) bits = Single bits
+itemShown (suc (suc (suc n))) bits = Double bits
+
+abbrev pub itemReply : ItemAnswer → Reply
+itemReply (Given i) = itemShown (caseOf i) (bitsOf i)
+itemReply (noItem number) = Refused number
+
+abbrev pub mostItems : ℕ
+mostItems = 16384
+
+abbrev pub roomOf : ℕ → ℕ
+roomOf room = min room mostItems
+
 abbrev pub replyTo : Question → Reply
 replyTo (typeIn order v) = typeReply (checkedType v order .answer)
+replyTo (valueIn order t x room) = valueReply (valueAnswer t order x (roomOf room))
+replyTo (itemIn order t x number) = itemReply (itemAnswer t order x number)
 replyTo noQuestion = NoQuestion
 
-unfoldable pub acceptedText : ℕ → ℕ → List ℕ
-acceptedText used kinds = 111 ∷ 107 ∷ space ∷ (decimal used ++ (space ∷ (decimal kinds ++ (lf ∷ []))))
+abbrev pub itemsGiven : ValueAnswer → List Item → List Item
+itemsGiven (accepted used items visits) is = is
+itemsGiven (notAccepted number visits) is = []
 
-unfoldable pub refusedText : ℕ → List ℕ
-refusedText number = 110 ∷ 111 ∷ space ∷ (decimal number ++ (lf ∷ []))
-
-abbrev pub replyText : Reply → List ℕ
-replyText (Accepted used kinds) = acceptedText used kinds
-replyText (Refused number) = refusedText number
-replyText NoQuestion = 63 ∷ lf ∷ []
+abbrev pub itemsIn : Question → List Item
+itemsIn (typeIn order v) = []
+itemsIn (valueIn order t x room) =
+    itemsGiven (valueAnswer t order x (roomOf room)) (readingOf (roomFor (roomOf room)) t order x .kept .items)
+itemsIn (itemIn order t x number) = []
+itemsIn noQuestion = []
 
 unfoldable pub answerLine : List ℕ → List ℕ
-answerLine line = replyText (replyTo (questionOf line))
+answerLine line = replyText (replyTo (questionOf line)) (itemsIn (questionOf line))

@@ -1,16 +1,17 @@
 -- What the turns of a block promise each other; nothing that a caller is told rests on these names.
---   Goes    characters are left in the block, and the line's memory and the output have room for any line and its answer
+--   Goes    characters are left in the block, and the line's memory, the table and the output have room for any line, its items and its answer
 --   Onto    one place of the block after another, with the lent memory at each
 use mathlib.Core.Path.{_≡_}
 use mathlib.Core.List.{List, _++_}
 use Prim.Native.Nat.{ℕ, _+_, _<_, _≤_}
 use lib.ListN.{length, take, drop}
 use Rattle.questions.specs.declared.Progress.{Progress}
-use Rattle.questions.specs.Blocks.{lineRoom, longest, answersAfter}
+use Rattle.questions.specs.Blocks.{lineRoom, tableRoom, longest, answersAfter}
 
-pub record Goes (block line out : ℕ) (at : Progress) : Type 0 where
+pub record Goes (block line out table : ℕ) (at : Progress) : Type 0 where
   pub more : at .next < block
   pub whole : lineRoom ≤ line
+  pub tabled : tableRoom ≤ table
   pub room : at .filled + longest ≤ out
 
 pub record Onto (block : List ℕ) (a : Progress) (line out : List ℕ) (b : Progress) (lineLast outLast : List ℕ) : Type 0 where

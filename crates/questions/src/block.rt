@@ -7,16 +7,20 @@ ghost use Rattle.questions.specs.Turns.{Goes, Onto};
 use crate::LINE_ROOM;
 use crate::LONGEST;
 use crate::Progress;
+use crate::TABLE_ROOM;
 use writing::Written;
 
-// Whether characters are left in the block, and there is room for any line and its answer.
-pub(crate) fn goes_on(block: usize, line: usize, out: usize, at: Progress) -> bool
-    ensures { λ r. ⌜ (r ≡ true → Goes block line out at) × (r ≡ false → Goes block line out at → ⊥) ⌝ }
+// Whether characters are left in the block, and there is room for any line, its items and its answer.
+pub(crate) fn goes_on(block: usize, line: usize, out: usize, table: usize, at: Progress) -> bool
+    ensures { λ r. ⌜ (r ≡ true → Goes block line out table at) × (r ≡ false → Goes block line out table at → ⊥) ⌝ }
 {
     if block <= at.next {
         return false;
     }
     if line < LINE_ROOM {
+        return false;
+    }
+    if table < TABLE_ROOM {
         return false;
     }
     if out < LONGEST {
@@ -29,8 +33,14 @@ pub(crate) fn goes_on(block: usize, line: usize, out: usize, at: Progress) -> bo
 }
 
 // Takes the characters up to the next LF, and answers the line if the LF was met.
-pub(crate) fn turn(block: &[u8], line: &mut [u8], out: &mut [u8], at: Progress) -> Progress
-    requires { ⌜ Goes (length (now block)) (length (now line)) (length (now out)) at ⌝ }
+pub(crate) fn turn(
+    block: &[u8],
+    line: &mut [u8],
+    out: &mut [u8],
+    table: &mut [u64],
+    at: Progress,
+) -> Progress
+    requires { ⌜ Goes (length (now block)) (length (now line)) (length (now out)) (length (now table)) at ⌝ }
     ensures { λ r. ⌜ (at .next < r .next) × Onto (now (block .entry)) at (now (line .entry)) (now (out .entry)) r (now (line .exit)) (now (out .exit)) ⌝ }
 {
     let taken = lines::take_line(block, at.next, line, at.kept);
@@ -43,7 +53,7 @@ pub(crate) fn turn(block: &[u8], line: &mut [u8], out: &mut [u8], at: Progress) 
             filled,
         };
     }
-    let Written::Upto(end) = crate::answer_line(&line[..kept], out, filled) else {
+    let Written::Upto(end) = crate::answer_line(&line[..kept], out, table, filled) else {
         return at;
     };
     Progress {

@@ -1,15 +1,20 @@
-// Questions, one a line, and the text of their answers. One kind of question exists: `type ORDER TYPE`, the check of a TypeCode.
+// Questions, one a line, and the text of their answers: the check of a TypeCode, the reading of a value, and one of its items.
 ghost use mathlib.Core.Path.{_≡_};
+ghost use Prim.Native.Nat.{_^_, _<_, _≤_};
+ghost use lib.ListN.{length};
 ghost use Rattle.writing.specs.Write.{Stored};
 ghost use Rattle.questions.specs.Questions.{questionOf};
-ghost use Rattle.questions.specs.Replies.{replyTo, answerLine};
-ghost use Rattle.questions.specs.Blocks.{BlockAnswered};
+ghost use Rattle.questions.specs.Replies.{answerLine};
+ghost use Rattle.questions.specs.Inner.{numbersOf, Replied};
+ghost use Rattle.questions.specs.Blocks.{tableRoom, BlockAnswered};
+use printing::Reply;
 use writing::Written;
 
+mod about;
 mod block;
-mod text;
+mod octets;
 mod types;
-mod words;
+mod values;
 
 // The most characters of a line.
 const LINE_LIMIT: usize = 131072;
@@ -17,15 +22,12 @@ const LINE_LIMIT: usize = 131072;
 // The characters that are kept of a line: one more than a line may have tells an over-long one.
 pub const LINE_ROOM: usize = 131073;
 
-// The characters of the longest answer: two numbers of at most 20 digits, `ok`, two spaces and an LF.
-pub const LONGEST: usize = 45;
+// The numbers of a table for 16,384 items.
+pub const TABLE_ROOM: usize = 49152;
 
-// What a line is answered: octets used and kinds written of an accepted type, a refusal's number, or that the line is no question.
-pub(crate) enum Reply {
-    Accepted { used: usize, kinds: usize },
-    Refused(u32),
-    NoQuestion,
-}
+// The characters of the longest answer: three numbers of at most 20 digits, `ok` and four spaces; and 16,384 items of three such numbers,
+// two colons and a comma or an LF.
+pub const LONGEST: usize = 1032258;
 
 // Where a call stands: the characters kept of the line begun, the next character of the block, and the characters of output filled.
 pub struct Progress {
@@ -35,40 +37,68 @@ pub struct Progress {
 }
 
 // Takes characters of `block` from `from` on and answers each line that ends in it, from the start of `out`; stops at the block's end, or
-// where `out` has no room left for the longest answer or `line` has under LINE_ROOM characters. `line` keeps the line that was begun, of
-// which it has `kept` characters.
+// where `out` has no room left for the longest answer, `line` has under LINE_ROOM characters or `table` under TABLE_ROOM numbers. `line` keeps
+// the line that was begun, of which it has `kept` characters; `table` holds the items of a value meanwhile.
 pub fn answer_block(
     block: &[u8],
     from: usize,
     line: &mut [u8],
     out: &mut [u8],
+    table: &mut [u64],
     kept: usize,
 ) -> Progress
-    ensures { λ r. ⌜ BlockAnswered (now (block .entry)) from (now (line .entry)) (now (out .entry)) kept r (now (line .exit)) (now (out .exit)) ⌝ }
+    ensures { λ r. ⌜ BlockAnswered (now (block .entry)) from (now (line .entry)) (now (out .entry)) (length (now (table .entry))) kept r (now (line .exit)) (now (out .exit)) ⌝ }
 {
     let mut at = Progress {
         kept,
         next: block::least(from, block.len()),
         filled: 0,
     };
-    while block::goes_on(block.len(), line.len(), out.len(), at) {
-        at = block::turn(block, line, out, at);
+    while block::goes_on(block.len(), line.len(), out.len(), table.len(), at) {
+        at = block::turn(block, line, out, table, at);
     }
     at
 }
 
 // Writes the answer of a line's characters, and its LF, from `at` on, or nothing where it does not fit.
-pub fn answer_line(line: &[u8], out: &mut [u8], at: usize) -> Written
+fn answer_line(line: &[u8], out: &mut [u8], table: &mut [u64], at: usize) -> Written
+    requires { ⌜ tableRoom ≤ length (now table) ⌝ }
     ensures { λ r. ⌜ Stored (now (out .entry)) at (answerLine (now (line .entry))) r (now (out .exit)) ⌝ }
 {
-    let mut answer = [0u8; LONGEST];
-    let end = text::put_reply(&mut answer, reply_to(line));
-    writing::write_octets(out, at, &answer[..end])
+    let reply = reply_to(line, table);
+    let n = numbers_of(reply);
+    printing::write_reply(out, at, reply, &table[..n])
 }
 
-// What a line is answered, by its first word.
-fn reply_to(line: &[u8]) -> Reply
-    ensures { λ r. ⌜ r ≡ replyTo (questionOf (now (line .entry))) ⌝ }
+// The numbers of the table that an answer has.
+fn numbers_of(reply: Reply) -> usize
+    requires { ⌜ numbersOf reply < 2 ^ 64 ⌝ }
+    ensures { λ r. ⌜ r ≡ numbersOf reply ⌝ }
+{
+    match reply {
+        Reply::Read {
+            used: _,
+            visits: _,
+            count,
+        } => count * 3,
+        Reply::Typed { used: _, kinds: _ }
+        | Reply::Refused(_)
+        | Reply::Unread {
+            number: _,
+            visits: _,
+        }
+        | Reply::Signed(_)
+        | Reply::Unsigned(_)
+        | Reply::Single(_)
+        | Reply::Double(_)
+        | Reply::NoQuestion => 0,
+    }
+}
+
+// What a line is answered, by its first word; a value's items are left in `table`.
+fn reply_to(line: &[u8], table: &mut [u64]) -> Reply
+    requires { ⌜ tableRoom ≤ length (now table) ⌝ }
+    ensures { λ r. ⌜ Replied (questionOf (now (line .entry))) r (now (table .exit)) ⌝ }
 {
     if LINE_LIMIT < line.len() {
         return Reply::NoQuestion;
@@ -79,6 +109,12 @@ fn reply_to(line: &[u8]) -> Reply
     }
     if words::same(&line[..end], b"type") {
         return types::reply_type(&line[end + 1..]);
+    }
+    if words::same(&line[..end], b"value") {
+        return values::reply_value(&line[end + 1..], table);
+    }
+    if words::same(&line[..end], b"item") {
+        return values::reply_item(&line[end + 1..]);
     }
     Reply::NoQuestion
 }

@@ -3,18 +3,15 @@ ghost use mathlib.Core.Path.{_≡_};
 ghost use Prim.Native.Nat.{_≤_};
 ghost use lib.ListN.{length};
 ghost use Rattle.typecode.specs.TypeCode.{checkedType};
-ghost use Rattle.questions.specs.Words.{words};
+ghost use Rattle.words.specs.Words.{words};
 ghost use Rattle.questions.specs.Questions.{lineMost, orderedType, typeQuestion};
 ghost use Rattle.questions.specs.Replies.{replyTo, typeReply};
-use crate::Reply;
-use crate::words;
+use crate::octets;
 use cdr::Named;
 use cdr::Order;
+use octets::Octets;
+use printing::Reply;
 use typecode::TypeAnswer;
-use words::Octets;
-
-// The most octets that a line has the digits of.
-const OCTETS: usize = 65536;
 
 // Answers the words `ORDER TYPE`.
 pub(crate) fn reply_type(rest: &[u8]) -> Reply
@@ -39,11 +36,11 @@ fn reply_ordered(order: Order, rest: &[u8]) -> Reply
     if words::first_end(rest) < rest.len() {
         return Reply::NoQuestion;
     }
-    let mut octets = [0u8; OCTETS];
-    let Octets::Count(n) = words::read_octets(rest, &mut octets) else {
+    let mut memory = [0u8; octets::MOST];
+    let Octets::Count(n) = octets::read(rest, &mut memory) else {
         return Reply::NoQuestion;
     };
-    check(&octets[..n], order)
+    check(&memory[..n], order)
 }
 
 // Answers with the check of octets as a type.
@@ -53,7 +50,7 @@ fn check(v: &[u8], order: Order) -> Reply
     let checked = typecode::check_type(v, order);
     let answer = checked.answer;
     match answer {
-        TypeAnswer::Accepted { used, kinds } => Reply::Accepted { used, kinds },
+        TypeAnswer::Accepted { used, kinds } => Reply::Typed { used, kinds },
         TypeAnswer::Refused(_) | TypeAnswer::Loop => Reply::Refused(answer.number()),
     }
 }

@@ -2,6 +2,7 @@
 
 use second::joining::Record;
 use second::typecode::MOST_KINDS;
+use second::value::Input;
 
 /// The numbers of an accepted header: minor, order, more, type, size, whether
 /// there is a request id, request id.
@@ -67,6 +68,38 @@ extern "C" {
         starts: *mut u16,
         orders: *mut u8,
         numbers: *mut u64,
+    ) -> u32;
+
+    /// A value of a type: 0, or a refusal, of the type, 42 or 50 to 56. The
+    /// table and the numbers, octets used and items, change at 0 only; the
+    /// visits are always filled.
+    fn haulspar_value(
+        typecode: *const u8,
+        type_len: usize,
+        type_little: bool,
+        value: *const u8,
+        value_len: usize,
+        value_little: bool,
+        start: usize,
+        table: *mut u64,
+        table_len: usize,
+        numbers: *mut u64,
+        visits: *mut u64,
+    ) -> u32;
+
+    /// An item of a value: 0, or a refusal, of the type, 42, 49 or 50 to 55. The
+    /// answer, which of its cases it is and the content's bits, changes at 0
+    /// only.
+    fn haulspar_item(
+        typecode: *const u8,
+        type_len: usize,
+        type_little: bool,
+        value: *const u8,
+        value_len: usize,
+        value_little: bool,
+        start: usize,
+        number: u64,
+        answer: *mut u64,
     ) -> u32;
 }
 
@@ -140,6 +173,46 @@ pub fn typecode(octets: &[u8], little: bool, checked: &mut Checked) -> u32 {
             checked.starts.as_mut_ptr(),
             checked.orders.as_mut_ptr(),
             checked.numbers.as_mut_ptr(),
+        )
+    }
+}
+
+/// A value's items, three numbers each, its octets used and count of items, and
+/// its visits.
+pub fn value(input: Input, table: &mut [u64], numbers: &mut [u64; 2], visits: &mut u64) -> u32 {
+    // SAFETY: pointers and lengths are those of live, distinct borrows.
+    unsafe {
+        haulspar_value(
+            input.typecode.octets.as_ptr(),
+            input.typecode.octets.len(),
+            input.typecode.little,
+            input.value.octets.as_ptr(),
+            input.value.octets.len(),
+            input.value.little,
+            input.start,
+            table.as_mut_ptr(),
+            table.len(),
+            numbers.as_mut_ptr(),
+            visits,
+        )
+    }
+}
+
+/// A value's item of a number: its case, from 0 signed, unsigned, single or
+/// double, and its content's bits.
+pub fn item(input: Input, number: u64, answer: &mut [u64; 2]) -> u32 {
+    // SAFETY: pointers and lengths are those of live, distinct borrows.
+    unsafe {
+        haulspar_item(
+            input.typecode.octets.as_ptr(),
+            input.typecode.octets.len(),
+            input.typecode.little,
+            input.value.octets.as_ptr(),
+            input.value.octets.len(),
+            input.value.little,
+            input.start,
+            number,
+            answer.as_mut_ptr(),
         )
     }
 }

@@ -69,13 +69,13 @@ fn union_of(chance: &mut Chance, cases: Vec<Node>) -> Node {
 }
 
 /// Some wrappers, at most so many.
-fn some_wrappers(chance: &mut Chance, most: usize) -> Vec<Wrapper> {
+pub fn some_wrappers(chance: &mut Chance, most: usize) -> Vec<Wrapper> {
     let count = chance.below(most + 1);
     (0..count).map(|_| chance.pick(&WRAPPERS)).collect()
 }
 
 /// The kinds written before a type that is put into all of these.
-fn before(wrappers: &[Wrapper]) -> usize {
+pub fn before(wrappers: &[Wrapper]) -> usize {
     wrappers.iter().map(|wrapper| wrapper.before()).sum()
 }
 

@@ -5,12 +5,17 @@ use second::hexline::LONGEST_MESSAGE;
 use second::joining::{Answer, CANCELLED, JOINED, PLACE_OCTETS, WHOLE};
 use second::refusal::{LINE_TOO_LONG, OUTPUT_TOO_SHORT};
 use second::typecode;
+use second::value::{self, Input};
 use second::Header;
 
 use crate::archive::{self, HeaderNumbers};
 use crate::joinings::Recording;
-use crate::lent::{LentChecked, LentHeader, LentJoining, LentOutput, Noise};
+use crate::lent::{LentChecked, LentHeader, LentItem, LentJoining, LentOutput, LentValue, Noise};
 use crate::tally::{Held, Section, Tally};
+use crate::types::order_name;
+
+/// How many octets of a value's type are shown.
+const SHOWN_TYPE: usize = 400;
 
 /// Asks both programs, and keeps the tally.
 pub struct Judge {
@@ -113,6 +118,60 @@ impl Judge {
         self.tally.enter(Section::Types, name, octets, number, held);
     }
 
+    /// Reads a value into a table of so many numbers.
+    pub fn value(&mut self, name: &str, input: Input, length: usize) {
+        let mut expected = LentValue::new(self.seeds.next(), length);
+        let mut lent = expected.clone();
+        let (table, numbers, visits) = lent.lend();
+        let number = archive::value(input, table, numbers, visits);
+        let answer = value::read(input, length / 3);
+        match &answer {
+            Ok(accepted) => expected.accept(accepted),
+            Err(refused) => expected.refuse(refused.visits),
+        }
+        let held = Held {
+            number: answer.err().map_or(0, |refused| refused.number),
+            memory: lent.unlike(&expected),
+        };
+        let ask = || format!("{name}, table of {length}: {}", asked(&input));
+        self.enter_value(Section::Values, name, ask, input, number, held);
+    }
+
+    /// Reads a value for its item of a number.
+    pub fn item(&mut self, name: &str, input: Input, number: u64) {
+        let mut expected = LentItem::new(self.seeds.next());
+        let mut lent = expected;
+        let found = archive::item(input, number, lent.lend());
+        let answer = value::item(input, number);
+        if let Ok(item) = answer {
+            expected.accept(item);
+        }
+        let held = Held {
+            number: answer.err().unwrap_or(0),
+            memory: lent.unlike(&expected),
+        };
+        let ask = || format!("{name}, item {number}: {}", asked(&input));
+        self.enter_value(Section::Items, name, ask, input, found, held);
+    }
+
+    /// Enters a question about a value, which is told whole if the answers
+    /// differ.
+    fn enter_value(
+        &mut self,
+        section: Section,
+        name: &str,
+        ask: impl FnOnce() -> String,
+        input: Input,
+        number: u32,
+        held: Held,
+    ) {
+        let octets = input.value.octets;
+        match number == held.number && held.memory.is_none() {
+            true => self.tally.enter(section, name, octets, number, held),
+            false => self.tally.enter(section, &ask(), octets, number, held),
+        }
+    }
+
     /// Gives the lines of a recording one after the other.
     pub fn recording(&mut self, name: &str, recording: &Recording) {
         let mut lent = LentJoining::new(&mut self.seeds, &self.noise, &recording.start);
@@ -160,6 +219,25 @@ impl Judge {
         self.tally.enter(Section::Joining, name, line, number, held);
         answer
     }
+}
+
+/// A value's type, orders and start as a question has them, the type cut.
+fn asked(input: &Input) -> String {
+    let typecode = input.typecode.octets;
+    let shown = &typecode[..typecode.len().min(SHOWN_TYPE)];
+    let digits = second::encode(shown);
+    let more = if shown.len() < typecode.len() {
+        "..."
+    } else {
+        ""
+    };
+    format!(
+        "{} {}{more} {} start {}, value",
+        order_name(input.typecode.little),
+        String::from_utf8_lossy(&digits),
+        order_name(input.value.little),
+        input.start,
+    )
 }
 
 /// The second program's answer; the count as the archive is to leave it.

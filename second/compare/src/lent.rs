@@ -4,6 +4,7 @@ use chance::Chance;
 use second::frame::MINOR_AT;
 use second::joining::{Record, PLACE_OCTETS};
 use second::typecode;
+use second::value::{Accepted, Content};
 
 use crate::archive::{Checked, HeaderNumbers};
 use crate::start::Start;
@@ -297,6 +298,124 @@ impl LentChecked {
         }
         (self.checked != other.checked)
             .then(|| format!("checked {:?}, not {:?}", self.checked, other.checked))
+    }
+}
+
+/// What is lent with a value.
+#[derive(Clone)]
+pub struct LentValue {
+    /// The table's numbers between their margins.
+    table: Vec<u64>,
+    /// The lent numbers and visits.
+    cells: Cells,
+}
+
+/// Lent numbers and visits, with a number on either side that nobody may touch.
+#[repr(C)]
+#[derive(Clone, Copy, PartialEq, Eq, Debug)]
+struct Cells {
+    before: u64,
+    numbers: [u64; 2],
+    between: u64,
+    visits: u64,
+    after: u64,
+}
+
+/// Numbers on either side of the table, which nobody may touch.
+const TABLE_MARGIN: usize = 4;
+
+impl LentValue {
+    /// A table of so many numbers, all filled with a pattern.
+    pub fn new(seed: u64, length: usize) -> Self {
+        let number = |index| pattern_number(seed, index);
+        LentValue {
+            table: (0..length as u64 + 2 * TABLE_MARGIN as u64)
+                .map(|index| number(index + 6))
+                .collect(),
+            cells: Cells {
+                before: number(0),
+                numbers: [number(1), number(2)],
+                between: number(3),
+                visits: number(4),
+                after: number(5),
+            },
+        }
+    }
+
+    /// The table, the numbers and the visits.
+    pub fn lend(&mut self) -> (&mut [u64], &mut [u64; 2], &mut u64) {
+        let end = self.table.len() - TABLE_MARGIN;
+        let Cells {
+            numbers, visits, ..
+        } = &mut self.cells;
+        (&mut self.table[TABLE_MARGIN..end], numbers, visits)
+    }
+
+    /// Fills the parts as an accepted value is to.
+    pub fn accept(&mut self, accepted: &Accepted) {
+        let (table, numbers, visits) = self.lend();
+        for (row, item) in table.chunks_exact_mut(3).zip(&accepted.items) {
+            row.copy_from_slice(&[item.kind.into(), item.place as u64, item.content]);
+        }
+        *numbers = [accepted.used as u64, accepted.items.len() as u64];
+        *visits = accepted.visits;
+    }
+
+    /// Fills the visits as a refused value is to.
+    pub fn refuse(&mut self, visits: u64) {
+        self.cells.visits = visits;
+    }
+
+    /// What is not as in the other.
+    pub fn unlike(&self, other: &Self) -> Option<String> {
+        if self.cells != other.cells {
+            return Some(format!("numbers {:?}, not {:?}", self.cells, other.cells));
+        }
+        if self.table == other.table {
+            return None;
+        }
+        let index =
+            (0..other.table.len()).find(|&index| self.table[index] != other.table[index])?;
+        Some(format!(
+            "number {} of the table is {:X}, not {:X}",
+            index as i64 - TABLE_MARGIN as i64,
+            self.table[index],
+            other.table[index]
+        ))
+    }
+}
+
+/// What is lent for an item, with a number on either side that nobody may touch.
+#[derive(Clone, Copy, PartialEq, Eq, Debug)]
+pub struct LentItem([u64; 4]);
+
+impl LentItem {
+    /// All filled with a pattern.
+    pub fn new(seed: u64) -> Self {
+        LentItem(std::array::from_fn(|index| {
+            pattern_number(seed, index as u64)
+        }))
+    }
+
+    /// What is lent.
+    pub fn lend(&mut self) -> &mut [u64; 2] {
+        let [_, answer @ .., _] = &mut self.0;
+        answer
+    }
+
+    /// Fills the answer as an item is to.
+    pub fn accept(&mut self, item: Content) {
+        *self.lend() = match item {
+            Content::Signed(number) => [0, number.cast_unsigned()],
+            Content::Unsigned(number) => [1, number],
+            Content::Single(bits) => [2, bits.into()],
+            Content::Double(bits) => [3, bits],
+        };
+    }
+
+    /// What is not as in the other.
+    pub fn unlike(&self, other: &Self) -> Option<String> {
+        (self != other).then(|| format!("answer {:X?}, not {:X?}", self.0, other.0))
     }
 }
 

@@ -3,9 +3,11 @@
 
 pub mod archive;
 pub mod draft;
+pub mod fill;
 pub mod fragments;
 pub mod frames;
 pub mod graphs;
+pub mod heavy;
 pub mod joinings;
 pub mod judge;
 pub mod layout;
@@ -15,6 +17,7 @@ pub mod lines;
 pub mod maker;
 pub mod mutations;
 pub mod orb;
+pub mod orb_values;
 pub mod planted;
 pub mod questions;
 pub mod recordings;
@@ -23,3 +26,6 @@ pub mod tally;
 pub mod tree;
 pub mod types;
 pub mod unions;
+pub mod value_changes;
+pub mod value_questions;
+pub mod values;

@@ -9,7 +9,7 @@ use std::path::Path;
 use std::process::ExitCode;
 
 use compare::judge::Judge;
-use compare::{frames, joinings, lines, orb, questions, recordings, types};
+use compare::{frames, joinings, lines, orb, orb_values, questions, recordings, types, values};
 
 /// Judges all inputs and writes the tally; succeeds if nothing is wrong.
 fn main() -> ExitCode {
@@ -31,6 +31,8 @@ fn run() -> io::Result<u64> {
     joinings::judge(&mut judge);
     types::judge(&mut judge);
     orb::judge(&mut judge);
+    values::judge(&mut judge);
+    orb_values::judge(&mut judge);
     if let Some(program) = env::args_os().nth(1) {
         recordings::judge(&mut judge, Path::new(&program))?;
     }

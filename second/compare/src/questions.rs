@@ -13,6 +13,7 @@ use crate::mutations::mutated;
 use crate::orb;
 use crate::recordings::run;
 use crate::types::{self, order_name, GENERATORS};
+use crate::value_questions;
 
 /// How many lines of questions go to the program at once.
 const AT_ONCE: usize = 400;
@@ -30,14 +31,19 @@ pub fn judge(judge: &mut Judge, program: &Path) -> io::Result<()> {
         let text = text_of(chance, &lines);
         hold(judge, "long lines", program, &text)?;
     }
-    let mut all = questions(chance);
-    for lines in all.chunks(AT_ONCE) {
-        let text = text_of(chance, lines);
-        hold(judge, "types", program, &text)?;
+    let about_types = questions(chance);
+    let mut about_values = value_questions::lines(chance);
+    shuffle(chance, &mut about_values);
+    for (name, all) in [("types", &about_types), ("values", &about_values)] {
+        for lines in all.chunks(AT_ONCE) {
+            let text = text_of(chance, lines);
+            hold(judge, name, program, &text)?;
+        }
     }
+    let mut all = [about_types, about_values].concat();
     shuffle(chance, &mut all);
     let text = text_of(chance, &all);
-    hold(judge, "all types", program, &text)
+    hold(judge, "all", program, &text)
 }
 
 /// The lines, the last one with or without its LF.
@@ -101,7 +107,7 @@ fn shown(output: &[u8], number: usize) -> String {
 }
 
 /// Texts by hand: every way a line can end.
-fn fixed() -> [&'static str; 16] {
+fn fixed() -> [&'static str; 22] {
     [
         "",
         "\n",
@@ -119,24 +125,31 @@ fn fixed() -> [&'static str; 16] {
         "type big 000000130000000C000000000000000300000000\n",
         "type big 000000130000001000000000FFFFFFFFFFFFFFF000000000\n",
         "type\nbig\n00000003\n",
+        "value big 00000000 big - 0 0",
+        "value big 00000008 big 02 0 1\n\n",
+        "value big 00000008 big 02 0 1\r\n",
+        "item big 00000008 big 01 0 0\nitem big 00000008 big 01 0 1",
+        "item big 00000006 little 0100A0FF 7 0\nitem big 00000007 big FFF4000000000000 0 0\n",
+        "value\nbig\n",
     ]
 }
 
-/// A type as a question, its digits of either case or of both.
+/// A type as a question.
 fn question(chance: &mut Chance, sample: &Sample) -> Vec<u8> {
     let order = order_name(sample.little);
-    let digits = digits_of(chance, &sample.octets);
-    let digits = match chance.below(3) {
+    let digits = digits_word(chance, &sample.octets);
+    [b"type", order.as_bytes(), &digits].join(&b' ')
+}
+
+/// Octets as a word, the digits of either case or of both.
+pub fn digits_word(chance: &mut Chance, octets: &[u8]) -> Vec<u8> {
+    let digits = digits_of(chance, octets);
+    match chance.below(3) {
+        _ if digits.is_empty() => b"-".to_vec(),
         0 => digits.to_ascii_uppercase(),
         1 => digits.to_ascii_lowercase(),
         _ => digits,
-    };
-    let mut line = format!("type {order} ").into_bytes();
-    match digits.is_empty() {
-        true => line.push(b'-'),
-        false => line.extend(digits),
     }
-    line
 }
 
 /// Questions about types of all generators and of the ORB, as they are and
@@ -165,7 +178,7 @@ fn questions(chance: &mut Chance) -> Vec<Vec<u8>> {
 }
 
 /// The line changed so that it is mostly no question.
-fn spoilt(chance: &mut Chance, mut line: Vec<u8>) -> Vec<u8> {
+pub fn spoilt(chance: &mut Chance, mut line: Vec<u8>) -> Vec<u8> {
     match chance.below(8) {
         0 => drop(line.pop()),
         1 => line.push(chance.pick(b"\r 0-G\0\t\xFF")),
@@ -196,6 +209,7 @@ fn other_words(chance: &mut Chance, line: &[u8]) -> Vec<u8> {
         "types",
         "typ",
         "value",
+        "item",
         "big",
         "Big",
         "BIG",
@@ -232,7 +246,16 @@ fn long_lines(chance: &mut Chance) -> Vec<Vec<Vec<u8>>> {
     let far = [200_000, 1 << 18, 1 << 20];
     let lengths = (LONGEST_QUESTION - 3..=LONGEST_QUESTION + 3).chain(far);
     for length in lengths {
-        for start in ["type big ", "type little ", "type  big ", "0", ""] {
+        let starts = [
+            "type big ",
+            "type little ",
+            "type  big ",
+            "value big 00000003 big ",
+            "item big 00000003 little 00000000 0 ",
+            "0",
+            "",
+        ];
+        for start in starts {
             let mut long = start.as_bytes().to_vec();
             long.resize(length, chance.pick(b"00Ff"));
             let sample = Sample::of_octets(vec![0, 0, 0, 3], false);

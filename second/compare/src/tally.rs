@@ -6,8 +6,8 @@ use std::ops::RangeInclusive;
 
 use second::joining::{CANCELLED, WHOLE};
 use second::refusal::{
-    FRAGMENT_UNALIGNED, HEADER_CUT, ID_OPEN, KIND_BELOW_TOP, LINE_TOO_LONG, OCTETS_TOO_MANY,
-    OUTPUT_TOO_SHORT, RECORD_UNSOUND, TYPE_CUT,
+    FRAGMENT_UNALIGNED, HEADER_CUT, ID_OPEN, KIND_BELOW_TOP, LINE_TOO_LONG, NO_ROOM, NO_SUCH_ITEM,
+    OCTETS_TOO_MANY, OUTPUT_TOO_SHORT, RECORD_UNSOUND, TOO_MANY_OPEN, TYPE_CUT, VALUE_CUT,
 };
 
 /// How many differences are shown.
@@ -19,8 +19,12 @@ const SHOWN_DIGITS: usize = 200;
 /// How many inputs there must be.
 const ENOUGH: u64 = 200_000;
 
-/// How many types must be judged.
-const ENOUGH_TYPES: u64 = 500_000;
+/// The sections of which there must be so many inputs.
+const ENOUGH_OF: [(Section, u64); 3] = [
+    (Section::Types, 500_000),
+    (Section::Values, 500_000),
+    (Section::Items, 150_000),
+];
 
 /// The sections of the paper whose numbers are counted apart.
 #[derive(Clone, Copy, PartialEq, Eq, PartialOrd, Ord)]
@@ -31,10 +35,20 @@ pub enum Section {
     Joining,
     /// Kinds of type.
     Types,
+    /// Reading a value.
+    Values,
+    /// Reading one item of a value.
+    Items,
 }
 
 /// All sections.
-const SECTIONS: [Section; 3] = [Section::Lines, Section::Joining, Section::Types];
+const SECTIONS: [Section; 5] = [
+    Section::Lines,
+    Section::Joining,
+    Section::Types,
+    Section::Values,
+    Section::Items,
+];
 
 /// Numbers of a section, and how often each of them must be given.
 struct Demand {
@@ -72,6 +86,23 @@ const OF_TYPES: [Demand; 3] = [
     each(OCTETS_TOO_MANY, OCTETS_TOO_MANY, 500),
 ];
 
+/// What values must bring, their types' refusals among it.
+const OF_VALUES: [Demand; 4] = [
+    each(0, 0, 500),
+    each(TYPE_CUT, KIND_BELOW_TOP, 100),
+    each(OCTETS_TOO_MANY, OCTETS_TOO_MANY, 500),
+    each(VALUE_CUT, NO_ROOM, 500),
+];
+
+/// What items must bring, likewise. There is no 56.
+const OF_ITEMS: [Demand; 5] = [
+    each(0, 0, 500),
+    each(TYPE_CUT, KIND_BELOW_TOP, 100),
+    each(OCTETS_TOO_MANY, OCTETS_TOO_MANY, 500),
+    each(NO_SUCH_ITEM, NO_SUCH_ITEM, 500),
+    each(VALUE_CUT, TOO_MANY_OPEN, 500),
+];
+
 impl Section {
     /// The section's numbers, each with how often it must be given.
     fn demands(self) -> impl Iterator<Item = (u32, u64)> {
@@ -79,6 +110,8 @@ impl Section {
             Section::Lines => &OF_LINES,
             Section::Joining => &OF_JOINING,
             Section::Types => &OF_TYPES,
+            Section::Values => &OF_VALUES,
+            Section::Items => &OF_ITEMS,
         };
         demands
             .iter()
@@ -92,6 +125,8 @@ impl fmt::Display for Section {
             Section::Lines => "lines and frames",
             Section::Joining => "joining",
             Section::Types => "types",
+            Section::Values => "values",
+            Section::Items => "items",
         })
     }
 }
@@ -111,8 +146,8 @@ pub struct Tally {
     passed: u64,
     /// Inputs with one.
     different: u64,
-    /// Inputs that are types.
-    types: u64,
+    /// Inputs of each section.
+    judged: BTreeMap<Section, u64>,
     /// How often both programs gave a number in a section.
     given: BTreeMap<(Section, u32), u64>,
     /// The first differences.
@@ -122,7 +157,7 @@ pub struct Tally {
 impl Tally {
     /// Enters one input, the archive's number for it, and what it was held to.
     pub fn enter(&mut self, section: Section, name: &str, input: &[u8], number: u32, held: Held) {
-        self.types += u64::from(section == Section::Types);
+        *self.judged.entry(section).or_default() += 1;
         let difference = if number != held.number {
             Some(format!("archive gives {number}, second {}", held.number))
         } else {
@@ -168,6 +203,11 @@ impl Tally {
         seldom
     }
 
+    /// How many inputs of a section there were.
+    fn judged(&self, section: Section) -> u64 {
+        self.judged.get(&section).copied().unwrap_or(0)
+    }
+
     /// How many inputs there were.
     fn total(&self) -> u64 {
         self.passed + self.different
@@ -176,8 +216,10 @@ impl Tally {
     /// How many things are wrong.
     pub fn failed(&self) -> u64 {
         let few = u64::from(self.total() < ENOUGH);
-        let few_types = u64::from(self.types < ENOUGH_TYPES);
-        self.different + self.seldom().len() as u64 + few + few_types
+        let few_of = ENOUGH_OF
+            .iter()
+            .filter(|(section, enough)| self.judged(*section) < *enough);
+        self.different + self.seldom().len() as u64 + few + few_of.count() as u64
     }
 }
 
@@ -189,11 +231,10 @@ impl fmt::Display for Tally {
                 writeln!(formatter, "{number} {}", self.given(section, number))?;
             }
         }
-        writeln!(
-            formatter,
-            "types judged {}, at least {ENOUGH_TYPES}",
-            self.types
-        )?;
+        for (section, enough) in ENOUGH_OF {
+            let judged = self.judged(section);
+            writeln!(formatter, "{section} judged {judged}, at least {enough}")?;
+        }
         writeln!(formatter, "total {}, at least {ENOUGH}", self.total())?;
         for line in self.shown.iter().chain(&self.seldom()) {
             writeln!(formatter, "{line}")?;

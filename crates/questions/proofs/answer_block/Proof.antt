@@ -1,5 +1,5 @@
 -- The turns go on in the block, and each is answered.
-use mathlib.Core.Path.{ap}
+use mathlib.Core.Path.{_≡_, refl, ap, _∙_}
 use Prim.Native.Nat.{ℕ, _-_}
 use native.Mathlib.Omega.{arith}
 use lib.ListN.{length}
@@ -10,40 +10,43 @@ use Rattle.questions.proofs.answer_block.Statement.{statement}
 use Rattle.questions.proofs.answer_block.Tie as tie
 
 abbrev Inv-loop : tie.InvT-loop
-Inv-loop block from line₀ out₀ kept at₀ line out at = Onto block at₀ line₀ out₀ at line out
+Inv-loop block from line₀ out₀ table₀ kept at₀ line out table at = Onto block at₀ line₀ out₀ at line out × (length table ≡ length table₀)
 
 abbrev μ-loop : tie.MeasureT-loop
-μ-loop block from line₀ out₀ kept at₀ line out at = length block - at .next
+μ-loop block from line₀ out₀ table₀ kept at₀ line out table at = length block - at .next
 
 least-requires : tie.Need-least-requires Inv-loop μ-loop
 least-requires c κs = search needs
 
 loop-holds : tie.Need-loop-holds Inv-loop μ-loop
-loop-holds c = onto-self _ _ _ _
+loop-holds c = (onto-self _ _ _ _, refl)
 
 goes-on-requires : tie.Need-goes-on-requires Inv-loop μ-loop
 goes-on-requires c κs = search needs
 
 turn-requires : tie.Need-turn-requires Inv-loop μ-loop
-turn-requires c κs = c .before .before .before .goes-on .ensures .0 (c .before .before .if1 .taken)
+turn-requires c κs = c .before .before .before .before .goes-on .ensures .0 (c .before .before .before .if1 .taken)
 
 loop-less : tie.Need-loop-less Inv-loop μ-loop
-loop-less c =
-    omega (arith, c .before .before .before .before .turn .ensures .0, c .before .before .before .before .before .before .before .before .goes-on .ensures .0 (c .before .before .before .before .before .before .before .if1 .taken) .more)
+loop-less c = omega (arith, c .before .before .before .before .before .before .turn .ensures .0, c .before .before .before .before .before .before .before .before .before .before .before .goes-on .ensures .0 (c .before .before .before .before .before .before .before .before .before .before .if1 .taken) .more)
 
 loop-again : tie.Need-loop-again Inv-loop μ-loop
-loop-again c = onto-then (c .before .before .before .before .before .before .before .before .before .loop .inv) (c .before .before .before .before .turn .ensures .1)
+loop-again c = (onto-then (c .before .before .before .before .before .before .before .before .before .before .before .before .loop .inv .0) (c .before .before .before .before .before .before .turn .ensures .1), c .before .before .before .before .before .before .turn .kept .1 .1 .1 .0 ∙ c .before .before .before .before .before .before .before .before .before .before .before .before .loop .inv .1)
 
 same-length : tie.Need-same-length Inv-loop μ-loop
-same-length c = c .before .before .loop .inv .lined
+same-length c = c .before .before .loop .inv .0 .lined
 
 same-length-2 : tie.Need-same-length-2 Inv-loop μ-loop
-same-length-2 c = c .before .before .loop .inv .sized
+same-length-2 c = c .before .before .loop .inv .0 .sized
+
+same-length-3 : tie.Need-same-length-3 Inv-loop μ-loop
+same-length-3 c = c .before .before .loop .inv .1
 
 returns : tie.Need-returns Inv-loop μ-loop
-returns c =
-    let o = c .before .before .before .before .before .before .before .args in
-    block-answered (o .block .now) (o .from) (o .line .now) (o .out .now) (o .kept) _ _ _ _ (ap (λ (n : ℕ). record { kept = o .kept; next = n; filled = 0 }) (c .before .before .before .least .ensures)) (c .before .before .loop .inv) (c .before .goes-on .ensures .1 (c .if1 .left))
+returns c = let o = c .before .before .before .before .before .before .before .before .args in
+    block-answered (o .block .now) (o .from) (o .line .now) (o .out .now) (length (o .table .now)) (o .kept) _ _ _ _
+    (ap (λ (n : ℕ). record { kept = o .kept; next = n; filled = 0 }) (c .before .before .before .least .ensures)) (c .before .before .loop .inv .0)
+    (λ g. c .before .goes-on .ensures .1 (c .if1 .left) (rw (c .before .before .loop .inv .1) g))
 
 pub answer-block-spec : {M : Type 1} → statement M
 answer-block-spec =
@@ -59,4 +62,5 @@ answer-block-spec =
     loop-again
     same-length
     same-length-2
+    same-length-3
     returns)

@@ -1,53 +1,54 @@
--- The answer's text is put into memory that has room for it, and written from there.
-use mathlib.Core.Path.{refl, sym, subst}
+-- What is answered is written, with the items that the table has.
+use mathlib.Core.Path.{sym, ap, subst, _∙_}
 use mathlib.Core.List.{List}
 use Prim.Native.Nat.{ℕ}
 use native.Mathlib.Omega.{arith}
+use lib.ListN.{take}
 use lib.Seq.{length-take-le}
 use Rattle.writing.specs.Write.{Stored}
-use Rattle.questions.proofs.Answers.{text-end, text-is}
+use Rattle.printing.specs.Items.{itemsOf}
+use Rattle.printing.specs.Replies.{replyText}
+use Rattle.questions.proofs.Firsts.{replied-text}
 use borrow.Author.Needs.{needs}
 use Rattle.questions.proofs.answer_line.Statement.{statement}
 use Rattle.questions.proofs.answer_line.Tie as tie
 
-slice-aggregate-put-reply : tie.Need-slice-aggregate-put-reply
-slice-aggregate-put-reply c = search needs
-
 reply-to-requires : tie.Need-reply-to-requires
 reply-to-requires c κs = search needs
 
-put-reply-requires : tie.Need-put-reply-requires
-put-reply-requires c κs = search needs
+numbers-of-requires : tie.Need-numbers-of-requires
+numbers-of-requires c κs = search needs
 
-array-share-prefix-answer : tie.Need-array-share-prefix-answer
-array-share-prefix-answer c =
-    omega (arith, c .before .before .put-reply .kept .0, text-end (c .before .before .before .before .before .before .before .args .line .now) _ (c .before .before .before .reply-to .ensures) _ _ _ (c .before .before .put-reply .ensures) refl)
+slice-reshare-prefix-write-reply : tie.Need-slice-reshare-prefix-write-reply
+slice-reshare-prefix-write-reply c = search needs
 
-slice-aggregate-write-octets : tie.Need-slice-aggregate-write-octets
-slice-aggregate-write-octets c =
-    sym (length-take-le _ _ (omega (arith, text-end (c .before .before .before .before .before .before .before .before .args .line .now) _ (c .before .before .before .before .reply-to .ensures) _ _ _ (c .before .before .before .put-reply .ensures) refl)))
+slice-aggregate-write-reply : tie.Need-slice-aggregate-write-reply
+slice-aggregate-write-reply c = sym (length-take-le _ _ (omega (arith, c .before .before .numbers-of .ensures, c .before .before .before .before .before .reply-to .ensures .within)))
 
-write-octets-requires : tie.Need-write-octets-requires
-write-octets-requires c κs = search needs
+write-reply-requires : tie.Need-write-reply-requires
+write-reply-requires c κs = search needs
 
 same-length : tie.Need-same-length
 same-length c = search needs
 
+same-length-2 : tie.Need-same-length-2
+same-length-2 c = search needs
+
 returns : tie.Need-returns
-returns c =
-    let o = c .before .before .before .before .before .before .before .before .before .before .before .args in
-    subst (λ (xs : List ℕ). Stored (o .out .now) (o .at) xs (c .before .before .write-octets .result) (c .before .before .write-octets .last .0))
-    (text-is (o .line .now) _ (c .before .before .before .before .before .before .before .reply-to .ensures) _ _ _ (c .before .before .before .before .before .before .put-reply .ensures) refl) (c .before .before .write-octets .ensures)
+returns c = subst (λ (xs : List ℕ). Stored (c .before .before .before .before .before .before .before .before .before .before .before .before .before .args .out .now) (c .before .before .before .before .before .before .before .before .before .before .before .before .before .args .at) xs (c .before .before .write-reply .result) (c .before .before .write-reply .last .0))
+    (ap (λ (k : ℕ). replyText (c .before .before .before .before .before .before .before .before .reply-to .result) (itemsOf (take k (c .before .before .before .before .before .before .before .before .reply-to .last .1 .0)))) (c .before .before .before .before .before .numbers-of .ensures)
+    ∙ replied-text (c .before .before .before .before .before .before .before .before .before .before .before .before .before .args .line .now) _ _ (c .before .before .before .before .before .before .before .before .reply-to .ensures))
+    (c .before .before .write-reply .ensures)
 
 pub answer-line-spec : {M : Type 1} → statement M
 answer-line-spec =
     tie.close
     (tie.spec
-    slice-aggregate-put-reply
     reply-to-requires
-    put-reply-requires
-    array-share-prefix-answer
-    slice-aggregate-write-octets
-    write-octets-requires
+    numbers-of-requires
+    slice-reshare-prefix-write-reply
+    slice-aggregate-write-reply
+    write-reply-requires
     same-length
+    same-length-2
     returns)

@@ -1,20 +1,25 @@
 -- The first word says what is asked.
 use mathlib.Core.Path.{sym, _∙_}
 use native.Mathlib.Omega.{arith}
+use Prim.Native.Nat.{_+_, _-_}
+use lib.ListN.{length, take, drop}
 use lib.Seq.{length-take-le}
-use Rattle.questions.proofs.Answers.{line-over, line-alone, line-type, line-other}
+use Rattle.words.specs.Words.{words}
+use Rattle.words.specs.Fields.{fieldsOf}
+use Rattle.questions.specs.Questions.{aboutOf}
+use Rattle.questions.proofs.Firsts.{none-replied, type-replied, item-replied, value-replied, line-over, line-alone, line-type, line-value, line-item, line-other}
 use borrow.Author.Needs.{needs}
 use Rattle.questions.proofs.reply_to.Statement.{statement}
 use Rattle.questions.proofs.reply_to.Tie as tie
 
 returns : tie.Need-returns
-returns c = line-over (c .before .before .args .line .now) (c .if1 .taken)
+returns c = none-replied _ _ (line-over (c .before .before .before .args .line .now) (c .if1 .taken))
 
 first-end-requires : tie.Need-first-end-requires
 first-end-requires c κs = search needs
 
 returns-2 : tie.Need-returns-2
-returns-2 c = line-alone (c .before .before .before .before .args .line .now) (c .before .before .if1 .left) _ (c .before .first-end .ensures) (omega arith)
+returns-2 c = none-replied _ _ (line-alone (c .before .before .before .before .before .args .line .now) (c .before .before .if1 .left) _ (c .before .first-end .ensures) (omega arith))
 
 slice-aggregate-same : tie.Need-slice-aggregate-same
 slice-aggregate-same c = sym (length-take-le _ _ (omega arith))
@@ -41,12 +46,67 @@ reply-type-requires : tie.Need-reply-type-requires
 reply-type-requires c κs = search needs
 
 returns-3 : tie.Need-returns-3
-returns-3 c =
-    c .reply-type .ensures
-    ∙ line-type (c .before .before .before .before .before .before .before .before .before .before .args .line .now) (c .before .before .before .before .before .before .before .before .if1 .left) _ (c .before .before .before .before .before .before .before .first-end .ensures) (omega (arith, c .before .before .before .before .before .before .before .first-end .ensures .within)) (sym (c .before .before .if3 .taken) ∙ c .before .before .before .same .ensures)
+returns-3 c = type-replied _ _ _ (words (take (length (c .before .before .before .before .before .before .before .before .before .before .before .args .line .now) - (c .before .before .before .before .before .before .before .first-end .result + 1)) (drop (c .before .before .before .before .before .before .before .first-end .result + 1) (c .before .before .before .before .before .before .before .before .before .before .before .args .line .now)))) (line-type (c .before .before .before .before .before .before .before .before .before .before .before .args .line .now) (c .before .before .before .before .before .before .before .before .if1 .left) _ (c .before .before .before .before .before .before .before .first-end .ensures) (omega (arith, c .before .before .before .before .before .before .before .first-end .ensures .within)) (sym (c .before .before .if3 .taken) ∙ c .before .before .before .same .ensures)) (c .reply-type .ensures)
+
+slice-aggregate-same-3 : tie.Need-slice-aggregate-same-3
+slice-aggregate-same-3 c = sym (length-take-le _ _ (omega (arith, c .before .before .before .before .before .before .first-end .ensures .within)))
+
+slice-aggregate-same-4 : tie.Need-slice-aggregate-same-4
+slice-aggregate-same-4 c = search needs
+
+same-requires-2 : tie.Need-same-requires-2
+same-requires-2 c κs = search needs
+
+add-reply-value : tie.Need-add-reply-value
+add-reply-value c = search needs
+
+sub-reply-value : tie.Need-sub-reply-value
+sub-reply-value c = search needs
+
+part-reply-value-start : tie.Need-part-reply-value-start
+part-reply-value-start c = search needs
+
+part-reply-value-end : tie.Need-part-reply-value-end
+part-reply-value-end c = search needs
+
+reply-value-requires : tie.Need-reply-value-requires
+reply-value-requires c κs = search needs
+
+same-length : tie.Need-same-length
+same-length c = search needs
 
 returns-4 : tie.Need-returns-4
-returns-4 c = line-other (c .before .before .before .before .before .before .before .before .args .line .now) (c .before .before .before .before .before .before .if1 .left) _ (c .before .before .before .before .before .first-end .ensures) (omega (arith, c .before .before .before .before .before .first-end .ensures .within)) (sym (c .if3 .left) ∙ c .before .same .ensures)
+returns-4 c = value-replied _ _ _ _ (line-value (c .before .before .before .before .before .before .before .before .before .before .before .before .before .before .before .before .before .before .args .line .now) (c .before .before .before .before .before .before .before .before .before .before .before .before .before .before .before .if1 .left) _ (c .before .before .before .before .before .before .before .before .before .before .before .before .before .before .first-end .ensures) (omega (arith, c .before .before .before .before .before .before .before .before .before .before .before .before .before .before .first-end .ensures .within)) (sym (c .before .before .before .before .before .before .before .before .before .if3 .left) ∙ c .before .before .before .before .before .before .before .before .before .before .same .ensures) (sym (c .before .before .before .before .before .if4 .taken) ∙ c .before .before .before .before .before .before .same2 .ensures)) (c .before .before .reply-value .ensures)
+
+slice-aggregate-same-5 : tie.Need-slice-aggregate-same-5
+slice-aggregate-same-5 c = sym (length-take-le _ _ (omega (arith, c .before .before .before .before .before .before .before .before .before .before .first-end .ensures .within)))
+
+slice-aggregate-same-6 : tie.Need-slice-aggregate-same-6
+slice-aggregate-same-6 c = search needs
+
+same-requires-3 : tie.Need-same-requires-3
+same-requires-3 c κs = search needs
+
+add-reply-item : tie.Need-add-reply-item
+add-reply-item c = search needs
+
+sub-reply-item : tie.Need-sub-reply-item
+sub-reply-item c = search needs
+
+part-reply-item-start : tie.Need-part-reply-item-start
+part-reply-item-start c = search needs
+
+part-reply-item-end : tie.Need-part-reply-item-end
+part-reply-item-end c = search needs
+
+reply-item-requires : tie.Need-reply-item-requires
+reply-item-requires c κs = search needs
+
+returns-5 : tie.Need-returns-5
+returns-5 c = item-replied _ _ _ (aboutOf (fieldsOf (words (take (length (c .before .before .before .before .before .before .before .before .before .before .before .before .before .before .before .before .before .before .before .args .line .now) - (c .before .before .before .before .before .before .before .before .before .before .before .before .before .before .before .first-end .result + 1)) (drop (c .before .before .before .before .before .before .before .before .before .before .before .before .before .before .before .first-end .result + 1) (c .before .before .before .before .before .before .before .before .before .before .before .before .before .before .before .before .before .before .before .args .line .now)))))) (line-item (c .before .before .before .before .before .before .before .before .before .before .before .before .before .before .before .before .before .before .before .args .line .now) (c .before .before .before .before .before .before .before .before .before .before .before .before .before .before .before .before .if1 .left) _ (c .before .before .before .before .before .before .before .before .before .before .before .before .before .before .before .first-end .ensures) (omega (arith, c .before .before .before .before .before .before .before .before .before .before .before .before .before .before .before .first-end .ensures .within)) (sym (c .before .before .before .before .before .before .before .before .before .before .if3 .left) ∙ c .before .before .before .before .before .before .before .before .before .before .before .same .ensures) (sym (c .before .before .before .before .before .before .if4 .left) ∙ c .before .before .before .before .before .before .before .same2 .ensures) (sym (c .before .before .if5 .taken) ∙ c .before .before .before .same3 .ensures)) (c .reply-item .ensures)
+
+returns-6 : tie.Need-returns-6
+returns-6 c = none-replied _ _ (line-other (c .before .before .before .before .before .before .before .before .before .before .before .before .before .before .before .before .before .args .line .now) (c .before .before .before .before .before .before .before .before .before .before .before .before .before .before .if1 .left) _ (c .before .before .before .before .before .before .before .before .before .before .before .before .before .first-end .ensures) (omega (arith, c .before .before .before .before .before .before .before .before .before .before .before .before .before .first-end .ensures .within)) (sym (c .before .before .before .before .before .before .before .before .if3 .left) ∙ c .before .before .before .before .before .before .before .before .before .same .ensures) (sym (c .before .before .before .before .if4 .left) ∙ c .before .before .before .before .before .same2 .ensures) (sym (c .if5 .left) ∙ c .before .same3 .ensures))
 
 pub reply-to-spec : {M : Type 1} → statement M
 reply-to-spec =
@@ -64,4 +124,23 @@ reply-to-spec =
     part-reply-type-end
     reply-type-requires
     returns-3
-    returns-4)
+    slice-aggregate-same-3
+    slice-aggregate-same-4
+    same-requires-2
+    add-reply-value
+    sub-reply-value
+    part-reply-value-start
+    part-reply-value-end
+    reply-value-requires
+    same-length
+    returns-4
+    slice-aggregate-same-5
+    slice-aggregate-same-6
+    same-requires-3
+    add-reply-item
+    sub-reply-item
+    part-reply-item-start
+    part-reply-item-end
+    reply-item-requires
+    returns-5
+    returns-6)

@@ -1,0 +1,159 @@
+-- The digits of a number's octets, and how long the text before the items is.
+use mathlib.Core.Path.{_≡_, refl, sym, ap, subst, _∙_}
+use mathlib.Core.List.{List, [], _∷_, _++_}
+use Prim.Native.Nat.{ℕ, _+_, _-_, _*_, _^_, _<_, _≤_}
+use native.Mathlib.Nat.{zero-add}
+use native.Mathlib.Omega.{arith}
+use types.Run.{OneOf, miss}
+use denote.Enum.Declared.{tagOf}
+use lib.Dec.{ltb}
+use lib.ListN.{length, take, drop, replicate, length-append, length-replicate, getD-replicate}
+use lib.Seq.{sets, sets-eq, drop-cons, take-append-add}
+use Rattle.choices.proofs.Choices.{by-test}
+use Rattle.choices.specs.Branch.{choose}
+use Rattle.cdr.specs.declared.Order.the-variants.{Big}
+use Rattle.cdr.specs.declared.Size.{Size}
+use Rattle.cdr.specs.declared.Size.the-variants.{One, Two, Four, Eight}
+use Rattle.cdr.specs.Align.{octets}
+use Rattle.cdr.specs.Number.{octetsOf}
+use Rattle.cdr.proofs.Numbers.{octets-length}
+use Rattle.decimals.specs.Decimal.{decimal}
+use Rattle.decimals.specs.Puts.{Put}
+use Rattle.decimals.proofs.Puts.{take-written, put-taken, number-most}
+use Rattle.decimals.proofs.Decimal.{decimal-most}
+use Rattle.hexline.specs.declared.Encoded.{Encoded}
+use Rattle.hexline.specs.Encoding.{octetDigits, encodedInto, Encodes}
+use Rattle.hexline.proofs.Answers.{digits-fit}
+use Rattle.hexline.proofs.Laws.{digits-length}
+use Rattle.reading.specs.Sinks.{Item}
+use Rattle.writing.specs.declared.Written.{Written}
+use Rattle.writing.specs.Write.{Stored}
+use Rattle.writing.proofs.Stores.{stored-fits}
+use Rattle.printing.specs.declared.Reply.{Reply}
+use Rattle.printing.specs.declared.Reply.the-variants.{Typed, Read, Refused, Unread, Signed, Unsigned, Single, Double, NoQuestion}
+use Rattle.printing.specs.Items.{lf, itemsText}
+use Rattle.printing.specs.Replies.{space, signedText, bitsText, headText, tailText, replyText}
+use Rattle.printing.proofs.Reply.{the-type as reply-type}
+use Rattle.printing.proofs.Joined.{items-most}
+
+pub octets-most : (size : Size) → octets size ≤ 8
+octets-most One = omega arith
+octets-most Two = omega arith
+octets-most Four = omega arith
+octets-most Eight = omega arith
+
+bits-length : (n x : ℕ) → length (bitsText n x) ≡ n * 2
+bits-length n x = digits-length (octetsOf Big n x) ∙ ap (λ (k : ℕ). k * 2) (octets-length Big n x)
+
+-- digits in memory that was filled with LFs have one behind them
+ended : (xs : List ℕ) → length xs ≤ 16 → take (length xs + 1) (sets (replicate 17 lf) 0 xs) ≡ xs ++ (lf ∷ [])
+ended xs h =
+    let n : length (replicate 17 lf) ≡ 17 = length-replicate 17 lf in
+    rw (sets-eq xs (replicate 17 lf) 0 (omega arith), zero-add (length xs))
+    (take-append-add xs (drop (length xs) (replicate 17 lf)) 1
+    ∙ rw (drop-cons (replicate 17 lf) (length xs) 0 (omega arith), getD-replicate 17 (length xs) lf 0 (omega arith)))
+
+module _ (size : Size) (x n : ℕ) (e : n ≡ octets size) (w : Written) (m : List ℕ) (s : Stored (replicate 8 0) 0 (octetsOf Big (octets size) x) w m) where
+  bits-octets : take n m ≡ octetsOf Big (octets size) x
+  bits-octets =
+      let l = octets-length Big (octets size) x in
+      let k = octets-most size in
+      rw (stored-fits (replicate 8 0) 0 (octetsOf Big (octets size) x) w m (omega arith) s)
+      (take-written (replicate 8 0) (octetsOf Big (octets size) x) n (e ∙ sym l) (omega arith))
+
+  pub bits-digits : (r : Encoded) (d : List ℕ) → Encodes (take n m) (replicate 17 lf) r d → take (n * 2 + 1) d ≡ bitsText (octets size) x ++ (lf ∷ [])
+  bits-digits r d t =
+      let l = octets-length Big (octets size) x in
+      let b = bits-length (octets size) x in
+      let k = octets-most size in
+      let c : n * 2 + 1 ≡ length (bitsText (octets size) x) + 1 = omega arith in
+      let q : length (take n m) * 2 ≤ 17 = rw bits-octets (omega arith) in
+      let p : r ≡ _ = t .answer ∙ digits-fit (take n m) 17 q in
+      ap (take (n * 2 + 1)) (t .output ∙ ap (λ (a : Encoded). encodedInto a (take n m) (replicate 17 lf)) p ∙ ap (λ (v : List ℕ). sets (replicate 17 lf) 0 (octetDigits v)) bits-octets)
+      ∙ ap (λ (j : ℕ). take j (sets (replicate 17 lf) 0 (bitsText (octets size) x))) c
+      ∙ ended (bitsText (octets size) x) (omega arith)
+
+pub bits-end : (size : Size) (x n : ℕ) → n ≡ octets size → length (bitsText (octets size) x ++ (lf ∷ [])) ≡ n * 2 + 1
+bits-end size x n e = rw length-append (omega (arith, bits-length (octets size) x))
+
+-- characters of a known number, stored where they fit
+pub put-counted : (out : List ℕ) (at : ℕ) (xs ys : List ℕ) (k : ℕ) (w : Written) (last : List ℕ) → xs ≡ ys → length ys ≡ k → at + k ≤ length out
+    → Stored out at xs w last → Put out at ys (at + k) last
+put-counted out at xs ys k w last e n h s =
+    let t : Stored out at ys w last = subst (λ (zs : List ℕ). Stored out at zs w last) e s in
+    record { end = omega arith; contents = stored-fits out at ys w last (omega arith) t }
+
+-- the text before the items fits 66 characters
+signed-most : (x : ℕ) → length (signedText x) ≤ 21
+unfolding signedText choose
+signed-most x = by-test (ltb x (2 ^ 63)) (λ e. rw e (omega (arith, decimal-most 20 x))) (λ e. rw e (omega (arith, decimal-most 20 (2 ^ 64 - x))))
+
+pub head-most : (reply : Reply) → length (headText reply) ≤ 66
+head-most (Typed used kinds) = omega (arith, number-most used (space ∷ (decimal kinds ++ (lf ∷ []))), number-most kinds (lf ∷ []))
+head-most (Read used visits count) =
+    omega (
+      arith,
+      number-most used (space ∷ (decimal visits ++ (space ∷ (decimal count ++ (space ∷ []))))),
+      number-most visits (space ∷ (decimal count ++ (space ∷ []))),
+      number-most count (space ∷ []),
+    )
+head-most (Refused number) = omega (arith, number-most number (lf ∷ []))
+head-most (Unread number visits) = omega (arith, number-most number (space ∷ (decimal visits ++ (lf ∷ []))), number-most visits (lf ∷ []))
+head-most (Signed x) = omega (arith, length-append (signedText x) (lf ∷ []), signed-most x)
+head-most (Unsigned x) = omega (arith, number-most x (lf ∷ []))
+head-most (Single x) = omega (arith, length-append (bitsText 4 x) (lf ∷ []), bits-length 4 x)
+head-most (Double x) = omega (arith, length-append (bitsText 8 x) (lf ∷ []), bits-length 8 x)
+head-most NoQuestion = omega arith
+
+-- where the text was put
+module _ (reply : Reply) (out : List ℕ) (n : length out ≡ 66) (end : ℕ) (last : List ℕ) (p : Put out 0 (headText reply) end last) where
+  pub head-end : end ≤ 66
+  head-end = omega (arith, p .end, head-most reply)
+
+  pub head-is : take end last ≡ headText reply
+  head-is = put-taken p (omega (arith, head-end))
+
+-- the whole text, of a value and of the others
+nothing-behind : (xs : List ℕ) → xs ++ [] ≡ xs
+nothing-behind [] = refl
+nothing-behind (x ∷ xs) = ap (λ (ys : List ℕ). x ∷ ys) (nothing-behind xs)
+
+pub read-text : (reply : Reply) (is : List Item) → OneOf (1 ∷ []) (tagOf reply-type reply) → headText reply ++ itemsText is ≡ replyText reply is
+unfolding replyText
+read-text (Typed used kinds) is k = absurd (miss (1 ∷ []) 0 tt k)
+read-text (Read used visits count) is k = refl
+read-text (Refused number) is k = absurd (miss (1 ∷ []) 2 tt k)
+read-text (Unread number visits) is k = absurd (miss (1 ∷ []) 3 tt k)
+read-text (Signed x) is k = absurd (miss (1 ∷ []) 4 tt k)
+read-text (Unsigned x) is k = absurd (miss (1 ∷ []) 5 tt k)
+read-text (Single x) is k = absurd (miss (1 ∷ []) 6 tt k)
+read-text (Double x) is k = absurd (miss (1 ∷ []) 7 tt k)
+read-text NoQuestion is k = absurd (miss (1 ∷ []) 8 tt k)
+
+pub other-text : (reply : Reply) (is : List Item) → OneOf (0 ∷ 2 ∷ 3 ∷ 4 ∷ 5 ∷ 6 ∷ 7 ∷ 8 ∷ []) (tagOf reply-type reply) → headText reply ≡ replyText reply is
+unfolding replyText
+other-text (Read used visits count) is k = absurd (miss (0 ∷ 2 ∷ 3 ∷ 4 ∷ 5 ∷ 6 ∷ 7 ∷ 8 ∷ []) 1 tt k)
+other-text (Typed used kinds) is k = sym (nothing-behind (headText (Typed used kinds)))
+other-text (Refused number) is k = sym (nothing-behind (headText (Refused number)))
+other-text (Unread number visits) is k = sym (nothing-behind (headText (Unread number visits)))
+other-text (Signed x) is k = sym (nothing-behind (headText (Signed x)))
+other-text (Unsigned x) is k = sym (nothing-behind (headText (Unsigned x)))
+other-text (Single x) is k = sym (nothing-behind (headText (Single x)))
+other-text (Double x) is k = sym (nothing-behind (headText (Double x)))
+other-text NoQuestion is k = refl
+
+-- no text is longer than 66 characters and 63 for each item
+tail-most : (reply : Reply) (is : List Item) (n : ℕ) → length is ≤ n → 0 < n → length (tailText reply is) ≤ n * 63
+tail-most (Read used visits count) is n h k = items-most is n h k
+tail-most (Typed used kinds) is n h k = omega arith
+tail-most (Refused number) is n h k = omega arith
+tail-most (Unread number visits) is n h k = omega arith
+tail-most (Signed x) is n h k = omega arith
+tail-most (Unsigned x) is n h k = omega arith
+tail-most (Single x) is n h k = omega arith
+tail-most (Double x) is n h k = omega arith
+tail-most NoQuestion is n h k = omega arith
+
+pub text-most : (reply : Reply) (is : List Item) (n : ℕ) → length is ≤ n → 0 < n → length (replyText reply is) ≤ 66 + n * 63
+unfolding replyText
+text-most reply is n h k = rw length-append (omega (arith, head-most reply, tail-most reply is n h k))

@@ -1,0 +1,24 @@
+-- One number behind the other.
+use mathlib.Core.List.{[], _∷_, append-assoc}
+use native.Mathlib.Omega.{arith}
+use Rattle.decimals.specs.Decimal.{decimal}
+use Rattle.decimals.proofs.Puts.{put-then, number-most}
+use Rattle.printing.specs.Replies.{space}
+use borrow.Author.Needs.{needs}
+use Rattle.printing.proofs.head.put_two.Statement.{statement}
+use Rattle.printing.proofs.head.put_two.Tie as tie
+
+put-number-requires : tie.Need-put-number-requires
+put-number-requires c κs = search needs
+
+put-number-requires-2 : tie.Need-put-number-requires-2
+put-number-requires-2 c κs = omega (arith, c .before .before .before .before .before .before .pre, c .before .before .before .put-number .ensures .end, c .before .before .before .put-number .kept .0, number-most (c .before .before .before .before .before .before .args .x) (space ∷ []))
+
+same-length : tie.Need-same-length
+same-length c = search needs
+
+returns : tie.Need-returns
+returns c = rw (← append-assoc (decimal (c .before .before .before .before .before .before .before .before .before .args .x)) (space ∷ [])) (put-then (c .before .before .before .before .before .before .put-number .ensures) (c .before .before .put-number2 .ensures))
+
+pub put-two-spec : {M : Type 1} → statement M
+put-two-spec = tie.close (tie.spec put-number-requires put-number-requires-2 same-length returns)

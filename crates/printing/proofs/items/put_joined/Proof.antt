@@ -1,0 +1,70 @@
+-- What is written so far, with what is left to write, is what is written in all.
+use mathlib.Core.Path.{_≡_, refl, sym, ap, _∙_}
+use Prim.Native.Nat.{_+_, _-_, _/_, _≤_}
+use native.Mathlib.Omega.{arith}
+use lib.ListN.{length}
+use lib.Seq.{sets}
+use Rattle.printing.specs.Items.{itemsOf, joined}
+use Rattle.printing.proofs.Joined.{leftOf, left-last, left-length, left-put}
+use borrow.Author.Needs.{needs}
+use Rattle.printing.proofs.items.put_joined.Statement.{statement}
+use Rattle.printing.proofs.items.put_joined.Tie as tie
+
+abbrev Inv-loop : tie.InvT-loop
+Inv-loop out₀ at items count end₀ k₀ out end k = (k ≤ length items / 3) × (length out ≡ length out₀) × (end + length (leftOf items k) ≡ at + length (joined (itemsOf items)))
+    × (sets out end (leftOf items k) ≡ sets out₀ at (joined (itemsOf items)))
+
+abbrev μ-loop : tie.MeasureT-loop
+μ-loop out₀ at items count end₀ k₀ out end k = length items / 3 - k
+
+loop-holds : tie.Need-loop-holds Inv-loop μ-loop
+loop-holds c = (omega arith, refl, refl, refl)
+
+mul-put-item : tie.Need-mul-put-item Inv-loop μ-loop
+mul-put-item c = omega arith
+
+add-behind : tie.Need-add-behind Inv-loop μ-loop
+add-behind c = omega arith
+
+behind-requires : tie.Need-behind-requires Inv-loop μ-loop
+behind-requires c κs = search needs
+
+put-item-requires : tie.Need-put-item-requires Inv-loop μ-loop
+put-item-requires c κs = (omega arith, omega (arith, c .before .before .before .before .before .before .pre, c .before .before .before .loop .inv .1, c .before .before .before .loop .inv .2, left-length (c .before .before .before .before .before .before .args .items .now) (c .before .before .before .loop .k) (c .before .before .loop-test .taken)))
+
+add-k : tie.Need-add-k Inv-loop μ-loop
+add-k c = omega arith
+
+loop-less : tie.Need-loop-less Inv-loop μ-loop
+loop-less c = omega arith
+
+loop-again : tie.Need-loop-again Inv-loop μ-loop
+loop-again c = let p = left-put (c .before .before .before .before .before .before .before .before .before .args .items .now) (c .before .before .before .before .before .before .loop .k) (c .before .before .before .before .before .loop-test .taken) (c .before .before .before .before .before .before .loop .out) (c .before .before .before .before .before .before .loop .end) (c .before .before .before .behind .result) (c .before .before .put-item .result) (c .before .before .put-item .last .0) (c .before .before .before .behind .ensures) (c .before .before .put-item .ensures) in
+    (omega arith, c .before .before .put-item .kept .0 ∙ c .before .before .before .before .before .before .loop .inv .1, p .0 ∙ c .before .before .before .before .before .before .loop .inv .2, p .1 ∙ c .before .before .before .before .before .before .loop .inv .3)
+
+same-length : tie.Need-same-length Inv-loop μ-loop
+same-length c = c .before .loop .inv .1
+
+returns : tie.Need-returns Inv-loop μ-loop
+returns c = let z = left-last (c .before .before .before .before .args .items .now) (c .before .loop .k) (c .loop-test .left) in
+    record {
+      end = omega (arith, c .before .loop .inv .2, ap length z);
+      contents = sym (ap (sets (c .before .loop .out) (c .before .loop .end)) z) ∙ c .before .loop .inv .3;
+    }
+
+pub put-joined-spec : {M : Type 1} → statement M
+put-joined-spec =
+    tie.close
+    (tie.spec
+    Inv-loop
+    μ-loop
+    loop-holds
+    mul-put-item
+    add-behind
+    behind-requires
+    put-item-requires
+    add-k
+    loop-less
+    loop-again
+    same-length
+    returns)

@@ -1,0 +1,4 @@
+-- The text of the answers.
+pub mod Items
+pub mod Replies
+pub mod Inner

@@ -1,0 +1,73 @@
+-- The text of an answer, its LF included.
+--   space                               the character between two words
+--   okText, noText                      `ok` and `no`, and what stands behind them
+--   signedText                          "X is a signed (`-` before the digits) decimal": a number of 64 bits in two's complement
+--   bitsText                            "BITS 8 or 16 upper-case hexadecimal digits": those of so many octets, the most significant first
+--   signedWord .. doubleWord            the words before an item
+--   headText                            the text of an answer, but for a value's items
+--   tailText                            a value's items, and nothing behind other answers
+--   replyText                           the text of an answer; the items are a value's
+use mathlib.Core.List.{List, [], _∷_, _++_}
+use Prim.Native.Nat.{ℕ, _-_, _^_}
+use lib.Dec.{ltb}
+use Rattle.choices.specs.Branch.{choose}
+use Rattle.cdr.specs.declared.Order.the-variants.{Big}
+use Rattle.cdr.specs.Number.{octetsOf}
+use Rattle.decimals.specs.Decimal.{decimal}
+use Rattle.hexline.specs.Encoding.{octetDigits}
+use Rattle.reading.specs.Sinks.{Item}
+use Rattle.printing.specs.declared.Reply.{Reply}
+use Rattle.printing.specs.declared.Reply.the-variants.{Typed, Read, Refused, Unread, Signed, Unsigned, Single, Double, NoQuestion}
+use Rattle.printing.specs.Items.{dash, lf, itemsText}
+
+abbrev pub space : ℕ
+space = 32
+
+abbrev pub okText : List ℕ → List ℕ
+okText rest = 111 ∷ 107 ∷ space ∷ rest
+
+abbrev pub noText : List ℕ → List ℕ
+noText rest = 110 ∷ 111 ∷ space ∷ rest
+
+unfoldable pub signedText : ℕ → List ℕ
+signedText x = choose (ltb x (2 ^ 63)) (λ _. decimal x) (λ _. dash ∷ decimal (2 ^ 64 - x))
+
+abbrev pub bitsText : ℕ → ℕ → List ℕ
+bitsText n x = octetDigits (octetsOf Big n x)
+
+abbrev pub signedWord : List ℕ
+signedWord = 115 ∷ 105 ∷ 103 ∷ 110 ∷ 101 ∷ 100 ∷ []
+
+abbrev pub unsignedWord : List ℕ
+unsignedWord = 117 ∷ 110 ∷ signedWord
+
+abbrev pub singleWord : List ℕ
+singleWord = 115 ∷ 105 ∷ 110 ∷ 103 ∷ 108 ∷ 101 ∷ []
+
+abbrev pub doubleWord : List ℕ
+doubleWord = 100 ∷ 111 ∷ 117 ∷ 98 ∷ 108 ∷ 101 ∷ []
+
+abbrev pub headText : Reply → List ℕ
+headText (Typed used kinds) = okText (decimal used ++ (space ∷ (decimal kinds ++ (lf ∷ []))))
+headText (Read used visits count) = okText (decimal used ++ (space ∷ (decimal visits ++ (space ∷ (decimal count ++ (space ∷ []))))))
+headText (Refused number) = noText (decimal number ++ (lf ∷ []))
+headText (Unread number visits) = noText (decimal number ++ (space ∷ (decimal visits ++ (lf ∷ []))))
+headText (Signed x) = okText (signedWord ++ (space ∷ (signedText x ++ (lf ∷ []))))
+headText (Unsigned x) = okText (unsignedWord ++ (space ∷ (decimal x ++ (lf ∷ []))))
+headText (Single x) = okText (singleWord ++ (space ∷ (bitsText 4 x ++ (lf ∷ []))))
+headText (Double x) = okText (doubleWord ++ (space ∷ (bitsText 8 x ++ (lf ∷ []))))
+headText NoQuestion = 63 ∷ lf ∷ []
+
+abbrev pub tailText : Reply → List Item → List ℕ
+tailText (Read used visits count) is = itemsText is
+tailText (Typed used kinds) is = []
+tailText (Refused number) is = []
+tailText (Unread number visits) is = []
+tailText (Signed x) is = []
+tailText (Unsigned x) is = []
+tailText (Single x) is = []
+tailText (Double x) is = []
+tailText NoQuestion is = []
+
+unfoldable pub replyText : Reply → List Item → List ℕ
+replyText reply is = headText reply ++ tailText reply is

@@ -1,0 +1,170 @@
+-- Questions about a value: their words read, and the items left in the table.
+use mathlib.Core.Path.{_≡_, refl, sym, ap, _∙_}
+use mathlib.Core.List.{List, [], _∷_, _++_}
+use Prim.Native.Nat.{ℕ, _+_, _*_, _/_, _≤_}
+use native.Mathlib.Omega.{arith}
+use lib.Dec.{eqb}
+use lib.ListN.{length, take, drop, length-append, length-drop, length-take}
+use lib.Seq.{sets, length-sets, length-take-le, take-append-le}
+use Rattle.choices.proofs.Choices.{by-test, clash}
+use Rattle.choices.specs.Branch.{choose}
+use Rattle.cdr.specs.declared.Order.{Order}
+use Rattle.cdr.specs.Align.{indexOf}
+use Rattle.decimals.proofs.Puts.{take-written}
+use Rattle.printing.specs.declared.Reply.the-variants.{Read, Unread}
+use Rattle.printing.specs.Items.{itemsOf}
+use Rattle.printing.proofs.Joined.{items-flat}
+use Rattle.reading.specs.declared.ValueAnswer.{ValueAnswer}
+use Rattle.reading.specs.declared.ValueAnswer.the-variants.{Accepted, Refused}
+use Rattle.reading.specs.Sinks.{Source, source, Item, St}
+use Rattle.reading.specs.Reading.{Log, roomFor}
+use Rattle.reading.specs.Visit.{checked}
+use Rattle.reading.specs.Value.{answerOf, overlong, onType, valueAnswer, readingOf, flat, tableAfter}
+use Rattle.reading.proofs.Room.{room-kept}
+use Rattle.typecode.specs.declared.TypeAnswer.{TypeAnswer}
+use Rattle.typecode.specs.declared.TypeAnswer.the-variants.{Accepted as ok, Refused as refused, Loop}
+use Rattle.typecode.specs.TypeCode.{checkedType}
+use Rattle.words.specs.declared.Fields.{Fields}
+use Rattle.words.specs.declared.Fields.the-variants.{Are, NotFields}
+use Rattle.words.specs.declared.Asked.{Asked}
+use Rattle.words.specs.Words.{words}
+use Rattle.words.specs.Fields.{fieldsOf}
+use Rattle.words.specs.Inner.{part, Within, FieldsRead}
+use Rattle.questions.specs.declared.octets.Octets.{Octets}
+use Rattle.questions.specs.declared.octets.Octets.the-variants.{Count, NotOctets}
+use Rattle.questions.specs.declared.about.About.{About}
+use Rattle.questions.specs.declared.about.About.the-variants.{Is, NotAbout}
+use Rattle.questions.specs.Questions.{Question, valueIn, noQuestion, aboutOf, aboutQuestion}
+use Rattle.questions.specs.Replies.{roomOf}
+use Rattle.questions.specs.Inner.{WordRead, AboutRead, Replied}
+
+-- the words of a question, and the octets of two of them
+module _ (rest : List ℕ) (f : Fields) (p : FieldsRead rest f) where
+  pub about-none : (t v : List ℕ) → f ≡ NotFields → AboutRead rest NotAbout t v
+  unfolding aboutOf
+  about-none t v e = record { stands = rw (← p .read, e); typed = omega arith; valued = omega arith }
+
+  module _ (a : Asked) (e : f ≡ Are a) where
+    pub type-within : Within rest (a .typed .from) (a .typed .end)
+    type-within = (rw e at (p .within)) .0
+
+    pub value-within : Within rest (a .value .from) (a .value .end)
+    value-within = (rw e at (p .within)) .1
+
+    module _ (o : Octets) (t : List ℕ) (q : WordRead (part rest (a .typed .from) (a .typed .end)) o t) where
+      pub about-no-type : (v : List ℕ) → o ≡ NotOctets → AboutRead rest NotAbout t v
+      unfolding aboutOf
+      about-no-type v g = record { stands = rw (← p .read, e, ← q .stands, g); typed = omega arith; valued = omega arith }
+
+      module _ (types : ℕ) (g : o ≡ Count types) (w : Octets) (v : List ℕ) (s : WordRead (part rest (a .value .from) (a .value .end)) w v) where
+        pub about-no-value : w ≡ NotOctets → AboutRead rest NotAbout t v
+        unfolding aboutOf
+        about-no-value h = record { stands = rw (← p .read, e, ← q .stands, g, ← s .stands, h); typed = omega arith; valued = omega arith }
+
+        pub about-is : (values : ℕ) → w ≡ Count values → AboutRead rest (Is (a .typed .order) types (a .value .order) values (a .start) (a .number)) t v
+        unfolding aboutOf
+        about-is values h =
+            record {
+              stands = rw (← p .read, e, ← q .stands, g, ← s .stands, h);
+              typed = rw g at (q .within);
+              valued = rw h at (s .within);
+            }
+
+-- a word has no more characters than the line
+pub part-most : (rest : List ℕ) (from end : ℕ) → length (part rest from end) ≤ length rest
+part-most rest from end = rw length-take (omega (arith, length-drop from rest))
+
+-- what is read of a question about a value is within the memory, and is the question
+module _ {rest : List ℕ} {r : About} {t v : List ℕ} (p : AboutRead rest r t v) where
+  pub about-nothing : (ask : Order → List ℕ → Source → ℕ → Question) → r ≡ NotAbout → aboutQuestion ask (aboutOf (fieldsOf (words rest))) ≡ noQuestion
+  about-nothing ask e = rw (← p .stands, e)
+
+  module _ (typed : Order) (types : ℕ) (order : Order) (values start number : ℕ) (e : r ≡ Is typed types order values start number) where
+    pub types-within : types ≤ length t
+    types-within = rw e at (p .typed)
+
+    pub values-within : values ≤ length v
+    values-within = rw e at (p .valued)
+
+    pub about-asks : (ask : Order → List ℕ → Source → ℕ → Question)
+        → ask typed (take types t) (source (take values v) order (indexOf start)) number ≡ aboutQuestion ask (aboutOf (fieldsOf (words rest)))
+    about-asks ask = rw (← p .stands, e)
+
+-- an accepted value has as many items as it says
+flat-length : (is : List Item) → length (flat is) ≡ length is * 3
+unfolding flat
+flat-length [] = refl
+flat-length (i ∷ is) = let e = flat-length is in omega arith
+
+module _ (s : St Log) (used n visits : ℕ) where
+  answer-count : answerOf s ≡ Accepted used n visits → n ≡ length (s .kept .items)
+  unfolding choose
+  answer-count e =
+      by-test (eqb (s .fault) 0)
+      (λ z. let f : Accepted (s .at) (length (s .kept .items)) (s .kept .visits) ≡ Accepted used n visits = rw z at e in cc)
+      (λ z. let f = rw z at e in clash cc)
+
+  type-count : (a : TypeAnswer) → onType a (λ _. answerOf s) (λ m. Refused m 0) ≡ Accepted used n visits → n ≡ length (s .kept .items)
+  type-count (ok u k) e = answer-count e
+  type-count (refused why) e = clash cc
+  type-count Loop e = clash cc
+
+module _ (t : List ℕ) (order : Order) (x : Source) (room : ℕ) where
+  abbrev items : List Item
+  items = readingOf (roomFor room) t order x .kept .items
+
+  items-kept : length items ≤ room
+  unfolding readingOf
+  items-kept = room-kept room x (checked t (checkedType t order .met))
+
+  items-count : (used n visits : ℕ) → valueAnswer t order x room ≡ Accepted used n visits → n ≡ length items
+  unfolding valueAnswer choose
+  items-count used n visits e =
+      by-test (overlong t x)
+      (λ o. let f = rw o at e in clash cc)
+      (λ o. type-count (readingOf (roomFor room) t order x) used n visits (checkedType t order .answer) (rw o at e))
+
+-- the items of a value stand at the table's start
+module _ (t : List ℕ) (order : Order) (x : Source) (room : ℕ) (table : List ℕ) (m : ℕ) (k : m ≡ roomOf room) (h : m * 3 ≤ length table) where
+  abbrev lent : List ℕ
+  lent = take (m * 3) table
+
+  lent-length : length lent ≡ m * 3
+  lent-length = length-take-le (m * 3) table h
+
+  lent-room : length lent / 3 ≡ roomOf room
+  lent-room = omega (arith, lent-length, k)
+
+  module _ (a : ValueAnswer) (e : a ≡ valueAnswer t order x (length lent / 3)) where
+    answered : a ≡ valueAnswer t order x (roomOf room)
+    answered = rw lent-room at e
+
+    pub value-refused : (number visits : ℕ) → a ≡ Refused number visits → (after : List ℕ) → Replied (valueIn order t x room) (Unread number visits) after
+    unfolding itemsOf
+    value-refused number visits g after = record { reply = rw (← answered, g); items = rw (← answered, g); within = omega arith }
+
+    module _ (used n visits : ℕ) (g : a ≡ Accepted used n visits) (last : List ℕ) (f : last ≡ tableAfter t order x lent) where
+      count-is : n ≡ length (items t order x (roomOf room))
+      count-is = items-count t order x (roomOf room) used n visits (sym answered ∙ g)
+
+      count-fits : n * 3 ≤ length lent
+      count-fits = omega (arith, k, count-is, items-kept t order x (roomOf room), lent-length)
+
+      last-is : last ≡ sets lent 0 (flat (items t order x (roomOf room)))
+      unfolding tableAfter
+      last-is = f ∙ rw (lent-room, ← answered, g)
+
+      pub value-accepted : Replied (valueIn order t x room) (Read used visits n) (last ++ drop (m * 3) table)
+      value-accepted =
+          let l : length last ≡ length lent = ap length last-is ∙ length-sets lent 0 (flat (items t order x (roomOf room))) in
+          let c = count-fits in
+          record {
+            reply = rw (← answered, g);
+            items = rw (← answered, g)
+                (ap itemsOf
+                (take-append-le (n * 3) last (drop (m * 3) table) (omega arith)
+                ∙ ap (take (n * 3)) last-is
+                ∙ take-written lent (flat (items t order x (roomOf room))) (n * 3) (omega (arith, count-is, flat-length (items t order x (roomOf room)))) count-fits)
+                ∙ items-flat (items t order x (roomOf room)));
+            within = rw length-append (omega arith);
+          }

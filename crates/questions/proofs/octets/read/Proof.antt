@@ -1,0 +1,55 @@
+-- `-` is no octets; any other word is digits, or stands for none.
+use mathlib.Core.Path.{sym, _∙_}
+use Rattle.questions.proofs.Answers.{word-dash, word-empty, word-digits, word-other}
+use borrow.Author.Needs.{needs}
+use Rattle.questions.proofs.octets.read.Statement.{statement}
+use Rattle.questions.proofs.octets.read.Tie as tie
+
+slice-aggregate-same : tie.Need-slice-aggregate-same
+slice-aggregate-same c = search needs
+
+same-requires : tie.Need-same-requires
+same-requires c κs = search needs
+
+returns : tie.Need-returns
+returns c = word-dash (c .before .before .before .before .before .args .word .now) _ (sym (c .before .same .ensures) ∙ c .if1 .taken)
+
+returns-2 : tie.Need-returns-2
+returns-2 c = word-empty (c .before .before .before .before .before .before .args .word .now) (sym (c .before .before .same .ensures) ∙ c .before .if1 .left) _ (c .if2 .taken)
+
+decode-digits-requires : tie.Need-decode-digits-requires
+decode-digits-requires c κs = search needs
+
+enum-known-n : tie.Need-enum-known-n
+enum-known-n c = search needs
+
+same-length : tie.Need-same-length
+same-length c = search needs
+
+returns-3 : tie.Need-returns-3
+returns-3 c =
+    let o = c .before .before .before .before .before .before .before .before .before .before .before .args in
+    word-other (o .word .now) (sym (c .before .before .before .before .before .before .before .same .ensures) ∙ c .before .before .before .before .before .before .if1 .left) (c .before .before .before .before .before .if2 .left) (o .octets .now) (c .before .before .before .before .before .before .before .before .before .before .before .pre) _ _ (c .before .before .before .decode-digits .ensures) (c .match .keys2)
+
+same-length-2 : tie.Need-same-length-2
+same-length-2 c = search needs
+
+returns-4 : tie.Need-returns-4
+returns-4 c =
+    let o = c .before .before .before .before .before .before .before .before .before .before .before .before .before .args in
+    word-digits (o .word .now) (sym (c .before .before .before .before .before .before .before .before .before .same .ensures) ∙ c .before .before .before .before .before .before .before .before .if1 .left) (c .before .before .before .before .before .before .before .if2 .left) (o .octets .now) (c .before .before .before .before .before .before .before .before .before .before .before .before .before .pre) _ _ (c .before .before .before .before .before .decode-digits .ensures) _ (c .before .n .given .1) (c .before .before .before .before .before .decode-digits .kept .1 .0)
+
+pub read-spec : {M : Type 1} → statement M
+read-spec =
+    tie.close
+    (tie.spec
+    slice-aggregate-same
+    same-requires
+    returns
+    returns-2
+    decode-digits-requires
+    enum-known-n
+    same-length
+    returns-3
+    same-length-2
+    returns-4)

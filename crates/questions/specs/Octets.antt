@@ -1,0 +1,29 @@
+-- The octets that a word stands for.
+--   noneWord      the word `-`
+--   Octets        the octets, or that it stands for none
+--   isOctets      "hexadecimal of either case", an even number of digits and at least two
+--   octetsWord    "octets are hexadecimal of either case, `-` for none"
+use mathlib.Core.List.{List, [], _∷_}
+use mathlib.Core.Bool.{Bool, not, _&&_}
+use Prim.Native.Nat.{ℕ, _%_}
+use lib.Dec.{eqb}
+use lib.ListN.{length}
+use Rattle.choices.specs.Branch.{choose}
+use Rattle.hexline.specs.Decoding.{allDigits, lineOctets}
+use Rattle.words.specs.Words.{sameWord}
+
+abbrev pub noneWord : List ℕ
+noneWord = 45 ∷ []
+
+pub data Octets : Type 0 where
+  octets : List ℕ → Octets
+  notOctets : Octets
+
+abbrev pub isOctets : List ℕ → Bool
+isOctets word = not (eqb (length word) 0) && (not (eqb (length word % 2) 1) && allDigits word)
+
+unfoldable pub octetsWord : List ℕ → Octets
+octetsWord word =
+    choose (sameWord word noneWord) (λ _. octets [])
+    (λ _. choose (isOctets word) (λ _. octets (lineOctets word))
+    (λ _. notOctets))

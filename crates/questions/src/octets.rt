@@ -1,0 +1,31 @@
+// The octets that a word stands for.
+ghost use Prim.Native.Nat.{_*_, _≤_};
+ghost use lib.ListN.{length};
+ghost use Rattle.questions.specs.Inner.{WordRead};
+use hexline::Decoded;
+
+// The most octets that a line has the digits of.
+pub(crate) const MOST: usize = 65536;
+
+// What a word is as octets: how many were written, or that it stands for none.
+pub(crate) enum Octets {
+    Count(usize),
+    NotOctets,
+}
+
+// The octets that a word stands for, written from the start of `octets`.
+pub(crate) fn read(word: &[u8], octets: &mut [u8]) -> Octets
+    requires { ⌜ length (now word) ≤ length (now octets) * 2 ⌝ }
+    ensures { λ r. ⌜ WordRead (now (word .entry)) r (now (octets .exit)) ⌝ }
+{
+    if words::same(word, b"-") {
+        return Octets::Count(0);
+    }
+    if word.len() == 0 {
+        return Octets::NotOctets;
+    }
+    let Decoded::Octets(n) = hexline::decode_digits(word, octets) else {
+        return Octets::NotOctets;
+    };
+    Octets::Count(n)
+}

@@ -1,0 +1,3 @@
+-- Words found and compared, and words by their places.
+pub mod Found
+pub mod Left

@@ -1,0 +1,5 @@
+-- The words of a line, and those of a question about a value.
+pub mod Words
+pub mod Found
+pub mod Fields
+pub mod Inner
