@@ -1,5 +1,5 @@
 -- What the calls for a value and an item leave, by the answer's case.
-use mathlib.Core.Path.{_≡_, refl, sym, ap, subst, _∙_}
+use mathlib.Core.Path.{_≡_, sym, ap, subst, _∙_}
 use mathlib.Core.List.{List, [], _∷_}
 use mathlib.Core.Bool.{Bool}
 use Prim.Native.Nat.{ℕ}
@@ -8,7 +8,6 @@ use Rattle.cdr.specs.Align.{indexOf}
 use Rattle.items.specs.declared.Item.{Item}
 use Rattle.items.specs.Items.{caseOf, bitsOf}
 use Rattle.reading.specs.declared.ValueAnswer.{ValueAnswer}
-use Rattle.reading.specs.declared.ValueAnswer.the-variants.{Accepted, Refused}
 use Rattle.reading.specs.Sinks.{source}
 use Rattle.reading.specs.Value.{roomIn, valueNumber, visitsIn, usedIn, valueAnswer, tableAfter}
 use Rattle.value.specs.declared.ItemAnswer.{ItemAnswer}

@@ -255,7 +255,14 @@ pub extern "C" fn haulspar_item(
 ) -> u32
     ensures { λ r. ⌜ PicksC (now (t .entry)) little (valueAt (now (v .entry)) order start) number (now (given .entry)) r (now (given .exit)) ⌝ }
 {
-    let answer = value::read_item(t, order_is(little), v, order_is(order), Index(start), number);
+    let answer = value::read_item(
+        t,
+        order_is(little),
+        v,
+        order_is(order),
+        Index(start),
+        number,
+    );
     match answer {
         ItemAnswer::Given(item) => {
             *given = [item.case(), item.bits()];

@@ -1,8 +1,8 @@
 -- The search of a label and of a member's number, turn by turn.
-use mathlib.Core.Path.{_≡_, refl, sym, ap, _∙_}
+use mathlib.Core.Path.{_≡_, sym, ap, _∙_}
 use mathlib.Core.List.{List}
 use mathlib.Core.Bool.{Bool, true, false}
-use Prim.Native.Nat.{ℕ, zero, suc, _+_, _-_, _≤_, _<_}
+use Prim.Native.Nat.{ℕ, suc, _+_, _-_, _≤_, _<_}
 use native.Mathlib.Nat.{sub-zero}
 use native.Mathlib.Omega.{arith}
 use borrow.Author.Tests.{eq-eqb, ne-eqb}
@@ -14,7 +14,7 @@ use Rattle.kinds.specs.declared.Labels.{Labels}
 use Rattle.kinds.specs.declared.Fields.{Fields}
 use Rattle.kinds.specs.declared.Spot.{Spot}
 use Rattle.kinds.specs.declared.Spot.the-variants.{At, Nowhere}
-use Rattle.kinds.specs.Parts.{onSpot, memberAt}
+use Rattle.kinds.specs.Parts.{memberAt}
 use Rattle.met.specs.Discriminants.{labelIs}
 use Rattle.fields.specs.Fields.{noDefault}
 use Rattle.reading.specs.Visit.{caseOf, memberNo, defaultOf, chosenOf}

@@ -15,7 +15,7 @@ use mir.Val.{SFits, toZ, ofZ, sel}
 use mir.ValLaws.{toZ-pos, toZ-ofZ}
 use Rattle.choices.proofs.Choices.{chosen}
 use Rattle.items.specs.declared.Item.{Item}
-use Rattle.items.specs.declared.Item.the-variants.{Signed, Unsigned, Single, Double}
+use Rattle.items.specs.declared.Item.the-variants.{Signed, Unsigned}
 use Rattle.items.specs.Items.{signedKind, signedOf, complementOf, singleOf, doubleOf, itemOf, bitsOf}
 
 -- the machine's reading of 64 bits as a signed number

@@ -67,7 +67,7 @@ module _ (v : List ℕ) (order : Order) where
         let bound = visits-bound full x v order k (checkedType v order .met) (accepted-as v order used k type) in
         record {
           answer = subst (λ (a : ValueAnswer). AnswerOf s table a (filledBy a table (s .kept .items))) (sym is)
-            (answer-of s table (fault-is full x (checked v (checkedType v order .met))));
+              (answer-of s table (fault-is full x (checked v (checkedType v order .met))));
           bound = subst (λ (n : ℕ). n ≤ k * (length (x .octets) + 1)) (sym (ap visitsIn is ∙ visits-of s)) bound;
         }
 

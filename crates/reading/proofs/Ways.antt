@@ -1,17 +1,16 @@
 -- The ways that a reading takes, for any sink.
 use mathlib.Core.Path.{_≡_, refl, sym, ap, _∙_}
 use mathlib.Core.List.{List}
-use mathlib.Core.Bool.{Bool, true, false}
+use mathlib.Core.Bool.{true, false}
 use Prim.Native.Nat.{ℕ, zero, suc, _+_, _-_, _<_, _≤_}
 use native.Mathlib.Omega.{arith}
 use native.Mathlib.Numerals.{sub-one}
-use lib.Dec.{eqb, ltb, leb}
+use lib.Dec.{eqb, ltb}
 use lib.ListN.{length}
 use borrow.Author.Tests.{eq-eqb, ne-eqb, lt-ltb, le-ltb, le-leb, lt-leb, ltb-false}
 use Rattle.choices.specs.Branch.{choose}
 use Rattle.choices.proofs.Choices.{by-test, clash}
 use Rattle.cdr.specs.declared.Size.{Size}
-use Rattle.cdr.specs.declared.Size.the-variants.{Four}
 use Rattle.cdr.specs.Align.{octets}
 use Rattle.cdr.specs.declared.Index.{Index}
 use Rattle.cdr.specs.declared.Place.{Place}
@@ -29,9 +28,9 @@ use Rattle.kinds.specs.declared.Labels.{Labels}
 use Rattle.kinds.specs.declared.Labels.the-variants.{NoLabels}
 use Rattle.kinds.specs.declared.Parameters.{Parameters}
 use Rattle.kinds.specs.declared.Parameters.the-variants.{Leaf, Array}
-use Rattle.kinds.specs.Parts.{onSpot, memberAt}
-use Rattle.reading.specs.Sinks.{Source, Item, item, Piece, number, run, Sink, St, st, failed, after, repeats, onRead, begun, taken, putIn, done, readAt, tookNumber, numberStep, octetsAt, tookOctets, octetsStep}
-use Rattle.reading.specs.Visit.{Checked, inside, sizeOf, contentOf, leafDone, leafAt, enumDone, enumAt, textDone, textGot, textAt, countDone, countAt, tagDone, tagAt, runDone, runGot, runAt, chosenOf, elementsAt, sequenceAt, membersAt, exceptionAt, armAt, unionAt, enter}
+use Rattle.kinds.specs.Parts.{memberAt}
+use Rattle.reading.specs.Sinks.{Source, Item, item, number, run, Sink, St, failed, after, repeats, onRead, begun, taken, putIn, done, readAt, tookNumber, numberStep, octetsAt, tookOctets, octetsStep}
+use Rattle.reading.specs.Visit.{Checked, inside, sizeOf, contentOf, leafDone, leafAt, enumDone, textDone, textGot, textAt, countDone, countAt, runDone, runGot, chosenOf, elementsAt, sequenceAt, membersAt, exceptionAt, armAt, unionAt, enter}
 use Rattle.reading.specs.Reading.{reads}
 
 -- a step after which nothing is refused, or something is

@@ -36,7 +36,7 @@ logging full = record {
   visit = λ a. log (a .visits + 1) (a .pieces) (a .items);
   took = λ p a. log (a .visits) (a .pieces ++ (p ∷ [])) (a .items);
   full = λ a. full (length (a .items));
-  put = λ i a. log (a .visits) (a .pieces) (a .items ++ (i ∷ []))
+  put = λ i a. log (a .visits) (a .pieces) (a .items ++ (i ∷ []));
 }
 
 abbrev pub anyRoom : ℕ → Bool

@@ -35,11 +35,10 @@
 --   unionAt        "union: discriminant, then the member"; a discriminant takes one number, through any aliases, so the one taken last is
 --                  its own
 --   enter          what a visit does, by the kind's parameters; an accepted type has no fault
-use Prim.Native.Nat.{ℕ, zero, suc, _+_, _-_}
+use Prim.Native.Nat.{ℕ, zero, suc, _-_}
 use mathlib.Core.List.{List}
-use mathlib.Core.Bool.{Bool, cond, _||_}
+use mathlib.Core.Bool.{cond, _||_}
 use lib.Dec.{ltb, leb, eqb}
-use lib.ListN.{length}
 use Rattle.choices.specs.Branch.{choose}
 use Rattle.cdr.specs.declared.Index.{Index}
 use Rattle.cdr.specs.declared.Place.{Place}
@@ -64,7 +63,7 @@ use Rattle.met.specs.declared.Position.the-variants.{Is, NoPosition}
 use Rattle.met.specs.Met.{positionOf, parametersOf}
 use Rattle.met.specs.Discriminants.{labelsFor, labelIs}
 use Rattle.fields.specs.Fields.{noDefault}
-use Rattle.reading.specs.Sinks.{Source, Item, item, Sink, St, failed, after, repeats, begun, done, numberStep, octetsStep}
+use Rattle.reading.specs.Sinks.{Source, item, Sink, St, failed, after, repeats, done, numberStep, octetsStep}
 
 pub record Checked : Type 0 where
   pub octets : List ℕ

@@ -9,7 +9,7 @@
 --   singles          items, and what they are
 --   singles-hold     the statement
 use mathlib.Core.List.{List, [], _∷_}
-use mathlib.Core.Bool.{Bool, true, _&&_}
+use mathlib.Core.Bool.{Bool, _&&_}
 use Prim.Native.Nat.{ℕ}
 use lib.ListN.{replicate}
 use Rattle.cdr.specs.declared.Order.the-variants.{Big}

@@ -94,7 +94,7 @@ samples =
     -- "T with ..: items 2, 1, -1; 3 visits"; kinds and places are as the type and the octets say
     ∷ record {
       asked = value lent (paper 20 0x000000130000000C000000000000000300000000) (paper 12 0x0000000200000001FFFFFFFF);
-      given = 0 ∷ 12 ∷ 3 ∷ 3 ∷ 19 ∷ 0 ∷ 2 ∷ 3 ∷ 4 ∷ 1 ∷ 3 ∷ 8 ∷ 0xFFFFFFFFFFFFFFFF ∷ 9 ∷ []
+      given = 0 ∷ 12 ∷ 3 ∷ 3 ∷ 19 ∷ 0 ∷ 2 ∷ 3 ∷ 4 ∷ 1 ∷ 3 ∷ 8 ∷ 0xFFFFFFFFFFFFFFFF ∷ 9 ∷ [];
     }
     -- "first eight octets only: 50, 3 visits"
     ∷ record { asked = value lent (paper 20 0x000000130000000C000000000000000300000000) (paper 8 0x0000000200000001); given = 50 ∷ 0 ∷ 0 ∷ 3 ∷ lent }

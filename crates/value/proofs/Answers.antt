@@ -1,8 +1,8 @@
 -- The ways to an answer: too many octets, a refused type, a reading under an accepted one.
-use mathlib.Core.Path.{_≡_, refl, sym, ap, subst, _∙_}
+use mathlib.Core.Path.{_≡_, sym, ap, _∙_}
 use mathlib.Core.List.{List}
-use mathlib.Core.Bool.{Bool, true, false}
-use Prim.Native.Nat.{ℕ, _+_, _*_, _<_, _≤_, _/_, _^_}
+use mathlib.Core.Bool.{true, false}
+use Prim.Native.Nat.{ℕ, _+_, _≤_}
 use native.Mathlib.Omega.{arith}
 use native.Mathlib.Nat.{mul-le-mul}
 use borrow.Author.Tests.{ltb-false}
@@ -11,22 +11,20 @@ use lib.ListN.{length}
 use Rattle.choices.specs.Branch.{choose}
 use Rattle.choices.proofs.Choices.{neither}
 use Rattle.cdr.specs.declared.Order.{Order}
-use Rattle.met.specs.declared.Met.{Met}
 use Rattle.typecode.specs.declared.TypeAnswer.{TypeAnswer}
-use Rattle.typecode.specs.declared.TypeAnswer.the-variants.{Accepted as accepted, Refused as refusedType, Loop}
-use Rattle.typecode.specs.TypeCode.{answerNumber, checkedType}
+use Rattle.typecode.specs.declared.TypeAnswer.the-variants.{Accepted as accepted}
+use Rattle.typecode.specs.TypeCode.{checkedType}
 use Rattle.accepted.specs.Accepted.{AcceptedAs}
 use Rattle.accepted.proofs.Exact.{accepted-as}
 use Rattle.reading.specs.declared.ValueAnswer.{ValueAnswer}
-use Rattle.reading.specs.declared.ValueAnswer.the-variants.{Accepted, Refused}
-use Rattle.reading.specs.Sinks.{Source, source, St}
+use Rattle.reading.specs.declared.ValueAnswer.the-variants.{Refused}
+use Rattle.reading.specs.Sinks.{Source}
 use Rattle.reading.specs.Visit.{Checked, checked}
-use Rattle.reading.specs.Reading.{Log, anyRoom, roomFor, reading}
+use Rattle.reading.specs.Reading.{anyRoom, roomFor, reading}
 use Rattle.checking.specs.Types.{octetsLimit}
 use Rattle.reading.specs.Value.{roomIn, overlong, onType, answerOf, readingOf, valueAnswer, filledBy, tableAfter}
 use Rattle.reading.proofs.Bound.{visits-bound, items-bound}
-use Rattle.value.specs.declared.ItemAnswer.{ItemAnswer}
-use Rattle.value.specs.declared.ItemAnswer.the-variants.{Given, Refused as refusedItem}
+use Rattle.value.specs.declared.ItemAnswer.the-variants.{Refused as refusedItem}
 use Rattle.value.specs.Single.{givenBy, itemAnswer}
 use Rattle.value.specs.Inner.{Bounded, readInto, Read}
 
@@ -41,7 +39,7 @@ module _ (v : List ℕ) (order : Order) (x : Source) where
       let n : length (x .octets) ≤ octetsLimit = ltb-false _ _ (neither (ltb octetsLimit (length v)) (ltb octetsLimit (length (x .octets))) short .1) in
       record {
         visits = λ full. let b = visits-bound full x v order k (checkedType v order .met) a in
-          let m = mul-le-mul (a .most) (suc-le n) in omega arith;
+            let m = mul-le-mul (a .most) (suc-le n) in omega arith;
         items = λ full. let b = items-bound full x v order k (checkedType v order .met) a in omega arith;
       }
     where

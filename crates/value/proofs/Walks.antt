@@ -1,27 +1,24 @@
 -- What the walks over a value leave: the reading's numbers, and its items in the table.
-use mathlib.Core.Path.{_≡_, refl, sym, ap, subst, _∙_}
+use mathlib.Core.Path.{_≡_, sym, ap, subst, _∙_}
 use mathlib.Core.List.{List, [], _∷_}
 use mathlib.Core.Bool.{Bool, true, false}
-use Prim.Native.Nat.{ℕ, _<_, _≤_, _/_, _^_}
+use Prim.Native.Nat.{ℕ, _<_, _≤_}
 use native.Mathlib.Omega.{arith}
-use lib.Dec.{eqb, ltb}
 use lib.ListN.{length, getD}
-use lib.Seq.{sets}
 use borrow.Author.Tests.{eq-eqb, ne-eqb, lt-ltb, le-ltb}
 use Rattle.choices.specs.Branch.{choose}
 use Rattle.items.specs.Items.{itemOf}
 use Rattle.reading.specs.declared.ValueAnswer.{ValueAnswer}
 use Rattle.reading.specs.declared.ValueAnswer.the-variants.{Accepted, Refused}
-use Rattle.reading.specs.Sinks.{Source, Item, St}
+use Rattle.reading.specs.Sinks.{Source, St}
 use Rattle.reading.specs.Visit.{Checked}
 use Rattle.reading.specs.Reading.{Log, reads, levels, topOf, anyRoom, roomFor, reading}
-use Rattle.reading.specs.Value.{answerOf, filledBy, flat, itemNo}
+use Rattle.reading.specs.Value.{filledBy, itemNo}
 use Rattle.reading.proofs.Room.{room-kept}
 use Rattle.leaves.specs.declared.Cursor.{Cursor}
-use Rattle.leaves.specs.Lent.{Lent, rowsIn, lent, rowsFrom}
+use Rattle.leaves.specs.Lent.{Lent, rowsIn, lent}
 use Rattle.leaves.specs.Walk.{stateOf, startOf}
-use Rattle.leaves.proofs.Filling.{roomIn, stored, Small, Beside, walked, filled, row, picked}
-use Rattle.value.specs.declared.ItemAnswer.{ItemAnswer}
+use Rattle.leaves.proofs.Filling.{roomIn, stored, Small, walked, filled, row, picked}
 use Rattle.value.specs.declared.ItemAnswer.the-variants.{Given, Refused as refusedItem}
 use Rattle.value.specs.Single.{givenBy}
 use Rattle.value.specs.Inner.{Bounded, readInto, Read}
@@ -67,7 +64,7 @@ module _ (t : Checked) (x : Source) (bounded : Bounded t x) where
           let w = after-walk true false 0 table c after e in
           let r = refused (λ y. z (w .fault ∙ y)) in
           let a : Refused (c .fault) (c .visits) ≡ readInto t x table =
-            ap (λ (n : ℕ). Refused n (c .visits)) (w .fault) ∙ ap (Refused (result .fault)) (w .visits) ∙ sym r in
+          ap (λ (n : ℕ). Refused n (c .visits)) (w .fault) ∙ ap (Refused (result .fault)) (w .visits) ∙ sym r in
           record { answer = a; filled = w .rows ∙ ap (λ (y : ValueAnswer). filledBy y table (result .kept .items)) (sym r) }
 
       -- a walk that finds none, and the one that fills the table after it
@@ -80,10 +77,10 @@ module _ (t : Checked) (x : Source) (bounded : Bounded t x) where
           let y = after-walk true true 0 table d last g in
           let r = accepted (sym (w .fault) ∙ z) in
           let a : Accepted (d .at) (d .items) (d .visits) ≡ readInto t x table =
-            ap (λ (n : ℕ). Accepted n (d .items) (d .visits)) (y .at)
-            ∙ ap (λ (n : ℕ). Accepted (result .at) n (d .visits)) (y .items)
-            ∙ ap (Accepted (result .at) (length (result .kept .items))) (y .visits)
-            ∙ sym r in
+          ap (λ (n : ℕ). Accepted n (d .items) (d .visits)) (y .at)
+          ∙ ap (λ (n : ℕ). Accepted (result .at) n (d .visits)) (y .items)
+          ∙ ap (Accepted (result .at) (length (result .kept .items))) (y .visits)
+          ∙ sym r in
           record {
             answer = a;
             filled = y .rows ∙ filled (result .kept .items) table (room-kept (rowsIn table) x t) ∙ ap (λ (u : ValueAnswer). filledBy u table (result .kept .items)) (sym r);

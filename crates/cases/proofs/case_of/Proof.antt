@@ -2,16 +2,17 @@
 use borrow.Author.Needs.{needs}
 use Rattle.cases.proofs.case_of.Statement.{statement}
 use Rattle.cases.proofs.case_of.Tie as tie
-use mathlib.Core.Path.{_≡_, sym, _∙_}
+use mathlib.Core.Path.{sym, _∙_}
 use native.Mathlib.Omega.{arith}
 use Prim.Native.Nat.{_-_}
-use Rattle.kinds.specs.Parameters.{fieldsOf}
-use Rattle.cases.proofs.Turns.{Seeking, seeking-none, seeking-hit, seeking-cut, seeking-more, seeking-all, Counting, counting-none, counting-cut, counting-more, counting-all, default-none, default-some, chosen-case, chosen-default}
+use Rattle.cases.proofs.Turns.{Seeking, seeking-none, seeking-hit, seeking-cut, seeking-more, seeking-all}
 
 abbrev Inv-loop : tie.InvT-loop
 Inv-loop labels t label start order count at₀ k₀ at k = Seeking labels t start order label count k at₀ at
+
 abbrev μ-loop : tie.MeasureT-loop
 μ-loop labels t label start order count at₀ k₀ at k = count - k
+
 loop-holds : tie.Need-loop-holds Inv-loop μ-loop
 loop-holds c = seeking-none (c .before .before .before .args .labels) (c .before .before .before .args .t .now) (c .before .before .before .args .fields .start) (c .before .before .before .args .fields .order) (c .before .before .before .args .label)
 

@@ -2,11 +2,9 @@
 use borrow.Author.Needs.{needs}
 use Rattle.cases.proofs.chosen_of.Statement.{statement}
 use Rattle.cases.proofs.chosen_of.Tie as tie
-use mathlib.Core.Path.{_≡_, sym, _∙_}
-use native.Mathlib.Omega.{arith}
+use mathlib.Core.Path.{sym, _∙_}
 use Prim.Native.Nat.{_-_}
-use Rattle.kinds.specs.Parameters.{fieldsOf}
-use Rattle.cases.proofs.Turns.{Seeking, seeking-none, seeking-hit, seeking-cut, seeking-more, seeking-all, Counting, counting-none, counting-cut, counting-more, counting-all, default-none, default-some, chosen-case, chosen-default}
+use Rattle.cases.proofs.Turns.{chosen-case, chosen-default}
 
 case-of-requires : tie.Need-case-of-requires
 case-of-requires c κs = search needs

@@ -2,11 +2,9 @@
 use borrow.Author.Needs.{needs}
 use Rattle.cases.proofs.default_of.Statement.{statement}
 use Rattle.cases.proofs.default_of.Tie as tie
-use mathlib.Core.Path.{_≡_, sym, _∙_}
-use native.Mathlib.Omega.{arith}
+use mathlib.Core.Path.{_∙_}
 use Prim.Native.Nat.{_-_}
-use Rattle.kinds.specs.Parameters.{fieldsOf}
-use Rattle.cases.proofs.Turns.{Seeking, seeking-none, seeking-hit, seeking-cut, seeking-more, seeking-all, Counting, counting-none, counting-cut, counting-more, counting-all, default-none, default-some, chosen-case, chosen-default}
+use Rattle.cases.proofs.Turns.{default-none, default-some}
 
 returns : tie.Need-returns
 returns c = default-none (c .before .before .args .labels) (c .before .before .args .t .now) (c .before .before .args .fields) (c .before .before .args .default) (c .if1 .taken)

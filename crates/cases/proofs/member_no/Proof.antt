@@ -2,16 +2,17 @@
 use borrow.Author.Needs.{needs}
 use Rattle.cases.proofs.member_no.Statement.{statement}
 use Rattle.cases.proofs.member_no.Tie as tie
-use mathlib.Core.Path.{_≡_, sym, _∙_}
+use mathlib.Core.Path.{sym, _∙_}
 use native.Mathlib.Omega.{arith}
 use Prim.Native.Nat.{_-_}
-use Rattle.kinds.specs.Parameters.{fieldsOf}
-use Rattle.cases.proofs.Turns.{Seeking, seeking-none, seeking-hit, seeking-cut, seeking-more, seeking-all, Counting, counting-none, counting-cut, counting-more, counting-all, default-none, default-some, chosen-case, chosen-default}
+use Rattle.cases.proofs.Turns.{Counting, counting-none, counting-cut, counting-more, counting-all}
 
 abbrev Inv-loop : tie.InvT-loop
 Inv-loop labels t number start order at₀ k₀ at k = Counting labels t start order number k at₀ at
+
 abbrev μ-loop : tie.MeasureT-loop
 μ-loop labels t number start order at₀ k₀ at k = number - k
+
 loop-holds : tie.Need-loop-holds Inv-loop μ-loop
 loop-holds c = counting-none (c .before .before .before .args .labels) (c .before .before .before .args .t .now) (c .before .before .before .args .fields .start) (c .before .before .before .args .fields .order)
 

@@ -2,17 +2,10 @@
 use borrow.Author.Needs.{needs}
 use Rattle.value.proofs.pick.Statement.{statement}
 use Rattle.value.proofs.pick.Tie as tie
-use mathlib.Core.Path.{_≡_, refl, sym, ap, _∙_}
-use native.Mathlib.Omega.{arith}
-use Prim.Native.Nat.{ℕ, _/_}
-use lib.ListN.{length}
-use borrow.Author.Tests.{lt-ltb, le-ltb}
-use Rattle.cdr.specs.declared.Order.{Order}
+use mathlib.Core.Path.{ap, _∙_}
 use Rattle.reading.specs.Sinks.{source}
 use Rattle.reading.specs.Visit.{checked}
-use Rattle.reading.specs.Value.{roomIn, valueAnswer, tableAfter}
 use Rattle.value.proofs.Walks as walks
-use Rattle.value.proofs.Answers as answers
 use Rattle.value.specs.declared.ItemAnswer.the-variants.{Given}
 
 slice-aggregate-walk : tie.Need-slice-aggregate-walk

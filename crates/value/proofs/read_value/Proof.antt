@@ -2,25 +2,16 @@
 use borrow.Author.Needs.{needs}
 use Rattle.value.proofs.read_value.Statement.{statement}
 use Rattle.value.proofs.read_value.Tie as tie
-use mathlib.Core.Path.{_≡_, refl, sym, ap, _∙_}
-use native.Mathlib.Omega.{arith}
-use Prim.Native.Nat.{ℕ, _/_}
-use lib.ListN.{length}
-use borrow.Author.Tests.{lt-ltb, le-ltb}
-use Rattle.cdr.specs.declared.Order.{Order}
+use mathlib.Core.Path.{sym, ap, _∙_}
+use Prim.Native.Nat.{ℕ}
 use Rattle.reading.specs.Sinks.{source}
 use Rattle.reading.specs.Visit.{checked}
-use Rattle.reading.specs.Value.{roomIn, valueAnswer, tableAfter}
-use Rattle.value.proofs.Walks as walks
+use Rattle.reading.specs.Value.{roomIn}
 use Rattle.value.proofs.Answers as answers
 use Rattle.typecode.specs.declared.CheckedType.{CheckedType}
 use Rattle.met.specs.declared.Met.{Met}
-use Rattle.typecode.specs.TypeCode.{checkedType}
 use Rattle.value.specs.Inner.{Bounded, Read}
-use Rattle.value.specs.Single.{givenBy}
-use Rattle.reading.specs.Reading.{reading, anyRoom}
 use mathlib.Core.Path.{subst}
-use Rattle.reading.specs.declared.ValueAnswer.{ValueAnswer}
 use Rattle.reading.specs.declared.ValueAnswer.the-variants.{Refused}
 
 over-long-requires : tie.Need-over-long-requires

@@ -36,13 +36,9 @@ use Rattle.leaves.proofs.text.Reads as text-reads
 use Rattle.met.proofs.labels_for.Reads as labels-for-reads
 use Rattle.walking.proofs.leaf_elements.Reads as leaf-elements-reads
 use Rattle.walking.proofs.within.Reads as within-reads
-use Rattle.walking.proofs.+each+elements+exception+sequence+struct_members+union_member+visit.{
-  statement,
-}
-use Rattle.walking.proofs.+each+elements+exception+sequence+struct_members+union_member+visit.Tie.{
-  close,
-}
-use mathlib.Core.Path.{_≡_, refl, sym, ap, subst, _∙_}
+use Rattle.walking.proofs.+each+elements+exception+sequence+struct_members+union_member+visit.{statement}
+use Rattle.walking.proofs.+each+elements+exception+sequence+struct_members+union_member+visit.Tie.{close}
+use mathlib.Core.Path.{sym, ap, _∙_}
 use native.Mathlib.Omega.{arith}
 use Prim.Native.Nat.{_-_, _+_, _*_}
 use Rattle.kinds.specs.declared.Labels.{Labels}

@@ -2,16 +2,11 @@
 use borrow.Author.Needs.{needs}
 use Rattle.walking.proofs.leaf_elements.Statement.{statement}
 use Rattle.walking.proofs.leaf_elements.Tie as tie
-use mathlib.Core.Path.{_≡_, refl, sym, ap, _∙_}
+use mathlib.Core.Path.{sym, _∙_}
 use native.Mathlib.Omega.{arith}
-use Prim.Native.Nat.{ℕ}
-use lib.ListN.{length}
-use Rattle.kinds.specs.declared.Parameters.{Parameters}
-use Rattle.met.specs.Met.{parametersOf, findPlace}
-use Rattle.reading.specs.Visit.{checked, atPosition, inside, elementsAt}
 use Rattle.reading.specs.Reading.{reads}
 use Rattle.reading.proofs.Ways as way
-use Rattle.leaves.specs.Walk.{sinkOf, sourceOf, stateOf, startOf}
+use Rattle.leaves.specs.Walk.{sinkOf, sourceOf, stateOf}
 
 returns : tie.Need-returns
 returns c = λ t. sym (way.elements-none (sinkOf (c .before .before .before .args .m)) (sourceOf (c .before .before .before .args .m) (c .before .before .before .args .v .now)) (reads (sinkOf (c .before .before .before .args .m)) (sourceOf (c .before .before .before .args .m) (c .before .before .before .args .v .now)) t (c .before .before .before .args .left)) _ (c .before .before .before .args .count) (stateOf (c .before .before .before .args .c) (c .before .before .before .args .table .now)) (c .if1 .taken))

@@ -2,16 +2,11 @@
 use borrow.Author.Needs.{needs}
 use Rattle.walking.proofs.walk.Statement.{statement}
 use Rattle.walking.proofs.walk.Tie as tie
-use mathlib.Core.Path.{_≡_, refl, sym, ap, _∙_}
-use native.Mathlib.Omega.{arith}
-use Prim.Native.Nat.{ℕ}
-use lib.ListN.{length}
+use mathlib.Core.Path.{ap, _∙_}
 use Rattle.kinds.specs.declared.Parameters.{Parameters}
-use Rattle.met.specs.Met.{parametersOf, findPlace}
-use Rattle.reading.specs.Visit.{checked, atPosition, inside, elementsAt}
+use Rattle.reading.specs.Visit.{checked, inside}
 use Rattle.reading.specs.Reading.{reads}
-use Rattle.reading.proofs.Ways as way
-use Rattle.leaves.specs.Walk.{sinkOf, sourceOf, stateOf, startOf}
+use Rattle.leaves.specs.Walk.{sinkOf, sourceOf, stateOf}
 use Rattle.leaves.specs.declared.Cursor.{Cursor}
 use Rattle.kinds.specs.Parts.{placeOf}
 

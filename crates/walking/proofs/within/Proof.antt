@@ -2,16 +2,8 @@
 use borrow.Author.Needs.{needs}
 use Rattle.walking.proofs.within.Statement.{statement}
 use Rattle.walking.proofs.within.Tie as tie
-use mathlib.Core.Path.{_≡_, refl, sym, ap, _∙_}
-use native.Mathlib.Omega.{arith}
-use Prim.Native.Nat.{ℕ}
-use lib.ListN.{length}
-use Rattle.kinds.specs.declared.Parameters.{Parameters}
-use Rattle.met.specs.Met.{parametersOf, findPlace}
-use Rattle.reading.specs.Visit.{checked, atPosition, inside, elementsAt}
-use Rattle.reading.specs.Reading.{reads}
-use Rattle.reading.proofs.Ways as way
-use Rattle.leaves.specs.Walk.{sinkOf, sourceOf, stateOf, startOf}
+use mathlib.Core.Path.{sym, ap, _∙_}
+use Rattle.reading.specs.Visit.{checked, atPosition, inside}
 
 position-requires : tie.Need-position-requires
 position-requires c κs = search needs

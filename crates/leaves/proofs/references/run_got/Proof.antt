@@ -2,21 +2,11 @@
 use borrow.Author.Needs.{needs}
 use Rattle.leaves.proofs.references.run_got.Statement.{statement}
 use Rattle.leaves.proofs.references.run_got.Tie as tie
-use mathlib.Core.Path.{_≡_, refl, sym, ap, subst, _∙_}
-use mathlib.Core.Bool.{true, false, cond}
-use mathlib.Core.List.{List}
-use Prim.Native.Nat.{ℕ, _+_, _-_, _≤_, _<_}
-use native.Mathlib.Omega.{arith}
-use lib.ListN.{length}
-use borrow.Author.Tests.{eq-eqb, ne-eqb, lt-ltb, le-ltb, le-leb, lt-leb}
-use Rattle.cdr.specs.declared.Size.the-variants.{Four}
-use Rattle.cdr.proofs.Alignment.{read-facts, octets-small}
-use Rattle.choices.specs.Branch.{choose}
-use Rattle.reading.specs.Sinks.{St, Item, item, number, run, failed, after, repeats, begun, taken, done, numberStep, tookNumber, tookOctets, octetsAt, octetsStep}
-use Rattle.reading.specs.Visit.{sizeOf, contentOf, leafDone, leafAt, enumDone, enumAt, textGot, textAt, countDone, countAt, tagDone, tagAt, runGot, runAt, profileAt, profilesAt, objrefAt}
+use mathlib.Core.Path.{sym, ap, _∙_}
+use Prim.Native.Nat.{_-_}
+use Rattle.reading.specs.Sinks.{item, done, octetsAt}
 use Rattle.reading.proofs.Ways as way
-use Rattle.leaves.specs.Lent.{Lent, rowPut}
-use Rattle.leaves.specs.Walk.{sinkOf, sourceOf, stateOf, leafVisit}
+use Rattle.leaves.specs.Walk.{sinkOf, sourceOf, stateOf}
 
 read-run-requires : tie.Need-read-run-requires
 read-run-requires c κs = search needs
