@@ -19,7 +19,7 @@ use Rattle.leaves.specs.Lent.{Lent, lentOf, rowsIn, set3, rowPut, lent, 
 
 -- a table keeps its length
 
-set3-long : (table : List ℕ) (j a b c : ℕ) → length (set3 table j a b c) ≡ length table
+pub set3-long : (table : List ℕ) (j a b c : ℕ) → length (set3 table j a b c) ≡ length table
 set3-long table j a b c = simp length-set
 
 row-long : (first i : ℕ) (x : Item) (table : List ℕ) → length (rowPut first i x table) ≡ length table
@@ -157,7 +157,7 @@ module _ (limited fill : Bool) (first : ℕ) (x : Source) (table : List ℕ) whe
       (record { at = refl; fault = refl; last = refl; visits = refl; items = refl; rows = starts fill }) e
 
 -- item j from the first on goes into row j, where the table has room for it
-row-put : (first i j : ℕ) (x : Item) (table : List ℕ) → i ≡ first + j → j < rowsIn table
+pub row-put : (first i j : ℕ) (x : Item) (table : List ℕ) → i ≡ first + j → j < rowsIn table
     → rowPut first i x table ≡ set3 table (j * 3) (x .kind) (x .place) (x .content)
 unfolding rowPut
 row-put first i j x table e room =

@@ -17,6 +17,7 @@ use cdr::Size;
 mod primitives;
 mod references;
 mod rows;
+mod runs;
 
 // What holds of a whole walk: order and starting index of the value; whether no more items are taken than the table has room for, whether
 // they go into it, and the number of the item that goes first.
@@ -134,16 +135,10 @@ pub fn leaf(v: &[u8], m: Mode, table: &mut [u64], kind: u64, c: Cursor) -> Curso
 pub fn leaves(v: &[u8], m: Mode, table: &mut [u64], kind: u64, count: u64, c: Cursor) -> Cursor
     ensures { λ r. ⌜ stateOf r (now (table .exit)) ≡ repeats (leafVisit m (now (v .entry)) kind) count (stateOf c (now (table .entry))) ⌝ }
 {
-    let mut d = c;
-    let mut k: u64 = 0;
-    while k < count {
-        d = leaf(v, m, table, kind, d.visit());
-        if d.fault != 0 {
-            return d;
-        }
-        k += 1;
+    if runs::is_plain(kind, count, c.fault) {
+        return runs::together(v, m, table, kind, count as usize, c);
     }
-    d
+    runs::each(v, m, table, kind, count, c)
 }
 
 // An enum with so many names.

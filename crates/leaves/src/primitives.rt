@@ -41,7 +41,7 @@ pub(crate) fn size_of(kind: u64) -> Size
 }
 
 // The content of a primitive.
-fn content_of(kind: u64, value: u64) -> u64
+pub(crate) fn content_of(kind: u64, value: u64) -> u64
     ensures { λ r. ⌜ r ≡ contentOf kind value ⌝ }
 {
     if items::is_signed(kind) {

@@ -11,7 +11,7 @@ use crate::Cursor;
 use crate::Mode;
 
 // Three numbers of the table.
-fn store(table: &mut [u64], j: usize, a: u64, b: u64, c: u64)
+pub(crate) fn store(table: &mut [u64], j: usize, a: u64, b: u64, c: u64)
     requires { ⌜ j + 2 < length (now table) ⌝ }
     ensures { λ _. ⌜ now (table .exit) ≡ set3 (now (table .entry)) j a b c ⌝ }
 {

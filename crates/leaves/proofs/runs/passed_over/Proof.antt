@@ -1,0 +1,63 @@
+-- Numbers in a row that go into no table.
+use borrow.Author.Needs.{needs}
+use mathlib.Core.Path.{sym, _∙_}
+use Prim.Native.Nat.{_-_}
+use native.Mathlib.Omega.{arith}
+use lib.ListN.{length}
+use Rattle.cdr.proofs.Alignment.{read-facts}
+use Rattle.leaves.proofs.InRows.{few-octets, last-fits, row-ends, row-passed}
+use Rattle.leaves.proofs.runs.passed_over.Statement.{statement}
+use Rattle.leaves.proofs.runs.passed_over.Tie as tie
+
+sub-number-at : tie.Need-sub-number-at
+sub-number-at c = let h = c .before .before .pre .0 .plain .some in search needs
+
+octets-requires : tie.Need-octets-requires
+octets-requires c κs = search needs
+
+mul-number-at : tie.Need-mul-number-at
+mul-number-at c = omega (arith, few-octets (c .before .before .args .size) (c .before .before .args .n - 1) (c .octets .result) (c .octets .ensures) (let h = c .before .before .pre .0 .plain .few in omega arith))
+
+add-number-at : tie.Need-add-number-at
+add-number-at c = omega (arith, last-fits (c .before .before .args .size) (c .before .before .args .n) (c .before .before .args .p) (c .octets .result) (length (c .before .before .args .v .now)) (c .octets .ensures) (c .before .before .pre .0 .plain .some) (c .before .before .pre .0 .fits))
+
+number-at-requires : tie.Need-number-at-requires
+number-at-requires c κs = search needs
+
+enum-known-at : tie.Need-enum-known-at
+enum-known-at c = search needs
+
+add-t16 : tie.Need-add-t16
+add-t16 c = omega (arith, read-facts (c .before .before .before .before .before .before .args .v .now) (c .before .before .before .before .before .before .args .m .start) _ (c .before .before .before .before .before .before .args .size) (c .before .before .before .before .before .before .args .m .order) _ _ (sym (c .before .before .before .number-at .ensures) ∙ c .before .at .given .1) .fits, c .before .before .before .before .octets .ensures)
+
+wrapping-add-u64-requires : tie.Need-wrapping-add-u64-requires
+wrapping-add-u64-requires c κs = search needs
+
+wrapping-add-usize-requires : tie.Need-wrapping-add-usize-requires
+wrapping-add-usize-requires c κs = search needs
+
+enum-told : tie.Need-enum-told
+enum-told c = search needs
+
+returns : tie.Need-returns
+returns c = row-passed (c .before .before .before .before .before .before .before .before .args .m) (c .before .before .before .before .before .before .before .before .args .v .now) (c .before .before .before .before .before .before .before .before .args .kind) (c .before .before .before .before .before .before .before .before .args .size) (c .before .before .before .before .before .before .before .before .pre .0 .plain .primitive) (c .before .before .before .before .before .before .before .before .pre .0 .plain .other) (c .before .before .before .before .before .before .before .before .pre .0 .sized) (c .before .before .before .before .before .before .before .before .args .n) (c .before .before .before .before .before .before .before .before .args .p) (c .before .before .before .before .before .before .before .before .args .c) (c .before .before .before .before .before .before .before .before .pre .0) (c .before .before .before .before .before .before .before .before .pre .1) (c .before .before .before .before .before .before .octets .result) (c .before .before .before .before .before .before .octets .ensures) _ _ (sym (c .before .before .before .before .before .number-at .ensures) ∙ c .before .before .before .at .given .1) (c .before .wrapping-add-u64 .result) (c .wrapping-add-usize .result) (c .before .wrapping-add-u64 .ensures) (c .wrapping-add-usize .ensures)
+
+returns-2 : tie.Need-returns-2
+returns-2 c = absurd (row-ends (c .before .before .before .before .before .args .m) (c .before .before .before .before .before .args .v .now) (c .before .before .before .before .before .args .kind) (c .before .before .before .before .before .args .size) (c .before .before .before .before .before .pre .0 .plain .primitive) (c .before .before .before .before .before .pre .0 .plain .other) (c .before .before .before .before .before .pre .0 .sized) (c .before .before .before .before .before .args .n) (c .before .before .before .before .before .args .p) (c .before .before .before .before .before .args .c) (c .before .before .before .before .before .pre .0) (c .before .before .before .octets .result) (c .before .before .before .octets .ensures) (sym (c .before .before .number-at .ensures) ∙ c .enum-told .given .1))
+
+pub passed-over-spec : {M : Type 1} → statement M
+passed-over-spec =
+    tie.close
+    (tie.spec
+    octets-requires
+    sub-number-at
+    mul-number-at
+    add-number-at
+    number-at-requires
+    enum-known-at
+    add-t16
+    wrapping-add-u64-requires
+    wrapping-add-usize-requires
+    enum-told
+    returns
+    returns-2)
