@@ -14,27 +14,19 @@ use kinds::Spot;
 use leaves::Cursor;
 use leaves::Mode;
 use met::Met;
-use met::Position;
 
 // The most levels that may be open.
 const LEVELS: u32 = 64;
+
+// The fewest elements for which a plan is made.
+const PLANNED: u64 = 8;
 
 // Walks over the value of a checked type from its start.
 pub fn walk(t: &[u8], met: Met, v: &[u8], m: Mode, table: &mut [u64]) -> Cursor
     ensures { λ r. ⌜ stateOf r (now (table .exit)) ≡ reads (sinkOf m) (sourceOf m (now (v .entry))) (checked (now (t .entry)) met) levels (topOf (checked (now (t .entry)) met)) (stateOf startOf (now (table .entry))) ⌝ }
 {
-    let top = within(t, met, Place(0));
+    let top = plans::within(t, met, Place(0));
     visit(t, met, v, m, table, top, LEVELS, Cursor::start())
-}
-
-// The parameters of the kind at a place of the type.
-fn within(t: &[u8], met: Met, place: Place) -> Parameters
-    ensures { λ r. ⌜ r ≡ inside (checked (now (t .entry)) met) place ⌝ }
-{
-    match met.position(place) {
-        Position::Is(j) => met::parameters_of(t, met, j),
-        Position::NoPosition => Parameters::Fault,
-    }
 }
 
 // A visit, with so many levels left.
@@ -72,11 +64,11 @@ fn visit(
             sequence(t, met, v, m, table, element, bound, below, d)
         }
         Parameters::Array { element, length } => {
-            let e = within(t, met, element);
+            let e = plans::within(t, met, element);
             elements(t, met, v, m, table, e, length, below, d)
         }
         Parameters::Alias(place) => {
-            let e = within(t, met, place);
+            let e = plans::within(t, met, place);
             visit(t, met, v, m, table, e, below, d)
         }
     }
@@ -106,8 +98,12 @@ fn struct_members(
         else {
             return d;
         };
-        let e = within(t, met, place);
-        d = visit(t, met, v, m, table, e, left, d);
+        let e = plans::within(t, met, place);
+        let flat = plans::flat_visit(v, m, table, e, left, d);
+        d = flat.cursor;
+        if flat.enters {
+            d = visit(t, met, v, m, table, e, left, d);
+        }
         if d.fault != 0 {
             return d;
         }
@@ -152,16 +148,24 @@ fn union_member(
 ) -> Cursor
     ensures { λ r. ⌜ stateOf r (now (table .exit)) ≡ unionAt (sinkOf m) (sourceOf m (now (v .entry))) (reads (sinkOf m) (sourceOf m (now (v .entry))) (checked (now (t .entry)) met) left) (checked (now (t .entry)) met) (labelsFor (now (t .entry)) met discriminant) fields discriminant default (stateOf c (now (table .entry))) ⌝ }
 {
-    let switch = within(t, met, discriminant);
-    let d = visit(t, met, v, m, table, switch, left, c);
+    let switch = plans::within(t, met, discriminant);
+    let flat = plans::flat_visit(v, m, table, switch, left, c);
+    let mut d = flat.cursor;
+    if flat.enters {
+        d = visit(t, met, v, m, table, switch, left, d);
+    }
     if d.fault != 0 {
         return d;
     }
     let labels = met::labels_for(t, met, discriminant);
     match cases::chosen_of(labels, t, fields, default, d.last) {
         Spot::At { place, next: _ } => {
-            let e = within(t, met, place);
-            visit(t, met, v, m, table, e, left, d)
+            let e = plans::within(t, met, place);
+            let flat = plans::flat_visit(v, m, table, e, left, d);
+            if flat.enters {
+                return visit(t, met, v, m, table, e, left, flat.cursor);
+            }
+            flat.cursor
         }
         Spot::Nowhere => d,
     }
@@ -185,7 +189,10 @@ fn sequence(
     if d.fault != 0 {
         return d;
     }
-    let e = within(t, met, element);
+    if d.last == 0 {
+        return d;
+    }
+    let e = plans::within(t, met, element);
     elements(t, met, v, m, table, e, d.last, left, d)
 }
 
@@ -205,6 +212,16 @@ fn elements(
 {
     match e {
         Parameters::Leaf(kind) => leaf_elements(v, m, table, kind, count, left, c),
+        Parameters::Struct(fields) => {
+            if count < PLANNED {
+                return each(t, met, v, m, table, e, count, left, c);
+            }
+            let plan = plans::plan_of(t, met, fields, left);
+            if plan.found {
+                return plans::structs(v, m, table, plan, count, c);
+            }
+            each(t, met, v, m, table, e, count, left, c)
+        }
         _ => each(t, met, v, m, table, e, count, left, c),
     }
 }

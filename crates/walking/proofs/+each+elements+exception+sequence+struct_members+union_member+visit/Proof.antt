@@ -35,10 +35,16 @@ use Rattle.leaves.proofs.reference.Reads as reference-reads
 use Rattle.leaves.proofs.text.Reads as text-reads
 use Rattle.met.proofs.labels_for.Reads as labels-for-reads
 use Rattle.walking.proofs.leaf_elements.Reads as leaf-elements-reads
-use Rattle.walking.proofs.within.Reads as within-reads
+use Rattle.plans.proofs.flat_visit.Reads as flat-visit-reads
+use Rattle.plans.proofs.within.Reads as within-reads
+use Rattle.plans.proofs.plan_of.Reads as plan-of-reads
+use Rattle.plans.proofs.structs.Reads as structs-reads
 use Rattle.walking.proofs.+each+elements+exception+sequence+struct_members+union_member+visit.{statement}
 use Rattle.walking.proofs.+each+elements+exception+sequence+struct_members+union_member+visit.Tie.{close}
-use mathlib.Core.Path.{sym, ap, _∙_}
+use mathlib.Core.Path.{_≡_, sym, ap, _∙_}
+use mathlib.Core.List.{List}
+use mathlib.Core.Logic.{⊎-elim}
+use lib.ListN.{length}
 use native.Mathlib.Omega.{arith}
 use Prim.Native.Nat.{_-_, _+_, _*_}
 use Rattle.kinds.specs.declared.Labels.{Labels}
@@ -48,8 +54,10 @@ use Rattle.met.specs.Discriminants.{labelsFor}
 use Rattle.reading.specs.Visit.{checked, inside, chosenOf, elementsAt, enter}
 use Rattle.reading.specs.Reading.{reads}
 use Rattle.reading.proofs.Ways as way
+use Rattle.leaves.specs.declared.Cursor.{Cursor}
 use Rattle.leaves.specs.Walk.{sinkOf, sourceOf, stateOf}
 use Rattle.leaves.proofs.Loops.{Going, going-none, going-all, going-stop, going-more}
+use Rattle.plans.proofs.Steps.{flat-done, flat-left, plan-elements}
 use Rattle.walking.proofs.Onward.{Onward, onward-none, onward-all, onward-cut, onward-stop, onward-more}
 
 abbrev μ-each : Measures 3 each-kinds.ps ℕ
@@ -173,7 +181,7 @@ unfolding elementsAt
 each-returns-2 t c = going-all (c .before .loop .inv) (c .loop-test .left)
 
 abbrev elements-of : ℕ → elements-lts.Claims
-elements-of t = (leaf-elements-reads.Asked, leaf-elements-reads.Learnt, each-below t, each.Post)
+elements-of t = (leaf-elements-reads.Asked, leaf-elements-reads.Learnt, each-below t, each.Post, plan-of-reads.Asked, plan-of-reads.Learnt, structs-reads.Asked, structs-reads.Learnt)
 
 elements-enum-known-e : (t : ℕ) → elements-lts.Need-enum-known-e (elements-of t) (elements-at t) elements.Post
 elements-enum-known-e t c = search needs
@@ -181,20 +189,53 @@ elements-enum-known-e t c = search needs
 elements-leaf-elements-requires : (t : ℕ) → elements-lts.Need-leaf-elements-requires (elements-of t) (elements-at t) elements.Post
 elements-leaf-elements-requires t c κs = search needs
 
+elements-enum-known-e-2 : (t : ℕ) → elements-lts.Need-enum-known-e-2 (elements-of t) (elements-at t) elements.Post
+elements-enum-known-e-2 t c = search needs
+
 elements-each-requires : (t : ℕ) → elements-lts.Need-each-requires (elements-of t) (elements-at t) elements.Post
-elements-each-requires t c κs = (omega (arith, c .before .before .before .before .before .pre .0), tt)
+elements-each-requires t c κs = (omega (arith, c .before .before .before .before .before .before .before .before .pre .0), tt)
 
 elements-same-length : (t : ℕ) → elements-lts.Need-same-length (elements-of t) (elements-at t) elements.Post
-elements-same-length t c = search needs
+elements-same-length t c = c .before .before .each .kept .1 .1 .1 .1 .0
 
 elements-returns : (t : ℕ) → elements-lts.Need-returns (elements-of t) (elements-at t) elements.Post
-elements-returns t c = c .before .before .leaf-elements .ensures (checked (c .before .before .before .before .before .before .before .before .before .before .args .t .now) (c .before .before .before .before .before .before .before .before .before .before .args .met)) ∙ ap (λ (p : Parameters). elementsAt (sinkOf (c .before .before .before .before .before .before .before .before .before .before .args .m)) (sourceOf (c .before .before .before .before .before .before .before .before .before .before .args .m) (c .before .before .before .before .before .before .before .before .before .before .args .v .now)) (reads (sinkOf (c .before .before .before .before .before .before .before .before .before .before .args .m)) (sourceOf (c .before .before .before .before .before .before .before .before .before .before .args .m) (c .before .before .before .before .before .before .before .before .before .before .args .v .now)) (checked (c .before .before .before .before .before .before .before .before .before .before .args .t .now) (c .before .before .before .before .before .before .before .before .before .before .args .met)) (c .before .before .before .before .before .before .before .before .before .before .args .left)) p (c .before .before .before .before .before .before .before .before .before .before .args .count) (stateOf (c .before .before .before .before .before .before .before .before .before .before .args .c) (c .before .before .before .before .before .before .before .before .before .before .args .table .now))) (sym (c .before .before .before .before .before .e .given .1))
+elements-returns t c = c .before .before .each .ensures ∙ ap (λ (p : Parameters). elementsAt (sinkOf (c .before .before .before .before .before .before .before .before .before .before .before .args .m)) (sourceOf (c .before .before .before .before .before .before .before .before .before .before .before .args .m) (c .before .before .before .before .before .before .before .before .before .before .before .args .v .now)) (reads (sinkOf (c .before .before .before .before .before .before .before .before .before .before .before .args .m)) (sourceOf (c .before .before .before .before .before .before .before .before .before .before .before .args .m) (c .before .before .before .before .before .before .before .before .before .before .before .args .v .now)) (checked (c .before .before .before .before .before .before .before .before .before .before .before .args .t .now) (c .before .before .before .before .before .before .before .before .before .before .before .args .met)) (c .before .before .before .before .before .before .before .before .before .before .before .args .left)) p (c .before .before .before .before .before .before .before .before .before .before .before .args .count) (stateOf (c .before .before .before .before .before .before .before .before .before .before .before .args .c) (c .before .before .before .before .before .before .before .before .before .before .before .args .table .now))) (sym (c .before .before .before .before .before .before .e2 .given .1))
+
+elements-plan-of-requires : (t : ℕ) → elements-lts.Need-plan-of-requires (elements-of t) (elements-at t) elements.Post
+elements-plan-of-requires t c κs = search needs
+
+elements-structs-requires : (t : ℕ) → elements-lts.Need-structs-requires (elements-of t) (elements-at t) elements.Post
+elements-structs-requires t c κs = search needs
 
 elements-same-length-2 : (t : ℕ) → elements-lts.Need-same-length-2 (elements-of t) (elements-at t) elements.Post
-elements-same-length-2 t c = search needs
+elements-same-length-2 t c = c .before .before .structs .kept .1 .1 .0
 
 elements-returns-2 : (t : ℕ) → elements-lts.Need-returns-2 (elements-of t) (elements-at t) elements.Post
-elements-returns-2 t c = c .before .before .each .ensures
+elements-returns-2 t c = c .before .before .structs .ensures ∙ sym (plan-elements (sinkOf (c .before .before .before .before .before .before .before .before .before .before .before .before .before .args .m)) (sourceOf (c .before .before .before .before .before .before .before .before .before .before .before .before .before .args .m) (c .before .before .before .before .before .before .before .before .before .before .before .before .before .args .v .now)) (checked (c .before .before .before .before .before .before .before .before .before .before .before .before .before .args .t .now) (c .before .before .before .before .before .before .before .before .before .before .before .before .before .args .met)) (c .before .before .before .before .before .before .before .before .before .before .before .before .before .args .e) _ (c .before .before .before .before .before .before .before .before .before .before .before .before .before .args .left) (c .before .before .before .before .before .plan-of .result) (c .before .before .before .before .before .before .before .before .e2 .given .1) (c .before .before .before .before .before .plan-of .ensures (c .before .before .before .before .if2 .taken)) (c .before .before .before .before .before .before .before .before .before .before .before .before .before .args .count) (stateOf (c .before .before .before .before .before .before .before .before .before .before .before .before .before .args .c) (c .before .before .before .before .before .before .before .before .before .before .before .before .before .args .table .now)))
+
+elements-each-requires-2 : (t : ℕ) → elements-lts.Need-each-requires-2 (elements-of t) (elements-at t) elements.Post
+elements-each-requires-2 t c κs = (omega (arith, c .before .before .before .before .before .before .before .before .before .before .pre .0), tt)
+
+elements-each-requires-3 : (t : ℕ) → elements-lts.Need-each-requires-3 (elements-of t) (elements-at t) elements.Post
+elements-each-requires-3 t c κs = (omega (arith, c .before .before .before .before .before .pre .0), tt)
+
+elements-same-length-3 : (t : ℕ) → elements-lts.Need-same-length-3 (elements-of t) (elements-at t) elements.Post
+elements-same-length-3 t c = search needs
+
+elements-returns-3 : (t : ℕ) → elements-lts.Need-returns-3 (elements-of t) (elements-at t) elements.Post
+elements-returns-3 t c = c .before .before .leaf-elements .ensures (checked (c .before .before .before .before .before .before .before .before .before .before .args .t .now) (c .before .before .before .before .before .before .before .before .before .before .args .met)) ∙ ap (λ (p : Parameters). elementsAt (sinkOf (c .before .before .before .before .before .before .before .before .before .before .args .m)) (sourceOf (c .before .before .before .before .before .before .before .before .before .before .args .m) (c .before .before .before .before .before .before .before .before .before .before .args .v .now)) (reads (sinkOf (c .before .before .before .before .before .before .before .before .before .before .args .m)) (sourceOf (c .before .before .before .before .before .before .before .before .before .before .args .m) (c .before .before .before .before .before .before .before .before .before .before .args .v .now)) (checked (c .before .before .before .before .before .before .before .before .before .before .args .t .now) (c .before .before .before .before .before .before .before .before .before .before .args .met)) (c .before .before .before .before .before .before .before .before .before .before .args .left)) p (c .before .before .before .before .before .before .before .before .before .before .args .count) (stateOf (c .before .before .before .before .before .before .before .before .before .before .args .c) (c .before .before .before .before .before .before .before .before .before .before .args .table .now))) (sym (c .before .before .before .before .before .e .given .1))
+
+elements-same-length-4 : (t : ℕ) → elements-lts.Need-same-length-4 (elements-of t) (elements-at t) elements.Post
+elements-same-length-4 t c = c .before .before .each2 .kept .1 .1 .1 .1 .0
+
+elements-returns-4 : (t : ℕ) → elements-lts.Need-returns-4 (elements-of t) (elements-at t) elements.Post
+elements-returns-4 t c = c .before .before .each2 .ensures ∙ ap (λ (p : Parameters). elementsAt (sinkOf (c .before .before .before .before .before .before .before .before .before .before .before .before .before .args .m)) (sourceOf (c .before .before .before .before .before .before .before .before .before .before .before .before .before .args .m) (c .before .before .before .before .before .before .before .before .before .before .before .before .before .args .v .now)) (reads (sinkOf (c .before .before .before .before .before .before .before .before .before .before .before .before .before .args .m)) (sourceOf (c .before .before .before .before .before .before .before .before .before .before .before .before .before .args .m) (c .before .before .before .before .before .before .before .before .before .before .before .before .before .args .v .now)) (checked (c .before .before .before .before .before .before .before .before .before .before .before .before .before .args .t .now) (c .before .before .before .before .before .before .before .before .before .before .before .before .before .args .met)) (c .before .before .before .before .before .before .before .before .before .before .before .before .before .args .left)) p (c .before .before .before .before .before .before .before .before .before .before .before .before .before .args .count) (stateOf (c .before .before .before .before .before .before .before .before .before .before .before .before .before .args .c) (c .before .before .before .before .before .before .before .before .before .before .before .before .before .args .table .now))) (sym (c .before .before .before .before .before .before .before .before .e2 .given .1))
+
+elements-same-length-5 : (t : ℕ) → elements-lts.Need-same-length-5 (elements-of t) (elements-at t) elements.Post
+elements-same-length-5 t c = c .before .before .each3 .kept .1 .1 .1 .1 .0
+
+elements-returns-5 : (t : ℕ) → elements-lts.Need-returns-5 (elements-of t) (elements-at t) elements.Post
+elements-returns-5 t c = c .before .before .each3 .ensures
 
 abbrev exception-of : ℕ → exception-lts.Claims
 exception-of t = (text-reads.Asked, text-reads.Learnt, struct-members-below t, struct-members.Post)
@@ -229,20 +270,26 @@ sequence-same-length t c = c .before .before .before .before .count .kept .1 .1 
 sequence-returns : (t : ℕ) → sequence-lts.Need-returns (sequence-of t) (sequence-at t) sequence.Post
 sequence-returns t c = sym (way.sequence-stop (sinkOf (c .before .before .before .before .before .before .before .before .before .args .m)) (sourceOf (c .before .before .before .before .before .before .before .before .before .args .m) (c .before .before .before .before .before .before .before .before .before .args .v .now)) (reads (sinkOf (c .before .before .before .before .before .before .before .before .before .args .m)) (sourceOf (c .before .before .before .before .before .before .before .before .before .args .m) (c .before .before .before .before .before .before .before .before .before .args .v .now)) (checked (c .before .before .before .before .before .before .before .before .before .args .t .now) (c .before .before .before .before .before .before .before .before .before .args .met)) (c .before .before .before .before .before .before .before .before .before .args .left)) (inside (checked (c .before .before .before .before .before .before .before .before .before .args .t .now) (c .before .before .before .before .before .before .before .before .before .args .met)) (c .before .before .before .before .before .before .before .before .before .args .element)) (c .before .before .before .before .before .before .before .before .before .args .bound) (stateOf (c .before .before .before .before .before .before .before .before .before .args .c) (c .before .before .before .before .before .before .before .before .before .args .table .now)) _ (c .before .before .before .before .count .ensures) (c .if1 .taken))
 
+sequence-same-length-2 : (t : ℕ) → sequence-lts.Need-same-length-2 (sequence-of t) (sequence-at t) sequence.Post
+sequence-same-length-2 t c = c .before .before .before .before .before .before .count .kept .1 .1 .0
+
+sequence-returns-2 : (t : ℕ) → sequence-lts.Need-returns-2 (sequence-of t) (sequence-at t) sequence.Post
+sequence-returns-2 t c = sym (way.sequence-go (sinkOf (c .before .before .before .before .before .before .before .before .before .before .before .args .m)) (sourceOf (c .before .before .before .before .before .before .before .before .before .before .before .args .m) (c .before .before .before .before .before .before .before .before .before .before .before .args .v .now)) (reads (sinkOf (c .before .before .before .before .before .before .before .before .before .before .before .args .m)) (sourceOf (c .before .before .before .before .before .before .before .before .before .before .before .args .m) (c .before .before .before .before .before .before .before .before .before .before .before .args .v .now)) (checked (c .before .before .before .before .before .before .before .before .before .before .before .args .t .now) (c .before .before .before .before .before .before .before .before .before .before .before .args .met)) (c .before .before .before .before .before .before .before .before .before .before .before .args .left)) (inside (checked (c .before .before .before .before .before .before .before .before .before .before .before .args .t .now) (c .before .before .before .before .before .before .before .before .before .before .before .args .met)) (c .before .before .before .before .before .before .before .before .before .before .before .args .element)) (c .before .before .before .before .before .before .before .before .before .before .before .args .bound) (stateOf (c .before .before .before .before .before .before .before .before .before .before .before .args .c) (c .before .before .before .before .before .before .before .before .before .before .before .args .table .now)) _ (c .before .before .before .before .before .before .count .ensures) (c .before .before .if1 .left) ∙ way.elements-none (sinkOf (c .before .before .before .before .before .before .before .before .before .before .before .args .m)) (sourceOf (c .before .before .before .before .before .before .before .before .before .before .before .args .m) (c .before .before .before .before .before .before .before .before .before .before .before .args .v .now)) (reads (sinkOf (c .before .before .before .before .before .before .before .before .before .before .before .args .m)) (sourceOf (c .before .before .before .before .before .before .before .before .before .before .before .args .m) (c .before .before .before .before .before .before .before .before .before .before .before .args .v .now)) (checked (c .before .before .before .before .before .before .before .before .before .before .before .args .t .now) (c .before .before .before .before .before .before .before .before .before .before .before .args .met)) (c .before .before .before .before .before .before .before .before .before .before .before .args .left)) (inside (checked (c .before .before .before .before .before .before .before .before .before .before .before .args .t .now) (c .before .before .before .before .before .before .before .before .before .before .before .args .met)) (c .before .before .before .before .before .before .before .before .before .before .before .args .element)) (c .before .before .before .before .before .before .count .result .last) (stateOf (c .before .before .before .before .before .before .count .result) (c .before .before .before .before .before .before .count .last .1 .1 .0)) (c .if2 .taken))
+
 sequence-within-requires : (t : ℕ) → sequence-lts.Need-within-requires (sequence-of t) (sequence-at t) sequence.Post
 sequence-within-requires t c κs = search needs
 
 sequence-elements-requires : (t : ℕ) → sequence-lts.Need-elements-requires (sequence-of t) (sequence-at t) sequence.Post
-sequence-elements-requires t c κs = (omega (arith, c .before .before .before .before .before .before .before .before .before .before .before .pre .0), tt)
+sequence-elements-requires t c κs = (omega (arith, c .before .before .before .before .before .before .before .before .before .before .before .before .before .pre .0), tt)
 
-sequence-same-length-2 : (t : ℕ) → sequence-lts.Need-same-length-2 (sequence-of t) (sequence-at t) sequence.Post
-sequence-same-length-2 t c = c .before .before .elements .kept .1 .1 .1 .1 .0 ∙ c .before .before .before .before .before .before .before .before .before .count .kept .1 .1 .0
+sequence-same-length-3 : (t : ℕ) → sequence-lts.Need-same-length-3 (sequence-of t) (sequence-at t) sequence.Post
+sequence-same-length-3 t c = c .before .before .elements .kept .1 .1 .1 .1 .0 ∙ c .before .before .before .before .before .before .before .before .before .before .before .count .kept .1 .1 .0
 
-sequence-returns-2 : (t : ℕ) → sequence-lts.Need-returns-2 (sequence-of t) (sequence-at t) sequence.Post
-sequence-returns-2 t c = c .before .before .elements .ensures ∙ ap (λ (p : Parameters). elementsAt (sinkOf (c .before .before .before .before .before .before .before .before .before .before .before .before .before .before .args .m)) (sourceOf (c .before .before .before .before .before .before .before .before .before .before .before .before .before .before .args .m) (c .before .before .before .before .before .before .before .before .before .before .before .before .before .before .args .v .now)) (reads (sinkOf (c .before .before .before .before .before .before .before .before .before .before .before .before .before .before .args .m)) (sourceOf (c .before .before .before .before .before .before .before .before .before .before .before .before .before .before .args .m) (c .before .before .before .before .before .before .before .before .before .before .before .before .before .before .args .v .now)) (checked (c .before .before .before .before .before .before .before .before .before .before .before .before .before .before .args .t .now) (c .before .before .before .before .before .before .before .before .before .before .before .before .before .before .args .met)) (c .before .before .before .before .before .before .before .before .before .before .before .before .before .before .args .left)) p (c .before .before .before .before .before .before .before .before .before .count .result .last) (stateOf (c .before .before .before .before .before .before .before .before .before .count .result) (c .before .before .before .before .before .before .before .before .before .count .last .1 .1 .0))) (c .before .before .before .before .within .ensures) ∙ sym (way.sequence-go (sinkOf (c .before .before .before .before .before .before .before .before .before .before .before .before .before .before .args .m)) (sourceOf (c .before .before .before .before .before .before .before .before .before .before .before .before .before .before .args .m) (c .before .before .before .before .before .before .before .before .before .before .before .before .before .before .args .v .now)) (reads (sinkOf (c .before .before .before .before .before .before .before .before .before .before .before .before .before .before .args .m)) (sourceOf (c .before .before .before .before .before .before .before .before .before .before .before .before .before .before .args .m) (c .before .before .before .before .before .before .before .before .before .before .before .before .before .before .args .v .now)) (checked (c .before .before .before .before .before .before .before .before .before .before .before .before .before .before .args .t .now) (c .before .before .before .before .before .before .before .before .before .before .before .before .before .before .args .met)) (c .before .before .before .before .before .before .before .before .before .before .before .before .before .before .args .left)) (inside (checked (c .before .before .before .before .before .before .before .before .before .before .before .before .before .before .args .t .now) (c .before .before .before .before .before .before .before .before .before .before .before .before .before .before .args .met)) (c .before .before .before .before .before .before .before .before .before .before .before .before .before .before .args .element)) (c .before .before .before .before .before .before .before .before .before .before .before .before .before .before .args .bound) (stateOf (c .before .before .before .before .before .before .before .before .before .before .before .before .before .before .args .c) (c .before .before .before .before .before .before .before .before .before .before .before .before .before .before .args .table .now)) _ (c .before .before .before .before .before .before .before .before .before .count .ensures) (c .before .before .before .before .before .if1 .left))
+sequence-returns-3 : (t : ℕ) → sequence-lts.Need-returns-3 (sequence-of t) (sequence-at t) sequence.Post
+sequence-returns-3 t c = c .before .before .elements .ensures ∙ ap (λ (p : Parameters). elementsAt (sinkOf (c .before .before .before .before .before .before .before .before .before .before .before .before .before .before .before .before .args .m)) (sourceOf (c .before .before .before .before .before .before .before .before .before .before .before .before .before .before .before .before .args .m) (c .before .before .before .before .before .before .before .before .before .before .before .before .before .before .before .before .args .v .now)) (reads (sinkOf (c .before .before .before .before .before .before .before .before .before .before .before .before .before .before .before .before .args .m)) (sourceOf (c .before .before .before .before .before .before .before .before .before .before .before .before .before .before .before .before .args .m) (c .before .before .before .before .before .before .before .before .before .before .before .before .before .before .before .before .args .v .now)) (checked (c .before .before .before .before .before .before .before .before .before .before .before .before .before .before .before .before .args .t .now) (c .before .before .before .before .before .before .before .before .before .before .before .before .before .before .before .before .args .met)) (c .before .before .before .before .before .before .before .before .before .before .before .before .before .before .before .before .args .left)) p (c .before .before .before .before .before .before .before .before .before .before .before .count .result .last) (stateOf (c .before .before .before .before .before .before .before .before .before .before .before .count .result) (c .before .before .before .before .before .before .before .before .before .before .before .count .last .1 .1 .0))) (c .before .before .before .before .within .ensures) ∙ sym (way.sequence-go (sinkOf (c .before .before .before .before .before .before .before .before .before .before .before .before .before .before .before .before .args .m)) (sourceOf (c .before .before .before .before .before .before .before .before .before .before .before .before .before .before .before .before .args .m) (c .before .before .before .before .before .before .before .before .before .before .before .before .before .before .before .before .args .v .now)) (reads (sinkOf (c .before .before .before .before .before .before .before .before .before .before .before .before .before .before .before .before .args .m)) (sourceOf (c .before .before .before .before .before .before .before .before .before .before .before .before .before .before .before .before .args .m) (c .before .before .before .before .before .before .before .before .before .before .before .before .before .before .before .before .args .v .now)) (checked (c .before .before .before .before .before .before .before .before .before .before .before .before .before .before .before .before .args .t .now) (c .before .before .before .before .before .before .before .before .before .before .before .before .before .before .before .before .args .met)) (c .before .before .before .before .before .before .before .before .before .before .before .before .before .before .before .before .args .left)) (inside (checked (c .before .before .before .before .before .before .before .before .before .before .before .before .before .before .before .before .args .t .now) (c .before .before .before .before .before .before .before .before .before .before .before .before .before .before .before .before .args .met)) (c .before .before .before .before .before .before .before .before .before .before .before .before .before .before .before .before .args .element)) (c .before .before .before .before .before .before .before .before .before .before .before .before .before .before .before .before .args .bound) (stateOf (c .before .before .before .before .before .before .before .before .before .before .before .before .before .before .before .before .args .c) (c .before .before .before .before .before .before .before .before .before .before .before .before .before .before .before .before .args .table .now)) _ (c .before .before .before .before .before .before .before .before .before .before .before .count .ensures) (c .before .before .before .before .before .before .before .if1 .left))
 
 abbrev struct-members-of : ℕ → struct-members-lts.Claims
-struct-members-of t = (member-at-reads.Asked, member-at-reads.Learnt, within-reads.Asked, within-reads.Learnt, visit-below t, visit.Post)
+struct-members-of t = (member-at-reads.Asked, member-at-reads.Learnt, within-reads.Asked, within-reads.Learnt, flat-visit-reads.Asked, flat-visit-reads.Learnt, visit-below t, visit.Post)
 
 abbrev struct-members-Inv-loop : struct-members-lts.InvT-loop
 struct-members-Inv-loop t met v m table₀ left start order count at₀ d₀ k₀ table at d k = Onward (sinkOf m) (sourceOf m v) (reads (sinkOf m) (sourceOf m v) (checked t met) left) (checked t met) (fieldsOf start order count at₀) count k at₀ (stateOf d₀ table₀) at (stateOf d table)
@@ -271,23 +318,40 @@ struct-members-returns t c = onward-cut (sinkOf (c .before .before .before .befo
 struct-members-within-requires : (t : ℕ) → struct-members-lts.Need-within-requires (struct-members-of t) (struct-members-at t) struct-members.Post struct-members-Inv-loop struct-members-μ-loop
 struct-members-within-requires t c κs = search needs
 
+struct-members-flat-visit-requires : (t : ℕ) → struct-members-lts.Need-flat-visit-requires (struct-members-of t) (struct-members-at t) struct-members.Post struct-members-Inv-loop struct-members-μ-loop
+struct-members-flat-visit-requires t c κs = search needs
+
 struct-members-visit-requires : (t : ℕ) → struct-members-lts.Need-visit-requires (struct-members-of t) (struct-members-at t) struct-members.Post struct-members-Inv-loop struct-members-μ-loop
-struct-members-visit-requires t c κs = (omega (arith, c .before .before .before .before .before .before .before .before .before .before .before .before .before .pre .0), tt)
+struct-members-visit-requires t c κs = (omega (arith, c .before .before .before .before .before .before .before .before .before .before .before .before .before .before .before .before .before .before .before .pre .0), tt)
+
+struct-members-step : (t : ℕ) (c : struct-members-lts.Joined1 (struct-members-of t) (struct-members-at t) struct-members.Post struct-members-Inv-loop struct-members-μ-loop) → stateOf (c .if1 .d) (c .if1 .table) ≡ reads (sinkOf (c .before .before .before .before .before .before .before .before .before .before .before .before .before .before .before .before .before .before .args .m)) (sourceOf (c .before .before .before .before .before .before .before .before .before .before .before .before .before .before .before .before .before .before .args .m) (c .before .before .before .before .before .before .before .before .before .before .before .before .before .before .before .before .before .before .args .v .now)) (checked (c .before .before .before .before .before .before .before .before .before .before .before .before .before .before .before .before .before .before .args .t .now) (c .before .before .before .before .before .before .before .before .before .before .before .before .before .before .before .before .before .before .args .met)) (c .before .before .before .before .before .before .before .before .before .before .before .before .before .before .before .before .before .before .args .left) (c .before .before .before .before .before .before .within .result) (stateOf (c .before .before .before .before .before .before .before .before .before .before .before .before .loop .d) (c .before .before .before .before .before .before .before .before .before .before .before .before .loop .table))
+struct-members-step t c =
+    ⊎-elim
+    (λ a. ap (λ (w : Cursor). stateOf w (c .if1 .table)) (a .6) ∙ ap (stateOf (a .2 .result)) (a .5) ∙ a .2 .ensures ∙ ap (reads (sinkOf (c .before .before .before .before .before .before .before .before .before .before .before .before .before .before .before .before .before .before .args .m)) (sourceOf (c .before .before .before .before .before .before .before .before .before .before .before .before .before .before .before .before .before .before .args .m) (c .before .before .before .before .before .before .before .before .before .before .before .before .before .before .before .before .before .before .args .v .now)) (checked (c .before .before .before .before .before .before .before .before .before .before .before .before .before .before .before .before .before .before .args .t .now) (c .before .before .before .before .before .before .before .before .before .before .before .before .before .before .before .before .before .before .args .met)) (c .before .before .before .before .before .before .before .before .before .before .before .before .before .before .before .before .before .before .args .left) (c .before .before .before .before .before .before .within .result)) (flat-left (c .before .before .before .before .before .before .before .before .before .before .before .before .before .before .before .before .before .before .args .m) (c .before .before .before .before .before .before .before .before .before .before .before .before .before .before .before .before .before .before .args .v .now) (c .before .before .before .before .before .before .within .result) (c .before .before .before .before .before .before .before .before .before .before .before .before .before .before .before .before .before .before .args .left) (stateOf (c .before .before .before .before .before .before .before .before .before .before .before .before .loop .d) (c .before .before .before .before .before .before .before .before .before .before .before .before .loop .table)) (stateOf (c .before .before .before .before .flat-visit .result .cursor) (c .before .before .before .before .flat-visit .last .1 .1 .0)) (c .before .before .before .before .flat-visit .result .enters) (c .before .before .before .before .flat-visit .ensures) (a .0 .taken)))
+    (λ b. ap (λ (w : Cursor). stateOf w (c .if1 .table)) (b .2) ∙ ap (stateOf (c .before .before .before .before .flat-visit .result .cursor)) (b .1) ∙ flat-done (c .before .before .before .before .before .before .before .before .before .before .before .before .before .before .before .before .before .before .args .m) (c .before .before .before .before .before .before .before .before .before .before .before .before .before .before .before .before .before .before .args .v .now) (c .before .before .before .before .before .before .within .result) (c .before .before .before .before .before .before .before .before .before .before .before .before .before .before .before .before .before .before .args .left) (stateOf (c .before .before .before .before .before .before .before .before .before .before .before .before .loop .d) (c .before .before .before .before .before .before .before .before .before .before .before .before .loop .table)) (stateOf (c .before .before .before .before .flat-visit .result .cursor) (c .before .before .before .before .flat-visit .last .1 .1 .0)) (c .before .before .before .before .flat-visit .result .enters) (c .before .before .before .before .flat-visit .ensures) (b .0 .left) (checked (c .before .before .before .before .before .before .before .before .before .before .before .before .before .before .before .before .before .before .args .t .now) (c .before .before .before .before .before .before .before .before .before .before .before .before .before .before .before .before .before .before .args .met)))
+    (c .if1 .came)
+
+struct-members-rows : (t : ℕ) (c : struct-members-lts.Joined1 (struct-members-of t) (struct-members-at t) struct-members.Post struct-members-Inv-loop struct-members-μ-loop) → length (c .if1 .table) ≡ length (c .before .before .before .before .before .before .before .before .before .before .before .before .loop .table)
+struct-members-rows t c =
+    ⊎-elim
+    (λ a. ap (λ (l : List ℕ). length l) (a .5) ∙ a .2 .kept .1 .1 .1 .1 .0 ∙ c .before .before .before .before .flat-visit .kept .1 .1 .0)
+    (λ b. ap (λ (l : List ℕ). length l) (b .1) ∙ c .before .before .before .before .flat-visit .kept .1 .1 .0)
+    (c .if1 .came)
 
 struct-members-same-length-2 : (t : ℕ) → struct-members-lts.Need-same-length-2 (struct-members-of t) (struct-members-at t) struct-members.Post struct-members-Inv-loop struct-members-μ-loop
-struct-members-same-length-2 t c = c .before .before .before .before .visit .kept .1 .1 .1 .1 .0 ∙ c .before .before .before .before .before .before .before .before .before .before .before .before .loop .inv .same
+struct-members-same-length-2 t c = struct-members-rows t (c .before .before) ∙ c .before .before .before .before .before .before .before .before .before .before .before .before .before .before .loop .inv .same
 
 struct-members-returns-2 : (t : ℕ) → struct-members-lts.Need-returns-2 (struct-members-of t) (struct-members-at t) struct-members.Post struct-members-Inv-loop struct-members-μ-loop
-struct-members-returns-2 t c = onward-stop (sinkOf (c .before .before .before .before .before .before .before .before .before .before .before .before .before .before .before .before .before .before .args .m)) (sourceOf (c .before .before .before .before .before .before .before .before .before .before .before .before .before .before .before .before .before .before .args .m) (c .before .before .before .before .before .before .before .before .before .before .before .before .before .before .before .before .before .before .args .v .now)) (reads (sinkOf (c .before .before .before .before .before .before .before .before .before .before .before .before .before .before .before .before .before .before .args .m)) (sourceOf (c .before .before .before .before .before .before .before .before .before .before .before .before .before .before .before .before .before .before .args .m) (c .before .before .before .before .before .before .before .before .before .before .before .before .before .before .before .before .before .before .args .v .now)) (checked (c .before .before .before .before .before .before .before .before .before .before .before .before .before .before .before .before .before .before .args .t .now) (c .before .before .before .before .before .before .before .before .before .before .before .before .before .before .before .before .before .before .args .met)) (c .before .before .before .before .before .before .before .before .before .before .before .before .before .before .before .before .before .before .args .left)) (checked (c .before .before .before .before .before .before .before .before .before .before .before .before .before .before .before .before .before .before .args .t .now) (c .before .before .before .before .before .before .before .before .before .before .before .before .before .before .before .before .before .before .args .met)) (c .before .before .before .before .before .before .before .before .before .before .before .before .before .before .before .before .before .before .args .fields) (c .before .before .before .before .before .before .before .before .before .before .before .before .loop .inv) _ _ (c .before .before .before .before .before .before .before .before .before .before .before .loop-test .taken) (sym (c .before .before .before .before .before .before .before .before .before .before .member-at .ensures) ∙ c .before .before .before .before .before .before .before .before .place .given .1) (c .before .before .before .before .visit .ensures ∙ ap (λ (p : Parameters). reads (sinkOf (c .before .before .before .before .before .before .before .before .before .before .before .before .before .before .before .before .before .before .args .m)) (sourceOf (c .before .before .before .before .before .before .before .before .before .before .before .before .before .before .before .before .before .before .args .m) (c .before .before .before .before .before .before .before .before .before .before .before .before .before .before .before .before .before .before .args .v .now)) (checked (c .before .before .before .before .before .before .before .before .before .before .before .before .before .before .before .before .before .before .args .t .now) (c .before .before .before .before .before .before .before .before .before .before .before .before .before .before .before .before .before .before .args .met)) (c .before .before .before .before .before .before .before .before .before .before .before .before .before .before .before .before .before .before .args .left) p (stateOf (c .before .before .before .before .before .before .before .before .before .before .before .before .loop .d) (c .before .before .before .before .before .before .before .before .before .before .before .before .loop .table))) (c .before .before .before .before .before .before .within .ensures)) (c .if1 .taken)
+struct-members-returns-2 t c = onward-stop (sinkOf (c .before .before .before .before .before .before .before .before .before .before .before .before .before .before .before .before .before .before .before .before .args .m)) (sourceOf (c .before .before .before .before .before .before .before .before .before .before .before .before .before .before .before .before .before .before .before .before .args .m) (c .before .before .before .before .before .before .before .before .before .before .before .before .before .before .before .before .before .before .before .before .args .v .now)) (reads (sinkOf (c .before .before .before .before .before .before .before .before .before .before .before .before .before .before .before .before .before .before .before .before .args .m)) (sourceOf (c .before .before .before .before .before .before .before .before .before .before .before .before .before .before .before .before .before .before .before .before .args .m) (c .before .before .before .before .before .before .before .before .before .before .before .before .before .before .before .before .before .before .before .before .args .v .now)) (checked (c .before .before .before .before .before .before .before .before .before .before .before .before .before .before .before .before .before .before .before .before .args .t .now) (c .before .before .before .before .before .before .before .before .before .before .before .before .before .before .before .before .before .before .before .before .args .met)) (c .before .before .before .before .before .before .before .before .before .before .before .before .before .before .before .before .before .before .before .before .args .left)) (checked (c .before .before .before .before .before .before .before .before .before .before .before .before .before .before .before .before .before .before .before .before .args .t .now) (c .before .before .before .before .before .before .before .before .before .before .before .before .before .before .before .before .before .before .before .before .args .met)) (c .before .before .before .before .before .before .before .before .before .before .before .before .before .before .before .before .before .before .before .before .args .fields) (c .before .before .before .before .before .before .before .before .before .before .before .before .before .before .loop .inv) _ _ (c .before .before .before .before .before .before .before .before .before .before .before .before .before .loop-test .taken) (sym (c .before .before .before .before .before .before .before .before .before .before .before .before .member-at .ensures) ∙ c .before .before .before .before .before .before .before .before .before .before .place .given .1) (struct-members-step t (c .before .before) ∙ ap (λ (p : Parameters). reads (sinkOf (c .before .before .before .before .before .before .before .before .before .before .before .before .before .before .before .before .before .before .before .before .args .m)) (sourceOf (c .before .before .before .before .before .before .before .before .before .before .before .before .before .before .before .before .before .before .before .before .args .m) (c .before .before .before .before .before .before .before .before .before .before .before .before .before .before .before .before .before .before .before .before .args .v .now)) (checked (c .before .before .before .before .before .before .before .before .before .before .before .before .before .before .before .before .before .before .before .before .args .t .now) (c .before .before .before .before .before .before .before .before .before .before .before .before .before .before .before .before .before .before .before .before .args .met)) (c .before .before .before .before .before .before .before .before .before .before .before .before .before .before .before .before .before .before .before .before .args .left) p (stateOf (c .before .before .before .before .before .before .before .before .before .before .before .before .before .before .loop .d) (c .before .before .before .before .before .before .before .before .before .before .before .before .before .before .loop .table))) (c .before .before .before .before .before .before .before .before .within .ensures)) (c .if2 .taken)
 
 struct-members-add-k : (t : ℕ) → struct-members-lts.Need-add-k (struct-members-of t) (struct-members-at t) struct-members.Post struct-members-Inv-loop struct-members-μ-loop
-struct-members-add-k t c = search (needs, c .before .before .before .before .before .before .before .before .before .before .before .before .before .before .before .before .before .before .good .1 .1 .1 .1 .1 .0)
+struct-members-add-k t c = search (needs, c .before .before .before .before .before .before .before .before .before .before .before .before .before .before .before .before .before .before .before .before .good .1 .1 .1 .1 .1 .0)
 
 struct-members-loop-less : (t : ℕ) → struct-members-lts.Need-loop-less (struct-members-of t) (struct-members-at t) struct-members.Post struct-members-Inv-loop struct-members-μ-loop
 struct-members-loop-less t c = omega arith
 
 struct-members-loop-again : (t : ℕ) → struct-members-lts.Need-loop-again (struct-members-of t) (struct-members-at t) struct-members.Post struct-members-Inv-loop struct-members-μ-loop
-struct-members-loop-again t c = onward-more (sinkOf (c .before .before .before .before .before .before .before .before .before .before .before .before .before .before .before .before .before .before .args .m)) (sourceOf (c .before .before .before .before .before .before .before .before .before .before .before .before .before .before .before .before .before .before .args .m) (c .before .before .before .before .before .before .before .before .before .before .before .before .before .before .before .before .before .before .args .v .now)) (reads (sinkOf (c .before .before .before .before .before .before .before .before .before .before .before .before .before .before .before .before .before .before .args .m)) (sourceOf (c .before .before .before .before .before .before .before .before .before .before .before .before .before .before .before .before .before .before .args .m) (c .before .before .before .before .before .before .before .before .before .before .before .before .before .before .before .before .before .before .args .v .now)) (checked (c .before .before .before .before .before .before .before .before .before .before .before .before .before .before .before .before .before .before .args .t .now) (c .before .before .before .before .before .before .before .before .before .before .before .before .before .before .before .before .before .before .args .met)) (c .before .before .before .before .before .before .before .before .before .before .before .before .before .before .before .before .before .before .args .left)) (checked (c .before .before .before .before .before .before .before .before .before .before .before .before .before .before .before .before .before .before .args .t .now) (c .before .before .before .before .before .before .before .before .before .before .before .before .before .before .before .before .before .before .args .met)) (c .before .before .before .before .before .before .before .before .before .before .before .before .before .before .before .before .before .before .args .fields) (c .before .before .before .before .before .before .before .before .before .before .before .before .loop .inv) _ _ (c .before .before .before .before .before .before .before .before .before .before .before .loop-test .taken) (sym (c .before .before .before .before .before .before .before .before .before .before .member-at .ensures) ∙ c .before .before .before .before .before .before .before .before .place .given .1) (c .before .before .before .before .visit .ensures ∙ ap (λ (p : Parameters). reads (sinkOf (c .before .before .before .before .before .before .before .before .before .before .before .before .before .before .before .before .before .before .args .m)) (sourceOf (c .before .before .before .before .before .before .before .before .before .before .before .before .before .before .before .before .before .before .args .m) (c .before .before .before .before .before .before .before .before .before .before .before .before .before .before .before .before .before .before .args .v .now)) (checked (c .before .before .before .before .before .before .before .before .before .before .before .before .before .before .before .before .before .before .args .t .now) (c .before .before .before .before .before .before .before .before .before .before .before .before .before .before .before .before .before .before .args .met)) (c .before .before .before .before .before .before .before .before .before .before .before .before .before .before .before .before .before .before .args .left) p (stateOf (c .before .before .before .before .before .before .before .before .before .before .before .before .loop .d) (c .before .before .before .before .before .before .before .before .before .before .before .before .loop .table))) (c .before .before .before .before .before .before .within .ensures)) (c .before .before .before .before .visit .kept .1 .1 .1 .1 .0) (c .if1 .left)
+struct-members-loop-again t c = onward-more (sinkOf (c .before .before .before .before .before .before .before .before .before .before .before .before .before .before .before .before .before .before .before .before .args .m)) (sourceOf (c .before .before .before .before .before .before .before .before .before .before .before .before .before .before .before .before .before .before .before .before .args .m) (c .before .before .before .before .before .before .before .before .before .before .before .before .before .before .before .before .before .before .before .before .args .v .now)) (reads (sinkOf (c .before .before .before .before .before .before .before .before .before .before .before .before .before .before .before .before .before .before .before .before .args .m)) (sourceOf (c .before .before .before .before .before .before .before .before .before .before .before .before .before .before .before .before .before .before .before .before .args .m) (c .before .before .before .before .before .before .before .before .before .before .before .before .before .before .before .before .before .before .before .before .args .v .now)) (checked (c .before .before .before .before .before .before .before .before .before .before .before .before .before .before .before .before .before .before .before .before .args .t .now) (c .before .before .before .before .before .before .before .before .before .before .before .before .before .before .before .before .before .before .before .before .args .met)) (c .before .before .before .before .before .before .before .before .before .before .before .before .before .before .before .before .before .before .before .before .args .left)) (checked (c .before .before .before .before .before .before .before .before .before .before .before .before .before .before .before .before .before .before .before .before .args .t .now) (c .before .before .before .before .before .before .before .before .before .before .before .before .before .before .before .before .before .before .before .before .args .met)) (c .before .before .before .before .before .before .before .before .before .before .before .before .before .before .before .before .before .before .before .before .args .fields) (c .before .before .before .before .before .before .before .before .before .before .before .before .before .before .loop .inv) _ _ (c .before .before .before .before .before .before .before .before .before .before .before .before .before .loop-test .taken) (sym (c .before .before .before .before .before .before .before .before .before .before .before .before .member-at .ensures) ∙ c .before .before .before .before .before .before .before .before .before .before .place .given .1) (struct-members-step t (c .before .before) ∙ ap (λ (p : Parameters). reads (sinkOf (c .before .before .before .before .before .before .before .before .before .before .before .before .before .before .before .before .before .before .before .before .args .m)) (sourceOf (c .before .before .before .before .before .before .before .before .before .before .before .before .before .before .before .before .before .before .before .before .args .m) (c .before .before .before .before .before .before .before .before .before .before .before .before .before .before .before .before .before .before .before .before .args .v .now)) (checked (c .before .before .before .before .before .before .before .before .before .before .before .before .before .before .before .before .before .before .before .before .args .t .now) (c .before .before .before .before .before .before .before .before .before .before .before .before .before .before .before .before .before .before .before .before .args .met)) (c .before .before .before .before .before .before .before .before .before .before .before .before .before .before .before .before .before .before .before .before .args .left) p (stateOf (c .before .before .before .before .before .before .before .before .before .before .before .before .before .before .loop .d) (c .before .before .before .before .before .before .before .before .before .before .before .before .before .before .loop .table))) (c .before .before .before .before .before .before .before .before .within .ensures)) (struct-members-rows t (c .before .before)) (c .if2 .left)
 
 struct-members-same-length-3 : (t : ℕ) → struct-members-lts.Need-same-length-3 (struct-members-of t) (struct-members-at t) struct-members.Post struct-members-Inv-loop struct-members-μ-loop
 struct-members-same-length-3 t c = c .before .loop .inv .same
@@ -296,19 +360,36 @@ struct-members-returns-3 : (t : ℕ) → struct-members-lts.Need-returns-3 (stru
 struct-members-returns-3 t c = onward-all (sinkOf (c .before .before .before .before .before .before .before .args .m)) (sourceOf (c .before .before .before .before .before .before .before .args .m) (c .before .before .before .before .before .before .before .args .v .now)) (reads (sinkOf (c .before .before .before .before .before .before .before .args .m)) (sourceOf (c .before .before .before .before .before .before .before .args .m) (c .before .before .before .before .before .before .before .args .v .now)) (checked (c .before .before .before .before .before .before .before .args .t .now) (c .before .before .before .before .before .before .before .args .met)) (c .before .before .before .before .before .before .before .args .left)) (checked (c .before .before .before .before .before .before .before .args .t .now) (c .before .before .before .before .before .before .before .args .met)) (c .before .before .before .before .before .before .before .args .fields) (c .before .loop .inv) (c .loop-test .left)
 
 abbrev union-member-of : ℕ → union-member-lts.Claims
-union-member-of t = (within-reads.Asked, within-reads.Learnt, visit-below t, visit.Post, labels-for-reads.Asked, labels-for-reads.Learnt, chosen-of-reads.Asked, chosen-of-reads.Learnt)
+union-member-of t = (within-reads.Asked, within-reads.Learnt, flat-visit-reads.Asked, flat-visit-reads.Learnt, visit-below t, visit.Post, labels-for-reads.Asked, labels-for-reads.Learnt, chosen-of-reads.Asked, chosen-of-reads.Learnt)
 
 union-member-within-requires : (t : ℕ) → union-member-lts.Need-within-requires (union-member-of t) (union-member-at t) union-member.Post
 union-member-within-requires t c κs = search needs
 
+union-member-flat-visit-requires : (t : ℕ) → union-member-lts.Need-flat-visit-requires (union-member-of t) (union-member-at t) union-member.Post
+union-member-flat-visit-requires t c κs = search needs
+
 union-member-visit-requires : (t : ℕ) → union-member-lts.Need-visit-requires (union-member-of t) (union-member-at t) union-member.Post
-union-member-visit-requires t c κs = (omega (arith, c .before .before .before .before .before .pre .0), tt)
+union-member-visit-requires t c κs = (omega (arith, c .before .before .before .before .before .before .before .before .before .before .before .pre .0), tt)
+
+union-member-step : (t : ℕ) (c : union-member-lts.Joined1 (union-member-of t) (union-member-at t) union-member.Post) → stateOf (c .if1 .d) (c .if1 .table) ≡ reads (sinkOf (c .before .before .before .before .before .before .before .before .before .before .args .m)) (sourceOf (c .before .before .before .before .before .before .before .before .before .before .args .m) (c .before .before .before .before .before .before .before .before .before .before .args .v .now)) (checked (c .before .before .before .before .before .before .before .before .before .before .args .t .now) (c .before .before .before .before .before .before .before .before .before .before .args .met)) (c .before .before .before .before .before .before .before .before .before .before .args .left) (c .before .before .before .before .before .before .within .result) (stateOf (c .before .before .before .before .before .before .before .before .before .before .args .c) (c .before .before .before .before .before .before .before .before .before .before .args .table .now))
+union-member-step t c =
+    ⊎-elim
+    (λ a. ap (λ (w : Cursor). stateOf w (c .if1 .table)) (a .6) ∙ ap (stateOf (a .2 .result)) (a .5) ∙ a .2 .ensures ∙ ap (reads (sinkOf (c .before .before .before .before .before .before .before .before .before .before .args .m)) (sourceOf (c .before .before .before .before .before .before .before .before .before .before .args .m) (c .before .before .before .before .before .before .before .before .before .before .args .v .now)) (checked (c .before .before .before .before .before .before .before .before .before .before .args .t .now) (c .before .before .before .before .before .before .before .before .before .before .args .met)) (c .before .before .before .before .before .before .before .before .before .before .args .left) (c .before .before .before .before .before .before .within .result)) (flat-left (c .before .before .before .before .before .before .before .before .before .before .args .m) (c .before .before .before .before .before .before .before .before .before .before .args .v .now) (c .before .before .before .before .before .before .within .result) (c .before .before .before .before .before .before .before .before .before .before .args .left) (stateOf (c .before .before .before .before .before .before .before .before .before .before .args .c) (c .before .before .before .before .before .before .before .before .before .before .args .table .now)) (stateOf (c .before .before .before .before .flat-visit .result .cursor) (c .before .before .before .before .flat-visit .last .1 .1 .0)) (c .before .before .before .before .flat-visit .result .enters) (c .before .before .before .before .flat-visit .ensures) (a .0 .taken)))
+    (λ b. ap (λ (w : Cursor). stateOf w (c .if1 .table)) (b .2) ∙ ap (stateOf (c .before .before .before .before .flat-visit .result .cursor)) (b .1) ∙ flat-done (c .before .before .before .before .before .before .before .before .before .before .args .m) (c .before .before .before .before .before .before .before .before .before .before .args .v .now) (c .before .before .before .before .before .before .within .result) (c .before .before .before .before .before .before .before .before .before .before .args .left) (stateOf (c .before .before .before .before .before .before .before .before .before .before .args .c) (c .before .before .before .before .before .before .before .before .before .before .args .table .now)) (stateOf (c .before .before .before .before .flat-visit .result .cursor) (c .before .before .before .before .flat-visit .last .1 .1 .0)) (c .before .before .before .before .flat-visit .result .enters) (c .before .before .before .before .flat-visit .ensures) (b .0 .left) (checked (c .before .before .before .before .before .before .before .before .before .before .args .t .now) (c .before .before .before .before .before .before .before .before .before .before .args .met)))
+    (c .if1 .came)
+
+union-member-rows : (t : ℕ) (c : union-member-lts.Joined1 (union-member-of t) (union-member-at t) union-member.Post) → length (c .if1 .table) ≡ length (c .before .before .before .before .before .before .before .before .before .before .args .table .now)
+union-member-rows t c =
+    ⊎-elim
+    (λ a. ap (λ (l : List ℕ). length l) (a .5) ∙ a .2 .kept .1 .1 .1 .1 .0 ∙ c .before .before .before .before .flat-visit .kept .1 .1 .0)
+    (λ b. ap (λ (l : List ℕ). length l) (b .1) ∙ c .before .before .before .before .flat-visit .kept .1 .1 .0)
+    (c .if1 .came)
 
 union-member-same-length : (t : ℕ) → union-member-lts.Need-same-length (union-member-of t) (union-member-at t) union-member.Post
-union-member-same-length t c = c .before .before .before .before .visit .kept .1 .1 .1 .1 .0
+union-member-same-length t c = union-member-rows t (c .before .before)
 
 union-member-returns : (t : ℕ) → union-member-lts.Need-returns (union-member-of t) (union-member-at t) union-member.Post
-union-member-returns t c = sym (way.union-stop (sinkOf (c .before .before .before .before .before .before .before .before .before .before .args .m)) (sourceOf (c .before .before .before .before .before .before .before .before .before .before .args .m) (c .before .before .before .before .before .before .before .before .before .before .args .v .now)) (reads (sinkOf (c .before .before .before .before .before .before .before .before .before .before .args .m)) (sourceOf (c .before .before .before .before .before .before .before .before .before .before .args .m) (c .before .before .before .before .before .before .before .before .before .before .args .v .now)) (checked (c .before .before .before .before .before .before .before .before .before .before .args .t .now) (c .before .before .before .before .before .before .before .before .before .before .args .met)) (c .before .before .before .before .before .before .before .before .before .before .args .left)) (checked (c .before .before .before .before .before .before .before .before .before .before .args .t .now) (c .before .before .before .before .before .before .before .before .before .before .args .met)) (labelsFor (c .before .before .before .before .before .before .before .before .before .before .args .t .now) (c .before .before .before .before .before .before .before .before .before .before .args .met) (c .before .before .before .before .before .before .before .before .before .before .args .discriminant)) (c .before .before .before .before .before .before .before .before .before .before .args .fields) (c .before .before .before .before .before .before .before .before .before .before .args .discriminant) (c .before .before .before .before .before .before .before .before .before .before .args .default) (stateOf (c .before .before .before .before .before .before .before .before .before .before .args .c) (c .before .before .before .before .before .before .before .before .before .before .args .table .now)) (stateOf (c .before .before .before .before .visit .result) (c .before .before .before .before .visit .last .1 .1 .1 .1 .0)) (c .before .before .before .before .visit .ensures ∙ ap (λ (p : Parameters). reads (sinkOf (c .before .before .before .before .before .before .before .before .before .before .args .m)) (sourceOf (c .before .before .before .before .before .before .before .before .before .before .args .m) (c .before .before .before .before .before .before .before .before .before .before .args .v .now)) (checked (c .before .before .before .before .before .before .before .before .before .before .args .t .now) (c .before .before .before .before .before .before .before .before .before .before .args .met)) (c .before .before .before .before .before .before .before .before .before .before .args .left) p (stateOf (c .before .before .before .before .before .before .before .before .before .before .args .c) (c .before .before .before .before .before .before .before .before .before .before .args .table .now))) (c .before .before .before .before .before .before .within .ensures)) (c .if1 .taken))
+union-member-returns t c = sym (way.union-stop (sinkOf (c .before .before .before .before .before .before .before .before .before .before .before .before .args .m)) (sourceOf (c .before .before .before .before .before .before .before .before .before .before .before .before .args .m) (c .before .before .before .before .before .before .before .before .before .before .before .before .args .v .now)) (reads (sinkOf (c .before .before .before .before .before .before .before .before .before .before .before .before .args .m)) (sourceOf (c .before .before .before .before .before .before .before .before .before .before .before .before .args .m) (c .before .before .before .before .before .before .before .before .before .before .before .before .args .v .now)) (checked (c .before .before .before .before .before .before .before .before .before .before .before .before .args .t .now) (c .before .before .before .before .before .before .before .before .before .before .before .before .args .met)) (c .before .before .before .before .before .before .before .before .before .before .before .before .args .left)) (checked (c .before .before .before .before .before .before .before .before .before .before .before .before .args .t .now) (c .before .before .before .before .before .before .before .before .before .before .before .before .args .met)) (labelsFor (c .before .before .before .before .before .before .before .before .before .before .before .before .args .t .now) (c .before .before .before .before .before .before .before .before .before .before .before .before .args .met) (c .before .before .before .before .before .before .before .before .before .before .before .before .args .discriminant)) (c .before .before .before .before .before .before .before .before .before .before .before .before .args .fields) (c .before .before .before .before .before .before .before .before .before .before .before .before .args .discriminant) (c .before .before .before .before .before .before .before .before .before .before .before .before .args .default) (stateOf (c .before .before .before .before .before .before .before .before .before .before .before .before .args .c) (c .before .before .before .before .before .before .before .before .before .before .before .before .args .table .now)) (stateOf (c .before .before .if1 .d) (c .before .before .if1 .table)) (union-member-step t (c .before .before) ∙ ap (λ (p : Parameters). reads (sinkOf (c .before .before .before .before .before .before .before .before .before .before .before .before .args .m)) (sourceOf (c .before .before .before .before .before .before .before .before .before .before .before .before .args .m) (c .before .before .before .before .before .before .before .before .before .before .before .before .args .v .now)) (checked (c .before .before .before .before .before .before .before .before .before .before .before .before .args .t .now) (c .before .before .before .before .before .before .before .before .before .before .before .before .args .met)) (c .before .before .before .before .before .before .before .before .before .before .before .before .args .left) p (stateOf (c .before .before .before .before .before .before .before .before .before .before .before .before .args .c) (c .before .before .before .before .before .before .before .before .before .before .before .before .args .table .now))) (c .before .before .before .before .before .before .before .before .within .ensures)) (c .if2 .taken))
 
 union-member-labels-for-requires : (t : ℕ) → union-member-lts.Need-labels-for-requires (union-member-of t) (union-member-at t) union-member.Post
 union-member-labels-for-requires t c κs = search needs
@@ -322,23 +403,32 @@ union-member-enum-known-place t c = search needs
 union-member-within-requires-2 : (t : ℕ) → union-member-lts.Need-within-requires-2 (union-member-of t) (union-member-at t) union-member.Post
 union-member-within-requires-2 t c κs = search needs
 
+union-member-flat-visit-requires-2 : (t : ℕ) → union-member-lts.Need-flat-visit-requires-2 (union-member-of t) (union-member-at t) union-member.Post
+union-member-flat-visit-requires-2 t c κs = search needs
+
 union-member-visit-requires-2 : (t : ℕ) → union-member-lts.Need-visit-requires-2 (union-member-of t) (union-member-at t) union-member.Post
-union-member-visit-requires-2 t c κs = (omega (arith, c .before .before .before .before .before .before .before .before .before .before .before .before .before .before .before .before .before .pre .0), tt)
+union-member-visit-requires-2 t c κs = (omega (arith, c .before .before .before .before .before .before .before .before .before .before .before .before .before .before .before .before .before .before .before .before .before .before .before .before .pre .0), tt)
+
+union-member-same-length-2 : (t : ℕ) → union-member-lts.Need-same-length-2 (union-member-of t) (union-member-at t) union-member.Post
+union-member-same-length-2 t c = c .before .before .visit2 .kept .1 .1 .1 .1 .0 ∙ c .before .before .before .before .before .before .before .flat-visit2 .kept .1 .1 .0 ∙ union-member-rows t (c .before .before .before .before .before .before .before .before .before .before .before .before .before .before .before .before .before)
+
+union-member-returns-2 : (t : ℕ) → union-member-lts.Need-returns-2 (union-member-of t) (union-member-at t) union-member.Post
+union-member-returns-2 t c = c .before .before .visit2 .ensures ∙ ap (reads (sinkOf (c .before .before .before .before .before .before .before .before .before .before .before .before .before .before .before .before .before .before .before .before .before .before .before .before .before .before .before .args .m)) (sourceOf (c .before .before .before .before .before .before .before .before .before .before .before .before .before .before .before .before .before .before .before .before .before .before .before .before .before .before .before .args .m) (c .before .before .before .before .before .before .before .before .before .before .before .before .before .before .before .before .before .before .before .before .before .before .before .before .before .before .before .args .v .now)) (checked (c .before .before .before .before .before .before .before .before .before .before .before .before .before .before .before .before .before .before .before .before .before .before .before .before .before .before .before .args .t .now) (c .before .before .before .before .before .before .before .before .before .before .before .before .before .before .before .before .before .before .before .before .before .before .before .before .before .before .before .args .met)) (c .before .before .before .before .before .before .before .before .before .before .before .before .before .before .before .before .before .before .before .before .before .before .before .before .before .before .before .args .left) (c .before .before .before .before .before .before .before .before .before .within2 .result)) (flat-left (c .before .before .before .before .before .before .before .before .before .before .before .before .before .before .before .before .before .before .before .before .before .before .before .before .before .before .before .args .m) (c .before .before .before .before .before .before .before .before .before .before .before .before .before .before .before .before .before .before .before .before .before .before .before .before .before .before .before .args .v .now) (c .before .before .before .before .before .before .before .before .before .within2 .result) (c .before .before .before .before .before .before .before .before .before .before .before .before .before .before .before .before .before .before .before .before .before .before .before .before .before .before .before .args .left) (stateOf (c .before .before .before .before .before .before .before .before .before .before .before .before .before .before .before .before .before .if1 .d) (c .before .before .before .before .before .before .before .before .before .before .before .before .before .before .before .before .before .if1 .table)) (stateOf (c .before .before .before .before .before .before .before .flat-visit2 .result .cursor) (c .before .before .before .before .before .before .before .flat-visit2 .last .1 .1 .0)) (c .before .before .before .before .before .before .before .flat-visit2 .result .enters) (c .before .before .before .before .before .before .before .flat-visit2 .ensures) (c .before .before .before .before .if3 .taken)) ∙ ap (λ (p : Parameters). reads (sinkOf (c .before .before .before .before .before .before .before .before .before .before .before .before .before .before .before .before .before .before .before .before .before .before .before .before .before .before .before .args .m)) (sourceOf (c .before .before .before .before .before .before .before .before .before .before .before .before .before .before .before .before .before .before .before .before .before .before .before .before .before .before .before .args .m) (c .before .before .before .before .before .before .before .before .before .before .before .before .before .before .before .before .before .before .before .before .before .before .before .before .before .before .before .args .v .now)) (checked (c .before .before .before .before .before .before .before .before .before .before .before .before .before .before .before .before .before .before .before .before .before .before .before .before .before .before .before .args .t .now) (c .before .before .before .before .before .before .before .before .before .before .before .before .before .before .before .before .before .before .before .before .before .before .before .before .before .before .before .args .met)) (c .before .before .before .before .before .before .before .before .before .before .before .before .before .before .before .before .before .before .before .before .before .before .before .before .before .before .before .args .left) p (stateOf (c .before .before .before .before .before .before .before .before .before .before .before .before .before .before .before .before .before .if1 .d) (c .before .before .before .before .before .before .before .before .before .before .before .before .before .before .before .before .before .if1 .table))) (c .before .before .before .before .before .before .before .before .before .within2 .ensures) ∙ sym (way.union-member (sinkOf (c .before .before .before .before .before .before .before .before .before .before .before .before .before .before .before .before .before .before .before .before .before .before .before .before .before .before .before .args .m)) (sourceOf (c .before .before .before .before .before .before .before .before .before .before .before .before .before .before .before .before .before .before .before .before .before .before .before .before .before .before .before .args .m) (c .before .before .before .before .before .before .before .before .before .before .before .before .before .before .before .before .before .before .before .before .before .before .before .before .before .before .before .args .v .now)) (reads (sinkOf (c .before .before .before .before .before .before .before .before .before .before .before .before .before .before .before .before .before .before .before .before .before .before .before .before .before .before .before .args .m)) (sourceOf (c .before .before .before .before .before .before .before .before .before .before .before .before .before .before .before .before .before .before .before .before .before .before .before .before .before .before .before .args .m) (c .before .before .before .before .before .before .before .before .before .before .before .before .before .before .before .before .before .before .before .before .before .before .before .before .before .before .before .args .v .now)) (checked (c .before .before .before .before .before .before .before .before .before .before .before .before .before .before .before .before .before .before .before .before .before .before .before .before .before .before .before .args .t .now) (c .before .before .before .before .before .before .before .before .before .before .before .before .before .before .before .before .before .before .before .before .before .before .before .before .before .before .before .args .met)) (c .before .before .before .before .before .before .before .before .before .before .before .before .before .before .before .before .before .before .before .before .before .before .before .before .before .before .before .args .left)) (checked (c .before .before .before .before .before .before .before .before .before .before .before .before .before .before .before .before .before .before .before .before .before .before .before .before .before .before .before .args .t .now) (c .before .before .before .before .before .before .before .before .before .before .before .before .before .before .before .before .before .before .before .before .before .before .before .before .before .before .before .args .met)) (labelsFor (c .before .before .before .before .before .before .before .before .before .before .before .before .before .before .before .before .before .before .before .before .before .before .before .before .before .before .before .args .t .now) (c .before .before .before .before .before .before .before .before .before .before .before .before .before .before .before .before .before .before .before .before .before .before .before .before .before .before .before .args .met) (c .before .before .before .before .before .before .before .before .before .before .before .before .before .before .before .before .before .before .before .before .before .before .before .before .before .before .before .args .discriminant)) (c .before .before .before .before .before .before .before .before .before .before .before .before .before .before .before .before .before .before .before .before .before .before .before .before .before .before .before .args .fields) (c .before .before .before .before .before .before .before .before .before .before .before .before .before .before .before .before .before .before .before .before .before .before .before .before .before .before .before .args .discriminant) (c .before .before .before .before .before .before .before .before .before .before .before .before .before .before .before .before .before .before .before .before .before .before .before .before .before .before .before .args .default) (stateOf (c .before .before .before .before .before .before .before .before .before .before .before .before .before .before .before .before .before .before .before .before .before .before .before .before .before .before .before .args .c) (c .before .before .before .before .before .before .before .before .before .before .before .before .before .before .before .before .before .before .before .before .before .before .before .before .before .before .before .args .table .now)) (stateOf (c .before .before .before .before .before .before .before .before .before .before .before .before .before .before .before .before .before .if1 .d) (c .before .before .before .before .before .before .before .before .before .before .before .before .before .before .before .before .before .if1 .table)) (union-member-step t (c .before .before .before .before .before .before .before .before .before .before .before .before .before .before .before .before .before) ∙ ap (λ (p : Parameters). reads (sinkOf (c .before .before .before .before .before .before .before .before .before .before .before .before .before .before .before .before .before .before .before .before .before .before .before .before .before .before .before .args .m)) (sourceOf (c .before .before .before .before .before .before .before .before .before .before .before .before .before .before .before .before .before .before .before .before .before .before .before .before .before .before .before .args .m) (c .before .before .before .before .before .before .before .before .before .before .before .before .before .before .before .before .before .before .before .before .before .before .before .before .before .before .before .args .v .now)) (checked (c .before .before .before .before .before .before .before .before .before .before .before .before .before .before .before .before .before .before .before .before .before .before .before .before .before .before .before .args .t .now) (c .before .before .before .before .before .before .before .before .before .before .before .before .before .before .before .before .before .before .before .before .before .before .before .before .before .before .before .args .met)) (c .before .before .before .before .before .before .before .before .before .before .before .before .before .before .before .before .before .before .before .before .before .before .before .before .before .before .before .args .left) p (stateOf (c .before .before .before .before .before .before .before .before .before .before .before .before .before .before .before .before .before .before .before .before .before .before .before .before .before .before .before .args .c) (c .before .before .before .before .before .before .before .before .before .before .before .before .before .before .before .before .before .before .before .before .before .before .before .before .before .before .before .args .table .now))) (c .before .before .before .before .before .before .before .before .before .before .before .before .before .before .before .before .before .before .before .before .before .before .before .within .ensures)) _ _ (c .before .before .before .before .before .before .before .before .before .before .before .before .before .before .before .if2 .left) (ap (λ (l : Labels). chosenOf l (c .before .before .before .before .before .before .before .before .before .before .before .before .before .before .before .before .before .before .before .before .before .before .before .before .before .before .before .args .t .now) (c .before .before .before .before .before .before .before .before .before .before .before .before .before .before .before .before .before .before .before .before .before .before .before .before .before .before .before .args .fields) (c .before .before .before .before .before .before .before .before .before .before .before .before .before .before .before .before .before .before .before .before .before .before .before .before .before .before .before .args .default) (c .before .before .before .before .before .before .before .before .before .before .before .before .before .before .before .before .before .if1 .d .last)) (sym (c .before .before .before .before .before .before .before .before .before .before .before .before .before .before .labels-for .ensures)) ∙ sym (c .before .before .before .before .before .before .before .before .before .before .before .before .before .chosen-of .ensures) ∙ c .before .before .before .before .before .before .before .before .before .before .before .place .given .1))
 
 union-member-enum-told : (t : ℕ) → union-member-lts.Need-enum-told (union-member-of t) (union-member-at t) union-member.Post
 union-member-enum-told t c = search needs
 
-union-member-same-length-2 : (t : ℕ) → union-member-lts.Need-same-length-2 (union-member-of t) (union-member-at t) union-member.Post
-union-member-same-length-2 t c = c .before .before .visit2 .kept .1 .1 .1 .1 .0 ∙ c .before .before .before .before .before .before .before .before .before .before .before .before .before .before .visit .kept .1 .1 .1 .1 .0
-
-union-member-returns-2 : (t : ℕ) → union-member-lts.Need-returns-2 (union-member-of t) (union-member-at t) union-member.Post
-union-member-returns-2 t c = c .before .before .visit2 .ensures ∙ ap (λ (p : Parameters). reads (sinkOf (c .before .before .before .before .before .before .before .before .before .before .before .before .before .before .before .before .before .before .before .before .args .m)) (sourceOf (c .before .before .before .before .before .before .before .before .before .before .before .before .before .before .before .before .before .before .before .before .args .m) (c .before .before .before .before .before .before .before .before .before .before .before .before .before .before .before .before .before .before .before .before .args .v .now)) (checked (c .before .before .before .before .before .before .before .before .before .before .before .before .before .before .before .before .before .before .before .before .args .t .now) (c .before .before .before .before .before .before .before .before .before .before .before .before .before .before .before .before .before .before .before .before .args .met)) (c .before .before .before .before .before .before .before .before .before .before .before .before .before .before .before .before .before .before .before .before .args .left) p (stateOf (c .before .before .before .before .before .before .before .before .before .before .before .before .before .before .visit .result) (c .before .before .before .before .before .before .before .before .before .before .before .before .before .before .visit .last .1 .1 .1 .1 .0))) (c .before .before .before .before .within2 .ensures) ∙ sym (way.union-member (sinkOf (c .before .before .before .before .before .before .before .before .before .before .before .before .before .before .before .before .before .before .before .before .args .m)) (sourceOf (c .before .before .before .before .before .before .before .before .before .before .before .before .before .before .before .before .before .before .before .before .args .m) (c .before .before .before .before .before .before .before .before .before .before .before .before .before .before .before .before .before .before .before .before .args .v .now)) (reads (sinkOf (c .before .before .before .before .before .before .before .before .before .before .before .before .before .before .before .before .before .before .before .before .args .m)) (sourceOf (c .before .before .before .before .before .before .before .before .before .before .before .before .before .before .before .before .before .before .before .before .args .m) (c .before .before .before .before .before .before .before .before .before .before .before .before .before .before .before .before .before .before .before .before .args .v .now)) (checked (c .before .before .before .before .before .before .before .before .before .before .before .before .before .before .before .before .before .before .before .before .args .t .now) (c .before .before .before .before .before .before .before .before .before .before .before .before .before .before .before .before .before .before .before .before .args .met)) (c .before .before .before .before .before .before .before .before .before .before .before .before .before .before .before .before .before .before .before .before .args .left)) (checked (c .before .before .before .before .before .before .before .before .before .before .before .before .before .before .before .before .before .before .before .before .args .t .now) (c .before .before .before .before .before .before .before .before .before .before .before .before .before .before .before .before .before .before .before .before .args .met)) (labelsFor (c .before .before .before .before .before .before .before .before .before .before .before .before .before .before .before .before .before .before .before .before .args .t .now) (c .before .before .before .before .before .before .before .before .before .before .before .before .before .before .before .before .before .before .before .before .args .met) (c .before .before .before .before .before .before .before .before .before .before .before .before .before .before .before .before .before .before .before .before .args .discriminant)) (c .before .before .before .before .before .before .before .before .before .before .before .before .before .before .before .before .before .before .before .before .args .fields) (c .before .before .before .before .before .before .before .before .before .before .before .before .before .before .before .before .before .before .before .before .args .discriminant) (c .before .before .before .before .before .before .before .before .before .before .before .before .before .before .before .before .before .before .before .before .args .default) (stateOf (c .before .before .before .before .before .before .before .before .before .before .before .before .before .before .before .before .before .before .before .before .args .c) (c .before .before .before .before .before .before .before .before .before .before .before .before .before .before .before .before .before .before .before .before .args .table .now)) (stateOf (c .before .before .before .before .before .before .before .before .before .before .before .before .before .before .visit .result) (c .before .before .before .before .before .before .before .before .before .before .before .before .before .before .visit .last .1 .1 .1 .1 .0)) (c .before .before .before .before .before .before .before .before .before .before .before .before .before .before .visit .ensures ∙ ap (λ (p : Parameters). reads (sinkOf (c .before .before .before .before .before .before .before .before .before .before .before .before .before .before .before .before .before .before .before .before .args .m)) (sourceOf (c .before .before .before .before .before .before .before .before .before .before .before .before .before .before .before .before .before .before .before .before .args .m) (c .before .before .before .before .before .before .before .before .before .before .before .before .before .before .before .before .before .before .before .before .args .v .now)) (checked (c .before .before .before .before .before .before .before .before .before .before .before .before .before .before .before .before .before .before .before .before .args .t .now) (c .before .before .before .before .before .before .before .before .before .before .before .before .before .before .before .before .before .before .before .before .args .met)) (c .before .before .before .before .before .before .before .before .before .before .before .before .before .before .before .before .before .before .before .before .args .left) p (stateOf (c .before .before .before .before .before .before .before .before .before .before .before .before .before .before .before .before .before .before .before .before .args .c) (c .before .before .before .before .before .before .before .before .before .before .before .before .before .before .before .before .before .before .before .before .args .table .now))) (c .before .before .before .before .before .before .before .before .before .before .before .before .before .before .before .before .within .ensures)) _ _ (c .before .before .before .before .before .before .before .before .before .before .if1 .left) (ap (λ (l : Labels). chosenOf l (c .before .before .before .before .before .before .before .before .before .before .before .before .before .before .before .before .before .before .before .before .args .t .now) (c .before .before .before .before .before .before .before .before .before .before .before .before .before .before .before .before .before .before .before .before .args .fields) (c .before .before .before .before .before .before .before .before .before .before .before .before .before .before .before .before .before .before .before .before .args .default) (c .before .before .before .before .before .before .before .before .before .before .before .before .before .before .visit .result .last)) (sym (c .before .before .before .before .before .before .before .before .before .labels-for .ensures)) ∙ sym (c .before .before .before .before .before .before .before .before .chosen-of .ensures) ∙ c .before .before .before .before .before .before .place .given .1))
-
 union-member-same-length-3 : (t : ℕ) → union-member-lts.Need-same-length-3 (union-member-of t) (union-member-at t) union-member.Post
-union-member-same-length-3 t c = c .before .before .before .before .before .before .before .before .visit .kept .1 .1 .1 .1 .0
+union-member-same-length-3 t c = c .before .before .before .before .flat-visit2 .kept .1 .1 .0 ∙ union-member-rows t (c .before .before .before .before .before .before .before .before .before .before .before .before .before .before)
 
 union-member-returns-3 : (t : ℕ) → union-member-lts.Need-returns-3 (union-member-of t) (union-member-at t) union-member.Post
-union-member-returns-3 t c = sym (way.union-none (sinkOf (c .before .before .before .before .before .before .before .before .before .before .before .before .before .before .args .m)) (sourceOf (c .before .before .before .before .before .before .before .before .before .before .before .before .before .before .args .m) (c .before .before .before .before .before .before .before .before .before .before .before .before .before .before .args .v .now)) (reads (sinkOf (c .before .before .before .before .before .before .before .before .before .before .before .before .before .before .args .m)) (sourceOf (c .before .before .before .before .before .before .before .before .before .before .before .before .before .before .args .m) (c .before .before .before .before .before .before .before .before .before .before .before .before .before .before .args .v .now)) (checked (c .before .before .before .before .before .before .before .before .before .before .before .before .before .before .args .t .now) (c .before .before .before .before .before .before .before .before .before .before .before .before .before .before .args .met)) (c .before .before .before .before .before .before .before .before .before .before .before .before .before .before .args .left)) (checked (c .before .before .before .before .before .before .before .before .before .before .before .before .before .before .args .t .now) (c .before .before .before .before .before .before .before .before .before .before .before .before .before .before .args .met)) (labelsFor (c .before .before .before .before .before .before .before .before .before .before .before .before .before .before .args .t .now) (c .before .before .before .before .before .before .before .before .before .before .before .before .before .before .args .met) (c .before .before .before .before .before .before .before .before .before .before .before .before .before .before .args .discriminant)) (c .before .before .before .before .before .before .before .before .before .before .before .before .before .before .args .fields) (c .before .before .before .before .before .before .before .before .before .before .before .before .before .before .args .discriminant) (c .before .before .before .before .before .before .before .before .before .before .before .before .before .before .args .default) (stateOf (c .before .before .before .before .before .before .before .before .before .before .before .before .before .before .args .c) (c .before .before .before .before .before .before .before .before .before .before .before .before .before .before .args .table .now)) (stateOf (c .before .before .before .before .before .before .before .before .visit .result) (c .before .before .before .before .before .before .before .before .visit .last .1 .1 .1 .1 .0)) (c .before .before .before .before .before .before .before .before .visit .ensures ∙ ap (λ (p : Parameters). reads (sinkOf (c .before .before .before .before .before .before .before .before .before .before .before .before .before .before .args .m)) (sourceOf (c .before .before .before .before .before .before .before .before .before .before .before .before .before .before .args .m) (c .before .before .before .before .before .before .before .before .before .before .before .before .before .before .args .v .now)) (checked (c .before .before .before .before .before .before .before .before .before .before .before .before .before .before .args .t .now) (c .before .before .before .before .before .before .before .before .before .before .before .before .before .before .args .met)) (c .before .before .before .before .before .before .before .before .before .before .before .before .before .before .args .left) p (stateOf (c .before .before .before .before .before .before .before .before .before .before .before .before .before .before .args .c) (c .before .before .before .before .before .before .before .before .before .before .before .before .before .before .args .table .now))) (c .before .before .before .before .before .before .before .before .before .before .within .ensures)) (c .before .before .before .before .if1 .left) (ap (λ (l : Labels). chosenOf l (c .before .before .before .before .before .before .before .before .before .before .before .before .before .before .args .t .now) (c .before .before .before .before .before .before .before .before .before .before .before .before .before .before .args .fields) (c .before .before .before .before .before .before .before .before .before .before .before .before .before .before .args .default) (c .before .before .before .before .before .before .before .before .visit .result .last)) (sym (c .before .before .before .labels-for .ensures)) ∙ sym (c .before .before .chosen-of .ensures) ∙ c .enum-told .given .1))
+union-member-returns-3 t c = flat-done (c .before .before .before .before .before .before .before .before .before .before .before .before .before .before .before .before .before .before .before .before .before .before .before .before .args .m) (c .before .before .before .before .before .before .before .before .before .before .before .before .before .before .before .before .before .before .before .before .before .before .before .before .args .v .now) (c .before .before .before .before .before .before .within2 .result) (c .before .before .before .before .before .before .before .before .before .before .before .before .before .before .before .before .before .before .before .before .before .before .before .before .args .left) (stateOf (c .before .before .before .before .before .before .before .before .before .before .before .before .before .before .if1 .d) (c .before .before .before .before .before .before .before .before .before .before .before .before .before .before .if1 .table)) (stateOf (c .before .before .before .before .flat-visit2 .result .cursor) (c .before .before .before .before .flat-visit2 .last .1 .1 .0)) (c .before .before .before .before .flat-visit2 .result .enters) (c .before .before .before .before .flat-visit2 .ensures) (c .before .if3 .left) (checked (c .before .before .before .before .before .before .before .before .before .before .before .before .before .before .before .before .before .before .before .before .before .before .before .before .args .t .now) (c .before .before .before .before .before .before .before .before .before .before .before .before .before .before .before .before .before .before .before .before .before .before .before .before .args .met)) ∙ ap (λ (p : Parameters). reads (sinkOf (c .before .before .before .before .before .before .before .before .before .before .before .before .before .before .before .before .before .before .before .before .before .before .before .before .args .m)) (sourceOf (c .before .before .before .before .before .before .before .before .before .before .before .before .before .before .before .before .before .before .before .before .before .before .before .before .args .m) (c .before .before .before .before .before .before .before .before .before .before .before .before .before .before .before .before .before .before .before .before .before .before .before .before .args .v .now)) (checked (c .before .before .before .before .before .before .before .before .before .before .before .before .before .before .before .before .before .before .before .before .before .before .before .before .args .t .now) (c .before .before .before .before .before .before .before .before .before .before .before .before .before .before .before .before .before .before .before .before .before .before .before .before .args .met)) (c .before .before .before .before .before .before .before .before .before .before .before .before .before .before .before .before .before .before .before .before .before .before .before .before .args .left) p (stateOf (c .before .before .before .before .before .before .before .before .before .before .before .before .before .before .if1 .d) (c .before .before .before .before .before .before .before .before .before .before .before .before .before .before .if1 .table))) (c .before .before .before .before .before .before .within2 .ensures) ∙ sym (way.union-member (sinkOf (c .before .before .before .before .before .before .before .before .before .before .before .before .before .before .before .before .before .before .before .before .before .before .before .before .args .m)) (sourceOf (c .before .before .before .before .before .before .before .before .before .before .before .before .before .before .before .before .before .before .before .before .before .before .before .before .args .m) (c .before .before .before .before .before .before .before .before .before .before .before .before .before .before .before .before .before .before .before .before .before .before .before .before .args .v .now)) (reads (sinkOf (c .before .before .before .before .before .before .before .before .before .before .before .before .before .before .before .before .before .before .before .before .before .before .before .before .args .m)) (sourceOf (c .before .before .before .before .before .before .before .before .before .before .before .before .before .before .before .before .before .before .before .before .before .before .before .before .args .m) (c .before .before .before .before .before .before .before .before .before .before .before .before .before .before .before .before .before .before .before .before .before .before .before .before .args .v .now)) (checked (c .before .before .before .before .before .before .before .before .before .before .before .before .before .before .before .before .before .before .before .before .before .before .before .before .args .t .now) (c .before .before .before .before .before .before .before .before .before .before .before .before .before .before .before .before .before .before .before .before .before .before .before .before .args .met)) (c .before .before .before .before .before .before .before .before .before .before .before .before .before .before .before .before .before .before .before .before .before .before .before .before .args .left)) (checked (c .before .before .before .before .before .before .before .before .before .before .before .before .before .before .before .before .before .before .before .before .before .before .before .before .args .t .now) (c .before .before .before .before .before .before .before .before .before .before .before .before .before .before .before .before .before .before .before .before .before .before .before .before .args .met)) (labelsFor (c .before .before .before .before .before .before .before .before .before .before .before .before .before .before .before .before .before .before .before .before .before .before .before .before .args .t .now) (c .before .before .before .before .before .before .before .before .before .before .before .before .before .before .before .before .before .before .before .before .before .before .before .before .args .met) (c .before .before .before .before .before .before .before .before .before .before .before .before .before .before .before .before .before .before .before .before .before .before .before .before .args .discriminant)) (c .before .before .before .before .before .before .before .before .before .before .before .before .before .before .before .before .before .before .before .before .before .before .before .before .args .fields) (c .before .before .before .before .before .before .before .before .before .before .before .before .before .before .before .before .before .before .before .before .before .before .before .before .args .discriminant) (c .before .before .before .before .before .before .before .before .before .before .before .before .before .before .before .before .before .before .before .before .before .before .before .before .args .default) (stateOf (c .before .before .before .before .before .before .before .before .before .before .before .before .before .before .before .before .before .before .before .before .before .before .before .before .args .c) (c .before .before .before .before .before .before .before .before .before .before .before .before .before .before .before .before .before .before .before .before .before .before .before .before .args .table .now)) (stateOf (c .before .before .before .before .before .before .before .before .before .before .before .before .before .before .if1 .d) (c .before .before .before .before .before .before .before .before .before .before .before .before .before .before .if1 .table)) (union-member-step t (c .before .before .before .before .before .before .before .before .before .before .before .before .before .before) ∙ ap (λ (p : Parameters). reads (sinkOf (c .before .before .before .before .before .before .before .before .before .before .before .before .before .before .before .before .before .before .before .before .before .before .before .before .args .m)) (sourceOf (c .before .before .before .before .before .before .before .before .before .before .before .before .before .before .before .before .before .before .before .before .before .before .before .before .args .m) (c .before .before .before .before .before .before .before .before .before .before .before .before .before .before .before .before .before .before .before .before .before .before .before .before .args .v .now)) (checked (c .before .before .before .before .before .before .before .before .before .before .before .before .before .before .before .before .before .before .before .before .before .before .before .before .args .t .now) (c .before .before .before .before .before .before .before .before .before .before .before .before .before .before .before .before .before .before .before .before .before .before .before .before .args .met)) (c .before .before .before .before .before .before .before .before .before .before .before .before .before .before .before .before .before .before .before .before .before .before .before .before .args .left) p (stateOf (c .before .before .before .before .before .before .before .before .before .before .before .before .before .before .before .before .before .before .before .before .before .before .before .before .args .c) (c .before .before .before .before .before .before .before .before .before .before .before .before .before .before .before .before .before .before .before .before .before .before .before .before .args .table .now))) (c .before .before .before .before .before .before .before .before .before .before .before .before .before .before .before .before .before .before .before .before .within .ensures)) _ _ (c .before .before .before .before .before .before .before .before .before .before .before .before .if2 .left) (ap (λ (l : Labels). chosenOf l (c .before .before .before .before .before .before .before .before .before .before .before .before .before .before .before .before .before .before .before .before .before .before .before .before .args .t .now) (c .before .before .before .before .before .before .before .before .before .before .before .before .before .before .before .before .before .before .before .before .before .before .before .before .args .fields) (c .before .before .before .before .before .before .before .before .before .before .before .before .before .before .before .before .before .before .before .before .before .before .before .before .args .default) (c .before .before .before .before .before .before .before .before .before .before .before .before .before .before .if1 .d .last)) (sym (c .before .before .before .before .before .before .before .before .before .before .before .labels-for .ensures)) ∙ sym (c .before .before .before .before .before .before .before .before .before .before .chosen-of .ensures) ∙ c .before .before .before .before .before .before .before .before .place .given .1))
+
+union-member-same-length-4 : (t : ℕ) → union-member-lts.Need-same-length-4 (union-member-of t) (union-member-at t) union-member.Post
+union-member-same-length-4 t c = union-member-rows t (c .before .before .before .before .before .before)
+
+union-member-returns-4 : (t : ℕ) → union-member-lts.Need-returns-4 (union-member-of t) (union-member-at t) union-member.Post
+union-member-returns-4 t c = sym (way.union-none (sinkOf (c .before .before .before .before .before .before .before .before .before .before .before .before .before .before .before .before .args .m)) (sourceOf (c .before .before .before .before .before .before .before .before .before .before .before .before .before .before .before .before .args .m) (c .before .before .before .before .before .before .before .before .before .before .before .before .before .before .before .before .args .v .now)) (reads (sinkOf (c .before .before .before .before .before .before .before .before .before .before .before .before .before .before .before .before .args .m)) (sourceOf (c .before .before .before .before .before .before .before .before .before .before .before .before .before .before .before .before .args .m) (c .before .before .before .before .before .before .before .before .before .before .before .before .before .before .before .before .args .v .now)) (checked (c .before .before .before .before .before .before .before .before .before .before .before .before .before .before .before .before .args .t .now) (c .before .before .before .before .before .before .before .before .before .before .before .before .before .before .before .before .args .met)) (c .before .before .before .before .before .before .before .before .before .before .before .before .before .before .before .before .args .left)) (checked (c .before .before .before .before .before .before .before .before .before .before .before .before .before .before .before .before .args .t .now) (c .before .before .before .before .before .before .before .before .before .before .before .before .before .before .before .before .args .met)) (labelsFor (c .before .before .before .before .before .before .before .before .before .before .before .before .before .before .before .before .args .t .now) (c .before .before .before .before .before .before .before .before .before .before .before .before .before .before .before .before .args .met) (c .before .before .before .before .before .before .before .before .before .before .before .before .before .before .before .before .args .discriminant)) (c .before .before .before .before .before .before .before .before .before .before .before .before .before .before .before .before .args .fields) (c .before .before .before .before .before .before .before .before .before .before .before .before .before .before .before .before .args .discriminant) (c .before .before .before .before .before .before .before .before .before .before .before .before .before .before .before .before .args .default) (stateOf (c .before .before .before .before .before .before .before .before .before .before .before .before .before .before .before .before .args .c) (c .before .before .before .before .before .before .before .before .before .before .before .before .before .before .before .before .args .table .now)) (stateOf (c .before .before .before .before .before .before .if1 .d) (c .before .before .before .before .before .before .if1 .table)) (union-member-step t (c .before .before .before .before .before .before) ∙ ap (λ (p : Parameters). reads (sinkOf (c .before .before .before .before .before .before .before .before .before .before .before .before .before .before .before .before .args .m)) (sourceOf (c .before .before .before .before .before .before .before .before .before .before .before .before .before .before .before .before .args .m) (c .before .before .before .before .before .before .before .before .before .before .before .before .before .before .before .before .args .v .now)) (checked (c .before .before .before .before .before .before .before .before .before .before .before .before .before .before .before .before .args .t .now) (c .before .before .before .before .before .before .before .before .before .before .before .before .before .before .before .before .args .met)) (c .before .before .before .before .before .before .before .before .before .before .before .before .before .before .before .before .args .left) p (stateOf (c .before .before .before .before .before .before .before .before .before .before .before .before .before .before .before .before .args .c) (c .before .before .before .before .before .before .before .before .before .before .before .before .before .before .before .before .args .table .now))) (c .before .before .before .before .before .before .before .before .before .before .before .before .within .ensures)) (c .before .before .before .before .if2 .left) (ap (λ (l : Labels). chosenOf l (c .before .before .before .before .before .before .before .before .before .before .before .before .before .before .before .before .args .t .now) (c .before .before .before .before .before .before .before .before .before .before .before .before .before .before .before .before .args .fields) (c .before .before .before .before .before .before .before .before .before .before .before .before .before .before .before .before .args .default) (c .before .before .before .before .before .before .if1 .d .last)) (sym (c .before .before .before .labels-for .ensures)) ∙ sym (c .before .before .chosen-of .ensures) ∙ c .enum-told .given .1))
 
 abbrev visit-of : ℕ → visit-lts.Claims
 visit-of t = (refused-reads.Asked, refused-reads.Learnt, visit-reads.Asked, visit-reads.Learnt, leaf-reads.Asked, leaf-reads.Learnt, text-reads.Asked, text-reads.Learnt, reference-reads.Asked, reference-reads.Learnt, struct-members-below t, struct-members.Post, exception-below t, exception.Post, union-member-below t, union-member.Post, enumerated-reads.Asked, enumerated-reads.Learnt, sequence-below t, sequence.Post, within-reads.Asked, within-reads.Learnt, elements-below t, elements.Post, visit-below t, visit.Post)
@@ -527,11 +617,22 @@ pub +each+elements+exception+sequence+struct-members+union-member+visit-spec :
     elements.Post
     (elements-enum-known-e t)
     (elements-leaf-elements-requires t)
+    (elements-enum-known-e-2 t)
     (elements-each-requires t)
     (elements-same-length t)
     (elements-returns t)
+    (elements-plan-of-requires t)
+    (elements-structs-requires t)
     (elements-same-length-2 t)
-    (elements-returns-2 t))
+    (elements-returns-2 t)
+    (elements-each-requires-2 t)
+    (elements-each-requires-3 t)
+    (elements-same-length-3 t)
+    (elements-returns-3 t)
+    (elements-same-length-4 t)
+    (elements-returns-4 t)
+    (elements-same-length-5 t)
+    (elements-returns-5 t))
     (λ t. exception-lts.spec (exception-of t)
     (exception-at t)
     exception.Post
@@ -547,10 +648,12 @@ pub +each+elements+exception+sequence+struct-members+union-member+visit-spec :
     (sequence-count-requires t)
     (sequence-same-length t)
     (sequence-returns t)
+    (sequence-same-length-2 t)
+    (sequence-returns-2 t)
     (sequence-within-requires t)
     (sequence-elements-requires t)
-    (sequence-same-length-2 t)
-    (sequence-returns-2 t))
+    (sequence-same-length-3 t)
+    (sequence-returns-3 t))
     (λ t. struct-members-lts.spec (struct-members-of t)
     (struct-members-at t)
     struct-members.Post
@@ -563,6 +666,7 @@ pub +each+elements+exception+sequence+struct-members+union-member+visit-spec :
     (struct-members-same-length t)
     (struct-members-returns t)
     (struct-members-within-requires t)
+    (struct-members-flat-visit-requires t)
     (struct-members-visit-requires t)
     (struct-members-same-length-2 t)
     (struct-members-returns-2 t)
@@ -575,6 +679,7 @@ pub +each+elements+exception+sequence+struct-members+union-member+visit-spec :
     (union-member-at t)
     union-member.Post
     (union-member-within-requires t)
+    (union-member-flat-visit-requires t)
     (union-member-visit-requires t)
     (union-member-same-length t)
     (union-member-returns t)
@@ -582,12 +687,15 @@ pub +each+elements+exception+sequence+struct-members+union-member+visit-spec :
     (union-member-chosen-of-requires t)
     (union-member-enum-known-place t)
     (union-member-within-requires-2 t)
+    (union-member-flat-visit-requires-2 t)
     (union-member-visit-requires-2 t)
-    (union-member-enum-told t)
     (union-member-same-length-2 t)
     (union-member-returns-2 t)
+    (union-member-enum-told t)
     (union-member-same-length-3 t)
-    (union-member-returns-3 t))
+    (union-member-returns-3 t)
+    (union-member-same-length-4 t)
+    (union-member-returns-4 t))
     λ t. visit-lts.spec (visit-of t)
     (visit-at t)
     visit.Post

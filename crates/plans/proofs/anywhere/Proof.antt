@@ -1,7 +1,7 @@
--- The parameters of the kind at a place.
+-- The parameters of the kind at a place, wherever that is.
 use borrow.Author.Needs.{needs}
-use Rattle.walking.proofs.within.Statement.{statement}
-use Rattle.walking.proofs.within.Tie as tie
+use Rattle.plans.proofs.anywhere.Statement.{statement}
+use Rattle.plans.proofs.anywhere.Tie as tie
 use mathlib.Core.Path.{sym, ap, _∙_}
 use Rattle.reading.specs.Visit.{checked, atPosition, inside}
 
@@ -25,7 +25,7 @@ returns-2 : tie.Need-returns-2
 unfolding inside
 returns-2 c = ap (atPosition (checked (c .before .before .before .before .args .t .now) (c .before .before .before .before .args .met))) (sym (c .enum-told .given .1) ∙ c .before .before .position .ensures)
 
-pub within-spec : {M : Type 1} → statement M
-within-spec =
+pub anywhere-spec : {M : Type 1} → statement M
+anywhere-spec =
     tie.close
     (tie.spec position-requires enum-known-j parameters-of-requires enum-told returns returns-2)

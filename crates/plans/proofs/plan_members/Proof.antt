@@ -1,0 +1,68 @@
+-- The members of a struct that has a plan.
+use borrow.Author.Needs.{needs}
+use Rattle.plans.proofs.plan_members.Statement.{statement}
+use Rattle.plans.proofs.plan_members.Tie as tie
+use mathlib.Core.Path.{ap, _∙_}
+use Prim.Native.Nat.{ℕ, _-_}
+use native.Mathlib.Omega.{arith}
+use Rattle.reading.specs.Visit.{leafAt}
+use Rattle.reading.specs.Sinks.{begun}
+use Rattle.leaves.specs.Walk.{sinkOf, sourceOf, stateOf}
+use Rattle.plans.proofs.Steps.{Stepping, stepping-none, stepping-all, stepping-stop, stepping-more}
+
+abbrev Inv-loop : tie.InvT-loop
+Inv-loop v m table₀ kinds count d₀ k₀ table d k = Stepping (sinkOf m) (sourceOf m v) kinds count k (stateOf d₀ table₀) (stateOf d table)
+
+abbrev μ-loop : tie.MeasureT-loop
+μ-loop v m table₀ kinds count d₀ k₀ table d k = count - k
+
+loop-holds : tie.Need-loop-holds Inv-loop μ-loop
+loop-holds c = stepping-none (sinkOf (c .before .before .before .args .m)) (sourceOf (c .before .before .before .args .m) (c .before .before .before .args .v .now)) (c .before .before .before .args .plan .kinds)
+
+kind-at-requires : tie.Need-kind-at-requires Inv-loop μ-loop
+kind-at-requires c κs = search needs
+
+visit-requires : tie.Need-visit-requires Inv-loop μ-loop
+visit-requires c κs = search needs
+
+leaf-requires : tie.Need-leaf-requires Inv-loop μ-loop
+leaf-requires c κs = search needs
+
+same-length : tie.Need-same-length Inv-loop μ-loop
+same-length c = c .before .before .before .before .leaf .kept .1 .1 .0 ∙ c .before .before .before .before .before .before .before .before .before .loop .inv .same
+
+returns : tie.Need-returns Inv-loop μ-loop
+returns c = stepping-stop (sinkOf (c .before .before .before .before .before .before .before .before .before .before .before .before .before .args .m)) (sourceOf (c .before .before .before .before .before .before .before .before .before .before .before .before .before .args .m) (c .before .before .before .before .before .before .before .before .before .before .before .before .before .args .v .now)) (c .before .before .before .before .before .before .before .before .before .before .before .before .before .args .plan .kinds) (c .before .before .before .before .before .before .before .before .before .loop .inv) (c .before .before .before .before .before .before .before .before .loop-test .taken) (c .before .before .before .before .leaf .ensures ∙ ap (leafAt (sinkOf (c .before .before .before .before .before .before .before .before .before .before .before .before .before .args .m)) (sourceOf (c .before .before .before .before .before .before .before .before .before .before .before .before .before .args .m) (c .before .before .before .before .before .before .before .before .before .before .before .before .before .args .v .now)) (c .before .before .before .before .before .before .kind-at .result)) (c .before .before .before .before .before .visit .ensures (c .before .before .before .before .before .before .before .before .before .before .before .before .before .args .m) (c .before .before .before .before .before .before .before .before .before .loop .table)) ∙ ap (λ (i : ℕ). leafAt (sinkOf (c .before .before .before .before .before .before .before .before .before .before .before .before .before .args .m)) (sourceOf (c .before .before .before .before .before .before .before .before .before .before .before .before .before .args .m) (c .before .before .before .before .before .before .before .before .before .before .before .before .before .args .v .now)) i (begun (sinkOf (c .before .before .before .before .before .before .before .before .before .before .before .before .before .args .m)) (stateOf (c .before .before .before .before .before .before .before .before .before .loop .d) (c .before .before .before .before .before .before .before .before .before .loop .table)))) (c .before .before .before .before .before .before .kind-at .ensures)) (c .if1 .taken)
+
+add-k : tie.Need-add-k Inv-loop μ-loop
+add-k c = search (needs, c .before .before .before .before .before .before .before .before .before .before .before .before .before .good .1 .1 .1 .0)
+
+loop-less : tie.Need-loop-less Inv-loop μ-loop
+loop-less c = omega arith
+
+loop-again : tie.Need-loop-again Inv-loop μ-loop
+loop-again c = stepping-more (sinkOf (c .before .before .before .before .before .before .before .before .before .before .before .before .before .args .m)) (sourceOf (c .before .before .before .before .before .before .before .before .before .before .before .before .before .args .m) (c .before .before .before .before .before .before .before .before .before .before .before .before .before .args .v .now)) (c .before .before .before .before .before .before .before .before .before .before .before .before .before .args .plan .kinds) (c .before .before .before .before .before .before .before .before .before .loop .inv) (c .before .before .before .before .before .before .before .before .loop-test .taken) (c .before .before .before .before .leaf .ensures ∙ ap (leafAt (sinkOf (c .before .before .before .before .before .before .before .before .before .before .before .before .before .args .m)) (sourceOf (c .before .before .before .before .before .before .before .before .before .before .before .before .before .args .m) (c .before .before .before .before .before .before .before .before .before .before .before .before .before .args .v .now)) (c .before .before .before .before .before .before .kind-at .result)) (c .before .before .before .before .before .visit .ensures (c .before .before .before .before .before .before .before .before .before .before .before .before .before .args .m) (c .before .before .before .before .before .before .before .before .before .loop .table)) ∙ ap (λ (i : ℕ). leafAt (sinkOf (c .before .before .before .before .before .before .before .before .before .before .before .before .before .args .m)) (sourceOf (c .before .before .before .before .before .before .before .before .before .before .before .before .before .args .m) (c .before .before .before .before .before .before .before .before .before .before .before .before .before .args .v .now)) i (begun (sinkOf (c .before .before .before .before .before .before .before .before .before .before .before .before .before .args .m)) (stateOf (c .before .before .before .before .before .before .before .before .before .loop .d) (c .before .before .before .before .before .before .before .before .before .loop .table)))) (c .before .before .before .before .before .before .kind-at .ensures)) (c .before .before .before .before .leaf .kept .1 .1 .0) (c .if1 .left)
+
+same-length-2 : tie.Need-same-length-2 Inv-loop μ-loop
+same-length-2 c = c .before .loop .inv .same
+
+returns-2 : tie.Need-returns-2 Inv-loop μ-loop
+returns-2 c = stepping-all (sinkOf (c .before .before .before .before .before .args .m)) (sourceOf (c .before .before .before .before .before .args .m) (c .before .before .before .before .before .args .v .now)) (c .before .before .before .before .before .args .plan .kinds) (c .before .loop .inv) (c .loop-test .left)
+
+pub plan-members-spec : {M : Type 1} → statement M
+plan-members-spec =
+    tie.close
+    (tie.spec
+    Inv-loop
+    μ-loop
+    loop-holds
+    kind-at-requires
+    visit-requires
+    leaf-requires
+    same-length
+    returns
+    add-k
+    loop-less
+    loop-again
+    same-length-2
+    returns-2)
