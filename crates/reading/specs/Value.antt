@@ -11,8 +11,8 @@
 --   valueAnswer     the answer, where there is room for so many items
 --   flat            items as numbers, three each
 --   filledBy        a table that an answer fills or leaves
---   itemNo          "numbers start at 0": the item of a number; past the last, three zeros
 --   tableAfter      "lent memory that an answer doesn't fill keeps its contents": the items from the table's start, or as it was
+--   itemNo          "numbers start at 0": the item of a number; past the last, three zeros
 use Prim.Native.Nat.{ℕ, zero, suc, _/_}
 use mathlib.Core.List.{List, [], _∷_, _++_}
 use mathlib.Core.Bool.{Bool, _||_}
