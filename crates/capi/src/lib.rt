@@ -206,7 +206,7 @@ pub extern "C" fn haulspar_type(
 }
 
 // A value read into the table, three numbers an item: 0, or 42, 30 to 40, or 50 to 56. Of an accepted one `numbers` gets the octets used
-// and the items; `visits` gets the visits begun, also of a refused one.
+// and the items; `visits` gets the visits begun, also of a refused one. `little` says that the type is little-endian, `order` that the value is.
 #[no_mangle]
 pub extern "C" fn haulspar_value(
     t: &[u8],
@@ -242,7 +242,7 @@ pub extern "C" fn haulspar_value(
 }
 
 // An item of a value by its number: 0, or 42, 30 to 40, 50 to 55, or 49. `given` gets which case it is (0 signed, 1 unsigned, 2 single,
-// 3 double) and its 64 bits.
+// 3 double) and its 64 bits. `little` says that the type is little-endian, `order` that the value is.
 #[no_mangle]
 pub extern "C" fn haulspar_item(
     t: &[u8],

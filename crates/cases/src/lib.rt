@@ -1,7 +1,6 @@
 // The member of a union that a discriminant's number chooses. Every function answers for any octets.
 ghost use mathlib.Core.Path.{_≡_};
 ghost use Rattle.reading.specs.Visit.{caseOf, memberNo, defaultOf, chosenOf};
-use cdr::Index;
 use kinds::Fields;
 use kinds::Labels;
 use kinds::Spot;

@@ -2,12 +2,10 @@
 // table. Every function answers for any octets, cursor and table.
 ghost use mathlib.Core.Path.{_≡_};
 ghost use mathlib.Core.List.{List};
-ghost use mathlib.Core.Bool.{cond};
 ghost use Prim.Native.Nat.{ℕ};
 ghost use Rattle.cdr.specs.Number.{readOf};
-ghost use Rattle.reading.specs.Sinks.{item, number, run, failed, repeats, begun, taken, done};
+ghost use Rattle.reading.specs.Sinks.{number, run, failed, repeats, begun, taken};
 ghost use Rattle.reading.specs.Visit.{leafAt, enumAt, textAt, countAt, objrefAt};
-ghost use Rattle.leaves.specs.Lent.{rowPut};
 ghost use Rattle.leaves.specs.Walk.{sinkOf, sourceOf, stateOf, startOf, leafVisit};
 use cdr::Index;
 use cdr::Order;

@@ -21,7 +21,7 @@ use Rattle.kinds.specs.Parts.{onSpot, memberAt}
 use Rattle.reading.specs.Sinks.{Source, Sink, St, after, repeats, begun}
 use Rattle.reading.specs.Visit.{Checked, inside, membersAt, elementsAt, enter}
 use Rattle.reading.specs.Reading.{reads}
-use Rattle.reading.proofs.Ways.{repeats-same, visit-some, goes-on, stops}
+use Rattle.reading.proofs.Ways.{after-same, repeats-same, visit-some, goes-on, stops}
 use Rattle.leaves.specs.declared.Mode.{Mode}
 use Rattle.leaves.specs.Lent.{Lent}
 use Rattle.leaves.specs.Walk.{sinkOf, sourceOf}
@@ -46,16 +46,11 @@ module _ {A : Type 0} (k : Sink A) (x : Source) (t : Checked) (l : ℕ) (some : 
   unfolding enter
   leaf-one p kind s e = visit-some k x t l (inside t p) (Leaf kind) s (begun k s) some e refl
 
-  after-both : (a b : St A) (h i : St A → St A) → a ≡ b → ((s : St A) → h s ≡ i s) → after a h ≡ after b i
-  unfolding after
-  after-both a b h i e q =
-      ap (λ (u : St A). after u h) e ∙ ap (λ (u : St A). choose (eqb (b .fault) 0) (λ _. u) (λ _. b)) (q b)
-
   member-one : (n j : ℕ) (s : St A) (a : Spot) → onMember a (λ p next. (inside t p ≡ Leaf (getD kinds j 0)) × Right t g kinds n (j + 1) next)
       → ((next : Index) (u : St A) → Right t g kinds n (j + 1) next → membersAt k x f t g n next u ≡ planSteps k x kinds (j + 1) n u)
       → onSpot a s (λ p next. after (f (inside t p) s) (membersAt k x f t g n next)) ≡ after (leafStep k x (getD kinds j 0) s) (planSteps k x kinds (j + 1) n)
   member-one n j s (At p next) r more =
-      after-both (f (inside t p) s) (leafStep k x (getD kinds j 0) s) (membersAt k x f t g n next) (planSteps k x kinds (j + 1) n)
+      after-same (f (inside t p) s) (leafStep k x (getD kinds j 0) s) (membersAt k x f t g n next) (planSteps k x kinds (j + 1) n)
       (leaf-one p (getD kinds j 0) s (r .0)) (λ u. more next u (r .1))
   member-one n j s Nowhere r more = absurd r
 

@@ -67,15 +67,15 @@ module _ {A : Type 0} (f : St A → St A) where
   repeats-stop n j s r h e z = repeats-one n j s h ∙ stops (repeats f (n - (j + 1))) (f s) r e z
 
 -- steps that are the same step by step are the same repeated
-after-same : {A : Type 0} (f g : St A → St A) → ((s : St A) → f s ≡ g s) → (s : St A) → after s f ≡ after s g
+pub after-same : {A : Type 0} (a b : St A) (f g : St A → St A) → a ≡ b → ((s : St A) → f s ≡ g s) → after a f ≡ after b g
 unfolding after
-after-same {A} f g e s = ap (λ (u : St A). choose (eqb (s .fault) 0) (λ _. u) (λ _. s)) (e s)
+after-same {A} a b f g e same = ap (λ (u : St A). after u f) e ∙ ap (λ (u : St A). choose (eqb (b .fault) 0) (λ _. u) (λ _. b)) (same b)
 
 pub repeats-same : {A : Type 0} (f g : St A → St A) → ((s : St A) → f s ≡ g s) → (n : ℕ) (s : St A) → repeats f n s ≡ repeats g n s
 unfolding repeats
 repeats-same f g e zero s = refl
 repeats-same {A} f g e (suc n) s =
-    ap (λ (u : St A). after u (repeats f n)) (e s) ∙ after-same (repeats f n) (repeats g n) (repeats-same f g e n) (g s)
+    after-same (f s) (g s) (repeats f n) (repeats g n) (e s) (repeats-same f g e n)
 
 -- an item for which there is no room, or some
 module _ {A : Type 0} (k : Sink A) (i : Item) (s : St A) where
