@@ -1,4 +1,4 @@
--- What the calls for a value and an item leave, by the answer's case.
+-- What the calls for a value, an item and a value that is rewritten leave, by the answer's case.
 use mathlib.Core.Path.{_≡_, sym, ap, subst, _∙_}
 use mathlib.Core.List.{List, [], _∷_}
 use mathlib.Core.Bool.{Bool}
@@ -14,7 +14,11 @@ use Rattle.value.specs.declared.ItemAnswer.{ItemAnswer}
 use Rattle.value.specs.declared.ItemAnswer.the-variants.{Given, Refused as Ungiven}
 use Rattle.value.specs.Single.{itemNumber, givenIn, itemAnswer}
 use Rattle.capi.specs.Answers.{orderIs}
-use Rattle.capi.specs.Values.{valueAt, ReadsC, PicksC}
+use lib.ListN.{length}
+use Rattle.written.specs.declared.RewriteAnswer.{RewriteAnswer}
+use Rattle.written.specs.Written.{Target}
+use Rattle.written.specs.Rewriting.{rewriteNumber, countIn, rewriteAnswer, outputAfter}
+use Rattle.capi.specs.Values.{valueAt, ReadsC, PicksC, RewritesC}
 
 module _ (t : List ℕ) (little : Bool) (v : List ℕ) (order : Bool) (start : ℕ) (to vo : Order) (te : to ≡ orderIs little) (ve : vo ≡ orderIs order) where
   module _ (table numbers : List ℕ) (answer : ValueAnswer) (last : List ℕ)
@@ -49,3 +53,17 @@ module _ (t : List ℕ) (little : Bool) (v : List ℕ) (order : Bool) (start : �
           number = ap itemNumber f;
           given-is = ap (λ (z : ℕ). z ∷ b ∷ []) ce ∙ ap (λ (z : ℕ). caseOf i ∷ z ∷ []) be ∙ ap (λ (r : ItemAnswer). givenIn r given) f;
         }
+
+  module _ (chosen meant : Target) (ce : chosen ≡ meant) (out : List ℕ) (count : ℕ) (answer : RewriteAnswer) (last : List ℕ)
+      (q : (answer ≡ rewriteAnswer t to (source v vo (indexOf start)) chosen (length out)) × (last ≡ outputAfter t to (source v vo (indexOf start)) chosen out)) where
+    named-output : (answer ≡ rewriteAnswer t (orderIs little) (valueAt v order start) meant (length out))
+        × (last ≡ outputAfter t (orderIs little) (valueAt v order start) meant out)
+    named-output =
+        subst (λ (o : Target). (answer ≡ rewriteAnswer t (orderIs little) (valueAt v order start) o (length out)) × (last ≡ outputAfter t (orderIs little) (valueAt v order start) o out)) ce
+        (subst (λ (o : Order). (answer ≡ rewriteAnswer t (orderIs little) (source v o (indexOf start)) chosen (length out)) × (last ≡ outputAfter t (orderIs little) (source v o (indexOf start)) chosen out)) ve
+        (subst (λ (o : Order). (answer ≡ rewriteAnswer t o (source v vo (indexOf start)) chosen (length out)) × (last ≡ outputAfter t o (source v vo (indexOf start)) chosen out)) te q))
+
+    pub rewrites-as : (n r : ℕ) → n ≡ countIn answer count → r ≡ rewriteNumber answer → RewritesC t little (valueAt v order start) meant out count r last n
+    rewrites-as n r ne re =
+        let f = named-output .0 in
+        record { number = re ∙ ap rewriteNumber f; output = named-output .1; count-is = ne ∙ ap (λ (a : RewriteAnswer). countIn a count) f }

@@ -2,7 +2,8 @@
 -- the visits are always told.
 --   valueAt       a value's octets, its order by a flag, and its starting index
 --   ReadsC        what a call ensures of a value,
---   PicksC        and of an item
+--   PicksC        of an item,
+--   RewritesC     and of a value that is rewritten
 use mathlib.Core.Path.{_≡_}
 use mathlib.Core.List.{List}
 use mathlib.Core.Bool.{Bool}
@@ -10,6 +11,9 @@ use Prim.Native.Nat.{ℕ}
 use Rattle.cdr.specs.Align.{indexOf}
 use Rattle.reading.specs.Sinks.{Source, source}
 use Rattle.reading.specs.Value.{roomIn, valueNumber, visitsIn, usedIn, valueAnswer, tableAfter}
+use lib.ListN.{length}
+use Rattle.written.specs.Written.{Target}
+use Rattle.written.specs.Rewriting.{rewriteNumber, countIn, rewriteAnswer, outputAfter}
 use Rattle.value.specs.Single.{itemNumber, givenIn, itemAnswer}
 use Rattle.capi.specs.Answers.{orderIs}
 
@@ -26,3 +30,9 @@ pub record ReadsC (t : List ℕ) (little : Bool) (x : Source) (table numbers : L
 pub record PicksC (t : List ℕ) (little : Bool) (x : Source) (n : ℕ) (given : List ℕ) (r : ℕ) (givenLast : List ℕ) : Type 0 where
   pub number : r ≡ itemNumber (itemAnswer t (orderIs little) x n)
   pub given-is : givenLast ≡ givenIn (itemAnswer t (orderIs little) x n) given
+
+pub record RewritesC (t : List ℕ) (little : Bool) (x : Source) (to : Target) (out : List ℕ) (count r : ℕ) (outLast : List ℕ) (countLast : ℕ) : Type 0
+  where
+    pub number : r ≡ rewriteNumber (rewriteAnswer t (orderIs little) x to (length out))
+    pub output : outLast ≡ outputAfter t (orderIs little) x to out
+    pub count-is : countLast ≡ countIn (rewriteAnswer t (orderIs little) x to (length out)) count

@@ -3,7 +3,10 @@ ghost use mathlib.Core.Path.{_≡_};
 ghost use mathlib.Core.Bool.{cond};
 ghost use Rattle.frame.specs.Frames.{headerNumbers};
 ghost use Rattle.answers.specs.Answers.{outputIn};
-ghost use Rattle.capi.specs.Values.{valueAt, ReadsC, PicksC};
+ghost use Rattle.cdr.specs.Align.{indexOf};
+ghost use Rattle.written.specs.Written.{target, unnamedOrder};
+ghost use Rattle.written.specs.Rewriting.{rewriteNumber, countIn};
+ghost use Rattle.capi.specs.Values.{valueAt, ReadsC, PicksC, RewritesC};
 ghost use Rattle.capi.specs.Answers.{decodedCount, encodedCount, joinedCount, orderIs, DecodesC, EncodesC, JudgesC, JoinsC, ChecksC};
 use answers::Answer;
 use answers::Output;
@@ -18,6 +21,7 @@ use places::Record;
 use reading::ValueAnswer;
 use typecode::TypeAnswer;
 use value::ItemAnswer;
+use written::RewriteAnswer;
 
 // A line's characters to octets in `out`, and their number in `count`; 10, 11, or 27 where `out` is too short.
 #[no_mangle]
@@ -269,5 +273,85 @@ pub extern "C" fn haulspar_item(
             0
         }
         ItemAnswer::Refused(refusal) => refusal,
+    }
+}
+
+// A value rewritten in a chosen order from the chosen index on: 0, or 42, 30 to 40, 50 to 55, or 57. `out` gets the octets from its start on,
+// and `count` their number. `little` says that the type is little-endian, `order` that the value is, `to` that the chosen order is.
+#[no_mangle]
+pub extern "C" fn haulspar_rewrite(
+    t: &[u8],
+    little: bool,
+    v: &[u8],
+    order: bool,
+    start: usize,
+    to: bool,
+    index: usize,
+    out: &mut [u8],
+    count: &mut u64,
+) -> u32
+    ensures { λ r. ⌜ RewritesC (now (t .entry)) little (valueAt (now (v .entry)) order start) (target (orderIs to) (indexOf index)) (now (out .entry)) (now (count .entry)) r (now (out .exit)) (now (count .exit)) ⌝ }
+{
+    let typed = order_is(little);
+    let chosen = order_is(to);
+    let answer = rewriting::rewrite(
+        t,
+        typed,
+        v,
+        order_is(order),
+        Index(start),
+        chosen,
+        Index(index),
+        out,
+    );
+    *count = rewritten_count(answer, *count);
+    rewritten_number(answer)
+}
+
+// The same where no order is named.
+#[no_mangle]
+pub extern "C" fn haulspar_rewrite_unnamed(
+    t: &[u8],
+    little: bool,
+    v: &[u8],
+    order: bool,
+    start: usize,
+    index: usize,
+    out: &mut [u8],
+    count: &mut u64,
+) -> u32
+    ensures { λ r. ⌜ RewritesC (now (t .entry)) little (valueAt (now (v .entry)) order start) (target unnamedOrder (indexOf index)) (now (out .entry)) (now (count .entry)) r (now (out .exit)) (now (count .exit)) ⌝ }
+{
+    let typed = order_is(little);
+    let answer = rewriting::rewrite_unnamed(
+        t,
+        typed,
+        v,
+        order_is(order),
+        Index(start),
+        Index(index),
+        out,
+    );
+    *count = rewritten_count(answer, *count);
+    rewritten_number(answer)
+}
+
+// The number of octets written, or what was there where none are.
+fn rewritten_count(answer: RewriteAnswer, before: u64) -> u64
+    ensures { λ r. ⌜ r ≡ countIn answer before ⌝ }
+{
+    match answer {
+        RewriteAnswer::Accepted(n) => n as u64,
+        RewriteAnswer::Refused(_) => before,
+    }
+}
+
+// The number of an answer.
+fn rewritten_number(answer: RewriteAnswer) -> u32
+    ensures { λ r. ⌜ r ≡ rewriteNumber answer ⌝ }
+{
+    match answer {
+        RewriteAnswer::Accepted(_) => 0,
+        RewriteAnswer::Refused(number) => number,
     }
 }

@@ -5,7 +5,7 @@ ghost use mathlib.Core.List.{List};
 ghost use Prim.Native.Nat.{ℕ};
 ghost use Rattle.cdr.specs.Number.{readOf};
 ghost use Rattle.reading.specs.Sinks.{number, run, failed, repeats, begun, taken};
-ghost use Rattle.reading.specs.Visit.{leafAt, enumAt, textAt, countAt, objrefAt};
+ghost use Rattle.reading.specs.Visit.{sizeOf, leafAt, enumAt, textAt, countAt, objrefAt};
 ghost use Rattle.leaves.specs.Walk.{sinkOf, sourceOf, stateOf, startOf, leafVisit};
 use cdr::Index;
 use cdr::Order;
@@ -112,6 +112,37 @@ fn number_at(v: &[u8], m: Mode, at: usize, size: Size) -> Read
     cdr::read_number(v, start, at, size, order)
 }
 
+// The size of a primitive.
+pub fn size_of(kind: u64) -> Size
+    ensures { λ r. ⌜ r ≡ sizeOf kind ⌝ }
+{
+    if kind == 2 {
+        return Size::Two;
+    }
+    if kind == 4 {
+        return Size::Two;
+    }
+    if kind == 3 {
+        return Size::Four;
+    }
+    if kind == 5 {
+        return Size::Four;
+    }
+    if kind == 6 {
+        return Size::Four;
+    }
+    if kind == 7 {
+        return Size::Eight;
+    }
+    if kind == 23 {
+        return Size::Eight;
+    }
+    if kind == 24 {
+        return Size::Eight;
+    }
+    Size::One
+}
+
 // A kind without parameters: null and void are nothing, and the others a number.
 pub fn leaf(v: &[u8], m: Mode, table: &mut [u64], kind: u64, c: Cursor) -> Cursor
     ensures { λ r. ⌜ stateOf r (now (table .exit)) ≡ leafAt (sinkOf m) (sourceOf m (now (v .entry))) kind (stateOf c (now (table .entry))) ⌝ }
@@ -119,7 +150,7 @@ pub fn leaf(v: &[u8], m: Mode, table: &mut [u64], kind: u64, c: Cursor) -> Curso
     if kind < 2 {
         return c;
     }
-    let size = primitives::size_of(kind);
+    let size = size_of(kind);
     match number_at(v, m, c.at, size) {
         Read::Number { at, value } => {
             let next = at + size.octets();

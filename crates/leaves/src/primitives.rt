@@ -1,51 +1,19 @@
-// Primitives: their sizes, and what is done with their numbers.
+// Primitives: what is done with their numbers.
 ghost use mathlib.Core.Path.{_≡_};
-ghost use Rattle.reading.specs.Visit.{sizeOf, contentOf, leafDone};
+ghost use Rattle.reading.specs.Visit.{contentOf, leafDone};
 ghost use Rattle.leaves.specs.Walk.{sinkOf, sourceOf, stateOf};
 ghost use mathlib.Core.List.{List};
 ghost use Prim.Native.Nat.{ℕ};
 use crate::Cursor;
 use crate::Mode;
 use crate::rows;
-use cdr::Size;
-
-// The size of a primitive.
-pub(crate) fn size_of(kind: u64) -> Size
-    ensures { λ r. ⌜ r ≡ sizeOf kind ⌝ }
-{
-    if kind == 2 {
-        return Size::Two;
-    }
-    if kind == 4 {
-        return Size::Two;
-    }
-    if kind == 3 {
-        return Size::Four;
-    }
-    if kind == 5 {
-        return Size::Four;
-    }
-    if kind == 6 {
-        return Size::Four;
-    }
-    if kind == 7 {
-        return Size::Eight;
-    }
-    if kind == 23 {
-        return Size::Eight;
-    }
-    if kind == 24 {
-        return Size::Eight;
-    }
-    Size::One
-}
 
 // The content of a primitive.
 pub(crate) fn content_of(kind: u64, value: u64) -> u64
     ensures { λ r. ⌜ r ≡ contentOf kind value ⌝ }
 {
     if items::is_signed(kind) {
-        return cdr::sign_extended(size_of(kind), value);
+        return cdr::sign_extended(crate::size_of(kind), value);
     }
     value
 }

@@ -248,7 +248,7 @@ pub(crate) fn together(
     requires { ⌜ Plain kind n (c .fault) ⌝ }
     ensures { λ r. ⌜ stateOf r (now (table .exit)) ≡ repeats (leafVisit m (now (v .entry)) kind) n (stateOf c (now (table .entry))) ⌝ }
 {
-    let size = primitives::size_of(kind);
+    let size = crate::size_of(kind);
     match crate::number_at(v, m, c.at, size) {
         Read::Number { at, value } => from(v, m, table, kind, size, n, at, c),
         Read::Ends => each(v, m, table, kind, n as u64, c),

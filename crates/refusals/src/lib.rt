@@ -116,3 +116,6 @@ pub const TOO_MANY_OPEN: u32 = 55;
 
 // There is no room for a finished item.
 pub const NO_ITEM_ROOM: u32 = 56;
+
+// The output has no room for a value's octets.
+pub const NO_OUTPUT_ROOM: u32 = 57;

@@ -12,10 +12,10 @@
 use mathlib.Core.List.{List, [], _∷_, _++_}
 use mathlib.Core.Bool.{Bool, true, false, _&&_}
 use Prim.Native.Nat.{ℕ}
-use lib.ListN.{replicate}
+use lib.ListN.{length, replicate}
 use lib.Dec.{T, eqb}
 use Rattle.cdr.specs.declared.Order.{Order}
-use Rattle.cdr.specs.declared.Order.the-variants.{Big}
+use Rattle.cdr.specs.declared.Order.the-variants.{Big, Little}
 use Rattle.cdr.specs.Number.{littleNumber, littleOctets, numberOf, octetsOf, numberAt}
 use Rattle.version.specs.Versions.{majorExists, minorExists}
 use Rattle.frame.specs.Messages.{versionExists, flagsAllowed, typeExists, bodyStartsWithId, readsFragments, isRequestOrReply, isBare, hasRequestId}
@@ -41,6 +41,8 @@ use Rattle.reading.specs.Sinks.{Source, source, after, repeats, taken, done, nu
 use Rattle.reading.specs.Visit.{inside, sizeOf, contentOf, leafDone, leafAt, textDone, textGot, textAt, countDone, countAt, elementsAt, sequenceAt, enter}
 use Rattle.reading.specs.Reading.{reads, reading}
 use Rattle.reading.specs.Value.{roomIn, answerNumbers as valueNumbers, readingOf, valueAnswer, flat, tableAfter}
+use Rattle.written.specs.Written.{Target, target, wrote, writes}
+use Rattle.written.specs.Rewriting.{rewriteNumbers, rewriteOf, rewriteAnswer, outputAfter}
 
 abbrev pub paper : ℕ → ℕ → List ℕ
 paper n digits = octetsOf Big n digits
@@ -49,10 +51,13 @@ paper n digits = octetsOf Big n digits
 -- `type`: a byte order and the octets of a TypeCode; the number, then octets used and kinds written
 -- `value`: a lent table, and the octets of a TypeCode and of a value, both big-endian from index 0; the number, then octets used, items and
 -- visits, and all that the table then holds: kind, place and content of each item, and what was there behind them
+-- `rewrite`: a lent output, the chosen order and index, and type and value as before; the number, then octets written, and all that the
+-- output then holds
 pub data Question : Type 0 where
   frame : List ℕ → Question
   type : Order → List ℕ → Question
   value : List ℕ → List ℕ → List ℕ → Question
+  rewrite : List ℕ → Target → List ℕ → List ℕ → Question
 
 abbrev pub fromStart : List ℕ → Source
 fromStart x = source x Big (indexOf 0)
@@ -64,6 +69,8 @@ abbrev pub answer : Question → List ℕ
 answer (frame v) = frameNumbers (frameOf v)
 answer (type order v) = answerNumbers (checkedType v order .answer)
 answer (value table v x) = valueNumbers (valueAnswer v Big (fromStart x) (roomIn table)) ++ tableAfter v Big (fromStart x) table
+answer (rewrite out to v x) =
+    rewriteNumbers (rewriteAnswer v Big (fromStart x) to (length out)) ++ outputAfter v Big (fromStart x) to out
 
 pub record Sample : Type 0 where
   pub asked : Question
@@ -98,10 +105,15 @@ samples =
     }
     -- "first eight octets only: 50, 3 visits"
     ∷ record { asked = value lent (paper 20 0x000000130000000C000000000000000300000000) (paper 8 0x0000000200000001); given = 50 ∷ 0 ∷ 0 ∷ 3 ∷ lent }
+    -- "that value rewritten little"
+    ∷ record {
+      asked = rewrite (replicate 13 9) (target Little (indexOf 0)) (paper 20 0x000000130000000C000000000000000300000000) (paper 12 0x0000000200000001FFFFFFFF);
+      given = 0 ∷ 12 ∷ (paper 12 0x0200000001000000FFFFFFFF ++ (9 ∷ []));
+    }
     -- "type 00000008, value 02: 51, 1 visit"
     ∷ record { asked = value lent (paper 4 8) (paper 1 2); given = 51 ∷ 0 ∷ 0 ∷ 1 ∷ lent }
     ∷ []
 
 pub samples-hold : T (holds samples)
-unfolding littleNumber littleOctets numberOf octetsOf numberAt majorExists minorExists versionExists flagsAllowed typeExists bodyStartsWithId readsFragments isRequestOrReply isBare hasRequestId sizeAllowed fragmentAllowed eightsAllowed sizedOf messageOf frameOf choose readOf fieldOf stringOf textOf endsText overBound runOf countedOf formOf fieldIn skipField skipCounted targetOf aimed spotAt memberAt namesIn countIn typeIn elementIn unionIn encapsulated parametersAt added findIn findPlace positionOf parametersOf leafLabels labelsAfter labelsFor outOfKind labelAmong belowTop entryOf textStep namesStep numberStep countStep anyCount headStep exceptionStep lengthStep textsStep enumStep partOf badDefault switchStep entered closed targetStep indirectionAt nameStep membersAt labelsAt switchedAt discriminantAt endedAt compositeAt enteredAt kindAt enterAt typeAt walkedOf closure anyBelow loopFound memberIs steps loopLast checkedType signExtended after repeats taken done numberTaken octetsStep inside sizeOf contentOf leafDone leafAt textDone textGot textAt countDone countAt elementsAt sequenceAt enter reads reading readingOf valueAnswer flat tableAfter samples
+unfolding littleNumber littleOctets numberOf octetsOf numberAt majorExists minorExists versionExists flagsAllowed typeExists bodyStartsWithId readsFragments isRequestOrReply isBare hasRequestId sizeAllowed fragmentAllowed eightsAllowed sizedOf messageOf frameOf choose readOf fieldOf stringOf textOf endsText overBound runOf countedOf formOf fieldIn skipField skipCounted targetOf aimed spotAt memberAt namesIn countIn typeIn elementIn unionIn encapsulated parametersAt added findIn findPlace positionOf parametersOf leafLabels labelsAfter labelsFor outOfKind labelAmong belowTop entryOf textStep namesStep numberStep countStep anyCount headStep exceptionStep lengthStep textsStep enumStep partOf badDefault switchStep entered closed targetStep indirectionAt nameStep membersAt labelsAt switchedAt discriminantAt endedAt compositeAt enteredAt kindAt enterAt typeAt walkedOf closure anyBelow loopFound memberIs steps loopLast checkedType signExtended after repeats taken done numberTaken octetsStep inside sizeOf contentOf leafDone leafAt textDone textGot textAt countDone countAt elementsAt sequenceAt enter reads reading readingOf valueAnswer flat tableAfter wrote writes rewriteOf rewriteAnswer outputAfter samples
 samples-hold = tt

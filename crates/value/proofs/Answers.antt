@@ -1,7 +1,7 @@
--- The ways to an answer: too many octets, a refused type, a reading under an accepted one.
-use mathlib.Core.Path.{_≡_, sym, ap, _∙_}
+-- The ways to an answer: a refusal before any visit, or a reading under an accepted type.
+use mathlib.Core.Path.{_≡_, refl, sym, ap, subst, _∙_}
 use mathlib.Core.List.{List}
-use mathlib.Core.Bool.{true, false}
+use mathlib.Core.Bool.{Bool, true, false, _||_}
 use Prim.Native.Nat.{ℕ, _+_, _≤_}
 use native.Mathlib.Omega.{arith}
 use native.Mathlib.Nat.{mul-le-mul}
@@ -9,10 +9,11 @@ use borrow.Author.Tests.{ltb-false}
 use lib.Dec.{ltb}
 use lib.ListN.{length}
 use Rattle.choices.specs.Branch.{choose}
-use Rattle.choices.proofs.Choices.{neither}
+use Rattle.choices.proofs.Choices.{by-test, clash, neither}
 use Rattle.cdr.specs.declared.Order.{Order}
+use Rattle.met.specs.declared.Met.{Met}
 use Rattle.typecode.specs.declared.TypeAnswer.{TypeAnswer}
-use Rattle.typecode.specs.declared.TypeAnswer.the-variants.{Accepted as accepted}
+use Rattle.typecode.specs.declared.TypeAnswer.the-variants.{Accepted as accepted, Refused as refused, Loop}
 use Rattle.typecode.specs.TypeCode.{checkedType}
 use Rattle.accepted.specs.Accepted.{AcceptedAs}
 use Rattle.accepted.proofs.Exact.{accepted-as}
@@ -24,66 +25,125 @@ use Rattle.reading.specs.Reading.{anyRoom, roomFor, reading}
 use Rattle.checking.specs.Types.{octetsLimit}
 use Rattle.reading.specs.Value.{roomIn, overlong, onType, answerOf, readingOf, valueAnswer, filledBy, tableAfter}
 use Rattle.reading.proofs.Bound.{visits-bound, items-bound}
+use Rattle.met.specs.Met.{noKinds}
+use Rattle.value.specs.declared.Judged.{Judged}
+use Rattle.value.specs.declared.Judged.the-variants.{Sound, Refused as refusedType}
+use Rattle.value.specs.declared.Typed.{Typed}
 use Rattle.value.specs.declared.ItemAnswer.the-variants.{Refused as refusedItem}
+use Rattle.value.specs.Typed.{typed, judgedBy, typedFor, onJudged}
 use Rattle.value.specs.Single.{givenBy, itemAnswer}
 use Rattle.value.specs.Inner.{Bounded, readInto, Read}
 
+-- the check of a type by its ways
+module _ (v : List ℕ) (order : Order) (n : ℕ) where
+  abbrev long : Bool
+  long = ltb octetsLimit (length v) || ltb octetsLimit n
+
+  pub typed-long : long ≡ true → typed (refusedType 42) noKinds ≡ typedFor v order n
+  unfolding typedFor choose
+  typed-long e = rw e
+
+  pub typed-short : long ≡ false → typed (judgedBy (checkedType v order .answer)) (checkedType v order .met) ≡ typedFor v order n
+  unfolding typedFor choose
+  typed-short e = rw e
+
+  -- the kinds that a value is read under
+  pub record Under (m : Met) : Type 0 where
+    pub kinds : ℕ
+    pub type : AcceptedAs v order kinds m
+    pub met : checkedType v order .met ≡ m
+    pub short : n ≤ octetsLimit
+
+  under-type : (a : TypeAnswer) → checkedType v order .answer ≡ a → judgedBy a ≡ Sound → n ≤ octetsLimit → Under (checkedType v order .met)
+  under-type (accepted used k) q e short = record { kinds = k; type = accepted-as v order used k q; met = refl; short = short }
+  under-type (refused r) q e short = clash cc
+  under-type Loop q e short = clash cc
+
+  pub under : (r : Typed) → r ≡ typedFor v order n → r .judged ≡ Sound → Under (r .met)
+  under r e s =
+      by-test long
+      (λ t. let q : refusedType 42 ≡ Sound = ap (λ (y : Typed). y .judged) (typed-long t ∙ sym e) ∙ s in clash cc)
+      (λ t. let is : typed (judgedBy (checkedType v order .answer)) (checkedType v order .met) ≡ r = typed-short t ∙ sym e in
+      subst Under (ap (λ (y : Typed). y .met) is)
+      (under-type (checkedType v order .answer) refl (ap (λ (y : Typed). y .judged) is ∙ s)
+      (ltb-false _ _ (neither (ltb octetsLimit (length v)) (ltb octetsLimit n) t .1))))
+
+  module _ {A : Type 0} (f : A) (g : ℕ → A) where
+    way : (b : Bool) (a : TypeAnswer) (m : Met) → choose b (λ _. g 42) (λ _. onType a (λ _. f) g)
+        ≡ onJudged (choose b (λ _. typed (refusedType 42) noKinds) (λ _. typed (judgedBy a) m) .judged) (λ _. f) g
+    unfolding choose
+    way true a m = refl
+    way false (accepted used k) m = refl
+    way false (refused r) m = refl
+    way false Loop m = refl
+
+    -- an answer by what the value is read under
+    pub answer-judged : (r : Typed) → r ≡ typedFor v order n
+        → choose long (λ _. g 42) (λ _. onType (checkedType v order .answer) (λ _. f) g) ≡ onJudged (r .judged) (λ _. f) g
+    unfolding typedFor
+    answer-judged r e =
+        way long (checkedType v order .answer) (checkedType v order .met) ∙ ap (λ (y : Typed). onJudged (y .judged) (λ _. f) g) (sym e)
+
 module _ (v : List ℕ) (order : Order) (x : Source) where
-  abbrev type : Checked
-  type = checked v (checkedType v order .met)
+  abbrev octets : ℕ
+  octets = length (x .octets)
 
   -- under an accepted type a machine word holds the visits and the items
-  pub bounded : (used k : ℕ) → checkedType v order .answer ≡ accepted used k → overlong v x ≡ false → Bounded type x
-  bounded used k q short =
-      let a : AcceptedAs v order k (checkedType v order .met) = accepted-as v order used k q in
-      let n : length (x .octets) ≤ octetsLimit = ltb-false _ _ (neither (ltb octetsLimit (length v)) (ltb octetsLimit (length (x .octets))) short .1) in
+  pub bounded : (m : Met) → Under v order octets m → Bounded (checked v m) x
+  bounded m u =
       record {
-        visits = λ full. let b = visits-bound full x v order k (checkedType v order .met) a in
-            let m = mul-le-mul (a .most) (suc-le n) in omega arith;
-        items = λ full. let b = items-bound full x v order k (checkedType v order .met) a in omega arith;
+        visits = λ full. let b = visits-bound full x v order (u .kinds) m (u .type) in
+            let s = mul-le-mul (u .type .most) (suc-le (u .short)) in omega arith;
+        items = λ full. let b = items-bound full x v order (u .kinds) m (u .type) in omega (arith, u .short);
       }
     where
       suc-le : {i j : ℕ} → i ≤ j → i + 1 ≤ j + 1
       suc-le h = omega arith
 
-  module _ (room : ℕ) where
-    pub value-long : overlong v x ≡ true → Refused 42 0 ≡ valueAnswer v order x room
-    unfolding valueAnswer choose
-    value-long e = rw e
+  module _ (r : Typed) (e : r ≡ typedFor v order octets) where
+    value-judged : (room : ℕ) → valueAnswer v order x room
+        ≡ onJudged (r .judged) (λ _. answerOf (readingOf (roomFor room) v order x)) (λ n. Refused n 0)
+    unfolding valueAnswer
+    value-judged room = answer-judged v order octets (answerOf (readingOf (roomFor room) v order x)) (λ n. Refused n 0) r e
 
-    pub value-type : overlong v x ≡ false → (a : TypeAnswer) → checkedType v order .answer ≡ a
-        → valueAnswer v order x room ≡ onType a (λ _. answerOf (readingOf (roomFor room) v order x)) (λ n. Refused n 0)
-    unfolding valueAnswer choose
-    value-type short a e = rw (short, e)
+    item-judged : (n : ℕ) → itemAnswer v order x n ≡ onJudged (r .judged) (λ _. givenBy (readingOf anyRoom v order x) n) refusedItem
+    unfolding itemAnswer
+    item-judged n = answer-judged v order octets (givenBy (readingOf anyRoom v order x) n) refusedItem r e
 
-  module _ (table : List ℕ) where
-    abbrev answer : ValueAnswer
-    answer = valueAnswer v order x (roomIn table)
+    pub item-refused : (n number : ℕ) → r .judged ≡ refusedType number → refusedItem number ≡ itemAnswer v order x n
+    item-refused n number s =
+        sym (item-judged n ∙ ap (λ (j : Judged). onJudged j (λ _. givenBy (readingOf anyRoom v order x) n) refusedItem) s)
 
-    pub table-refused : (number visits : ℕ) → Refused number visits ≡ answer → table ≡ tableAfter v order x table
-    unfolding tableAfter
-    table-refused number visits e =
-        ap (λ (a : ValueAnswer). filledBy a table (readingOf (roomFor (roomIn table)) v order x .kept .items)) e
-
-    -- the reading under an accepted type is the answer, and fills the table
-    pub value-read : overlong v x ≡ false → (used k : ℕ) → checkedType v order .answer ≡ accepted used k → (r : ValueAnswer) (after : List ℕ)
-        → Read type x table r after → (r ≡ answer) × (after ≡ tableAfter v order x table)
-    unfolding tableAfter readingOf
-    value-read short used k q r after read =
-        let e : answer ≡ readInto type x table = value-type (roomIn table) short (accepted used k) q in
-        (read .answer ∙ sym e, read .filled ∙ ap (λ (a : ValueAnswer). filledBy a table (reading (roomFor (roomIn table)) x type .kept .items)) (sym e))
-
-  module _ (n : ℕ) where
-    pub item-long : overlong v x ≡ true → refusedItem 42 ≡ itemAnswer v order x n
-    unfolding itemAnswer choose
-    item-long e = rw e
-
-    pub item-type : overlong v x ≡ false → (a : TypeAnswer) → checkedType v order .answer ≡ a
-        → itemAnswer v order x n ≡ onType a (λ _. givenBy (readingOf anyRoom v order x) n) refusedItem
-    unfolding itemAnswer choose
-    item-type short a e = rw (short, e)
-
-    pub item-read : overlong v x ≡ false → (used k : ℕ) → checkedType v order .answer ≡ accepted used k
-        → givenBy (reading anyRoom x type) n ≡ itemAnswer v order x n
+    pub item-read : (n : ℕ) → r .judged ≡ Sound → givenBy (reading anyRoom x (checked v (r .met))) n ≡ itemAnswer v order x n
     unfolding readingOf
-    item-read short used k q = sym (item-type short (accepted used k) q)
+    item-read n s =
+        ap (λ (m : Met). givenBy (reading anyRoom x (checked v m)) n) (sym (under v order octets r e s .met))
+        ∙ sym (item-judged n ∙ ap (λ (j : Judged). onJudged j (λ _. givenBy (readingOf anyRoom v order x) n) refusedItem) s)
+
+    module _ (table : List ℕ) where
+      abbrev answer : ValueAnswer
+      answer = valueAnswer v order x (roomIn table)
+
+      abbrev onValue : Judged → ValueAnswer
+      onValue j = onJudged j (λ _. answerOf (readingOf (roomFor (roomIn table)) v order x)) (λ n. Refused n 0)
+
+      -- a refusal before any visit leaves the table
+      pub value-refused : (number : ℕ) → r .judged ≡ refusedType number → (Refused number 0 ≡ answer) × (table ≡ tableAfter v order x table)
+      unfolding tableAfter
+      value-refused number s =
+          let a : Refused number 0 ≡ answer = sym (value-judged (roomIn table) ∙ ap onValue s) in
+          (a, ap (λ (y : ValueAnswer). filledBy y table (readingOf (roomFor (roomIn table)) v order x .kept .items)) a)
+
+      -- the reading under an accepted type is the answer, and fills the table
+      pub value-read : r .judged ≡ Sound → (y : ValueAnswer) (after : List ℕ) → Read (checked v (r .met)) x table y after
+          → (y ≡ answer) × (after ≡ tableAfter v order x table)
+      unfolding tableAfter readingOf
+      value-read s y after read =
+          let is = under v order octets r e s .met in
+          let a : readInto (checked v (r .met)) x table ≡ answer =
+          ap (λ (m : Met). readInto (checked v m) x table) (sym is) ∙ sym (value-judged (roomIn table) ∙ ap onValue s) in (
+            read .answer ∙ a,
+            read .filled
+                ∙ ap (λ (u : ValueAnswer). filledBy u table (reading (roomFor (roomIn table)) x (checked v (r .met)) .kept .items)) a
+                ∙ ap (λ (m : Met). filledBy answer table (reading (roomFor (roomIn table)) x (checked v m) .kept .items)) (sym is),
+          )

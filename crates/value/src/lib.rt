@@ -2,12 +2,12 @@
 ghost use mathlib.Core.Path.{_≡_};
 ghost use mathlib.Core.Bool.{_||_};
 ghost use lib.Dec.{ltb};
-ghost use Rattle.reading.specs.declared.ValueAnswer.the-variants.{Refused};
 ghost use Rattle.reading.specs.Sinks.{source};
 ghost use Rattle.reading.specs.Visit.{checked};
 ghost use Rattle.reading.specs.Reading.{anyRoom, reading};
 ghost use Rattle.checking.specs.Types.{octetsLimit};
 ghost use Rattle.reading.specs.Value.{roomIn, valueAnswer, tableAfter};
+ghost use Rattle.value.specs.Typed.{judgedBy, typedFor};
 ghost use Rattle.value.specs.Single.{givenBy, itemAnswer};
 ghost use Rattle.value.specs.Inner.{Bounded, Read};
 use cdr::Index;
@@ -17,6 +17,18 @@ use leaves::Mode;
 use met::Met;
 use reading::ValueAnswer;
 use typecode::TypeAnswer;
+
+// Whether a value may be read under a type, or 01's number of the refusal.
+pub enum Judged {
+    Sound,
+    Refused(u32),
+}
+
+// What a value is read under: the judgement, and the kinds of an accepted type.
+pub struct Typed {
+    pub judged: Judged,
+    pub met: Met,
+}
 
 // What a single item asked for by its number is, or 01's number of the refusal.
 pub enum ItemAnswer {
@@ -38,16 +50,12 @@ pub fn read_value(
 ) -> ValueAnswer
     ensures { λ r. ⌜ (r ≡ valueAnswer (now (t .entry)) torder (source (now (v .entry)) order start) (roomIn (now (table .entry)))) × (now (table .exit) ≡ tableAfter (now (t .entry)) torder (source (now (v .entry)) order start) (now (table .entry))) ⌝ }
 {
-    if over_long(t.len(), v.len()) {
-        return refused(refusals::TOO_LONG);
-    }
-    let c = typecode::check_type(t, torder);
+    let c = check(t, torder, v.len());
     let met = c.met;
-    let answer = c.answer;
-    match answer {
-        TypeAnswer::Accepted { used: _, kinds: _ } => read_into(t, met, v, order, start, table),
-        TypeAnswer::Refused(refusal) => refused(refusal.number()),
-        TypeAnswer::Loop => refused(refusals::LOOP),
+    let judged = c.judged;
+    match judged {
+        Judged::Sound => read_into(t, met, v, order, start, table),
+        Judged::Refused(number) => ValueAnswer::Refused { number, visits: 0 },
     }
 }
 
@@ -62,16 +70,42 @@ pub fn read_item(
 ) -> ItemAnswer
     ensures { λ r. ⌜ r ≡ itemAnswer (now (t .entry)) torder (source (now (v .entry)) order start) number ⌝ }
 {
-    if over_long(t.len(), v.len()) {
-        return ItemAnswer::Refused(refusals::TOO_LONG);
+    let c = check(t, torder, v.len());
+    let met = c.met;
+    let judged = c.judged;
+    match judged {
+        Judged::Sound => pick(t, met, v, order, start, number),
+        Judged::Refused(refusal) => ItemAnswer::Refused(refusal),
+    }
+}
+
+// Checks the type of a value of so many octets.
+pub fn check(t: &[u8], torder: Order, octets: usize) -> Typed
+    ensures { λ r. ⌜ r ≡ typedFor (now (t .entry)) torder «octets» ⌝ }
+{
+    if over_long(t.len(), octets) {
+        return Typed {
+            judged: Judged::Refused(refusals::TOO_LONG),
+            met: Met::none(),
+        };
     }
     let c = typecode::check_type(t, torder);
     let met = c.met;
     let answer = c.answer;
+    Typed {
+        judged: judge(answer),
+        met,
+    }
+}
+
+// Whether a value may be read under a type that was checked.
+fn judge(answer: TypeAnswer) -> Judged
+    ensures { λ r. ⌜ r ≡ judgedBy answer ⌝ }
+{
     match answer {
-        TypeAnswer::Accepted { used: _, kinds: _ } => pick(t, met, v, order, start, number),
-        TypeAnswer::Refused(refusal) => ItemAnswer::Refused(refusal.number()),
-        TypeAnswer::Loop => ItemAnswer::Refused(refusals::LOOP),
+        TypeAnswer::Accepted { used: _, kinds: _ } => Judged::Sound,
+        TypeAnswer::Refused(refusal) => Judged::Refused(refusal.number()),
+        TypeAnswer::Loop => Judged::Refused(refusals::LOOP),
     }
 }
 
@@ -83,13 +117,6 @@ fn over_long(t: usize, v: usize) -> bool
         return true;
     }
     OCTETS_LIMIT < v
-}
-
-// A refusal before any visit.
-fn refused(number: u32) -> ValueAnswer
-    ensures { λ r. ⌜ r ≡ Refused number 0 ⌝ }
-{
-    ValueAnswer::Refused { number, visits: 0 }
 }
 
 // Reads under a checked type: a first walk finds a refusal, and a second one fills the table.

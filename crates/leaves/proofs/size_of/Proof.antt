@@ -1,6 +1,6 @@
 -- The size of a primitive.
-use Rattle.leaves.proofs.primitives.size_of.Statement.{statement}
-use Rattle.leaves.proofs.primitives.size_of.Tie as tie
+use Rattle.leaves.proofs.size_of.Statement.{statement}
+use Rattle.leaves.proofs.size_of.Tie as tie
 use Prim.Native.Nat.{_-_}
 use borrow.Author.Tests.{eq-eqb, ne-eqb}
 use Rattle.reading.specs.Sinks.{taken}

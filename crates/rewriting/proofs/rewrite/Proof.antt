@@ -1,0 +1,40 @@
+-- A reading that is written, or a refusal before it.
+use borrow.Author.Needs.{needs}
+use Rattle.rewriting.proofs.rewrite.Statement.{statement}
+use Rattle.rewriting.proofs.rewrite.Tie as tie
+use Rattle.reading.specs.Sinks.{source}
+use Rattle.written.specs.Written.{target}
+use Rattle.rewriting.proofs.Answers as answers
+
+check-requires : tie.Need-check-requires
+check-requires c κs = search needs
+
+enum-told : tie.Need-enum-told
+enum-told c = search needs
+
+rewrite-read-requires : tie.Need-rewrite-read-requires
+rewrite-read-requires c κs = answers.readable (c .before .before .before .before .before .before .before .before .args .t .now) (c .before .before .before .before .before .before .before .before .args .torder) (source (c .before .before .before .before .before .before .before .before .args .v .now) (c .before .before .before .before .before .before .before .before .args .order) (c .before .before .before .before .before .before .before .before .args .start)) (c .before .before .before .before .check .result) (c .before .before .before .before .check .ensures) (c .before .enum-told .given .1)
+
+enum-known-judged : tie.Need-enum-known-judged
+enum-known-judged c = search needs
+
+same-length : tie.Need-same-length
+same-length c = search needs
+
+returns : tie.Need-returns
+returns c = answers.read-under (c .before .before .before .before .before .before .before .before .before .before .before .args .t .now) (c .before .before .before .before .before .before .before .before .before .before .before .args .torder) (source (c .before .before .before .before .before .before .before .before .before .before .before .args .v .now) (c .before .before .before .before .before .before .before .before .before .before .before .args .order) (c .before .before .before .before .before .before .before .before .before .before .before .args .start)) (c .before .before .before .before .before .before .before .check .result) (c .before .before .before .before .before .before .before .check .ensures) (target (c .before .before .before .before .before .before .before .before .before .before .before .args .chosen) (c .before .before .before .before .before .before .before .before .before .before .before .args .index)) (c .before .before .before .before .before .before .before .before .before .before .before .args .out .now) (c .before .before .before .before .enum-told .given .1) _ _ (c .before .before .rewrite-read .ensures)
+
+returns-2 : tie.Need-returns-2
+returns-2 c = answers.refused-before (c .before .before .before .before .before .before .before .before .args .t .now) (c .before .before .before .before .before .before .before .before .args .torder) (source (c .before .before .before .before .before .before .before .before .args .v .now) (c .before .before .before .before .before .before .before .before .args .order) (c .before .before .before .before .before .before .before .before .args .start)) (c .before .before .before .before .check .result) (c .before .before .before .before .check .ensures) (target (c .before .before .before .before .before .before .before .before .args .chosen) (c .before .before .before .before .before .before .before .before .args .index)) (c .before .before .before .before .before .before .before .before .args .out .now) _ (c .before .judged .given .1)
+
+pub rewrite-spec : {M : Type 1} → statement M
+rewrite-spec =
+    tie.close
+    (tie.spec
+    check-requires
+    enum-told
+    rewrite-read-requires
+    enum-known-judged
+    same-length
+    returns
+    returns-2)

@@ -1,0 +1,23 @@
+-- Alignment counts modulo 8.
+use borrow.Author.Needs.{needs}
+use Rattle.rewriting.proofs.rows.behind_gap.Statement.{statement}
+use Rattle.rewriting.proofs.rows.behind_gap.Tie as tie
+use mathlib.Core.Path.{_≡_, ap, _∙_}
+use Prim.Native.Nat.{ℕ, _+_, _%_, _<_}
+use native.Mathlib.Omega.{arith}
+use Rattle.cdr.proofs.Alignment.{octets-small, gap-small, gap-modulo-8}
+
+add-i : tie.Need-add-i
+add-i c = search needs
+
+gap-requires : tie.Need-gap-requires
+gap-requires c κs = search needs
+
+add-result : tie.Need-add-result
+add-result c = let g = gap-small (c .before .before .args .size) (c .before .before .args .index .0 % 8 + c .before .before .args .at) in let o = octets-small (c .before .before .args .size) in let e = c .gap .ensures in omega (arith, c .before .before .pre)
+
+returns : tie.Need-returns
+returns c = ap (λ (g : ℕ). c .before .before .args .at + g) (c .gap .ensures ∙ gap-modulo-8 (c .before .before .args .size) (c .before .before .args .index .0) (c .before .before .args .at))
+
+pub behind-gap-spec : {M : Type 1} → statement M
+behind-gap-spec = tie.close (tie.spec add-i gap-requires add-result returns)

@@ -1,0 +1,2 @@
+-- Items of a value, written one after the other.
+pub mod Inner

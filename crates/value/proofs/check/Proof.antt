@@ -1,0 +1,42 @@
+-- 42, and then the type.
+use borrow.Author.Needs.{needs}
+use Rattle.value.proofs.check.Statement.{statement}
+use Rattle.value.proofs.check.Tie as tie
+use mathlib.Core.Path.{_≡_, sym, ap, _∙_}
+use lib.ListN.{length}
+use Rattle.met.specs.declared.Met.{Met}
+use Rattle.typecode.specs.declared.CheckedType.{CheckedType}
+use Rattle.typecode.specs.TypeCode.{checkedType}
+use Rattle.value.specs.declared.Judged.{Judged}
+use Rattle.value.specs.declared.Judged.the-variants.{Refused}
+use Rattle.value.specs.Typed.{typed, judgedBy}
+use Rattle.value.proofs.Answers as answers
+
+over-long-requires : tie.Need-over-long-requires
+over-long-requires c κs = search needs
+
+none-requires : tie.Need-none-requires
+none-requires c κs = search needs
+
+returns : tie.Need-returns
+returns c = ap (typed (Refused 42)) (c .none .ensures) ∙ answers.typed-long (c .before .before .before .before .args .t .now) (c .before .before .before .before .args .torder) (c .before .before .before .before .args .octets) (sym (c .before .before .over-long .ensures) ∙ c .before .if1 .taken)
+
+check-type-requires : tie.Need-check-type-requires
+check-type-requires c κs = search needs
+
+judge-requires : tie.Need-judge-requires
+judge-requires c κs = search needs
+
+returns-2 : tie.Need-returns-2
+returns-2 c = ap (λ (j : Judged). typed j (c .before .before .check-type .result .met)) (c .judge .ensures) ∙ ap (λ (y : CheckedType). typed (judgedBy (y .answer)) (y .met)) (c .before .before .check-type .ensures) ∙ answers.typed-short (c .before .before .before .before .before .before .args .t .now) (c .before .before .before .before .before .before .args .torder) (c .before .before .before .before .before .before .args .octets) (sym (c .before .before .before .before .over-long .ensures) ∙ c .before .before .before .if1 .left)
+
+pub check-spec : {M : Type 1} → statement M
+check-spec =
+    tie.close
+    (tie.spec
+    over-long-requires
+    none-requires
+    returns
+    check-type-requires
+    judge-requires
+    returns-2)

@@ -1,0 +1,37 @@
+-- "The type is checked first, with the same number if refused"; 42 "comes before the type check".
+--   typed       the judgement and the kinds
+--   judgedBy    what a type's check means for a value of it
+--   typedFor    what a value of so many octets is read under
+--   onJudged    what follows an accepted type, or a refusal
+use Prim.Native.Nat.{ℕ}
+use mathlib.Core.List.{List}
+use mathlib.Core.Bool.{_||_}
+use lib.Dec.{ltb}
+use lib.ListN.{length}
+use Rattle.choices.specs.Branch.{choose}
+use Rattle.cdr.specs.declared.Order.{Order}
+use Rattle.met.specs.declared.Met.{Met}
+use Rattle.met.specs.Met.{noKinds}
+use Rattle.checking.specs.Types.{octetsLimit}
+use Rattle.typecode.specs.declared.TypeAnswer.{TypeAnswer}
+use Rattle.typecode.specs.TypeCode.{checkedType}
+use Rattle.reading.specs.Value.{onType}
+use Rattle.value.specs.declared.Judged.{Judged}
+use Rattle.value.specs.declared.Judged.the-variants.{Sound, Refused}
+use Rattle.value.specs.declared.Typed.{Typed}
+
+abbrev pub typed : Judged → Met → Typed
+typed judged met = record { judged = judged; met = met }
+
+abbrev pub judgedBy : TypeAnswer → Judged
+judgedBy a = onType a (λ _. Sound) Refused
+
+unfoldable pub typedFor : List ℕ → Order → ℕ → Typed
+typedFor v order n =
+    choose (ltb octetsLimit (length v) || ltb octetsLimit n)
+    (λ _. typed (Refused 42) noKinds)
+    (λ _. typed (judgedBy (checkedType v order .answer)) (checkedType v order .met))
+
+abbrev pub onJudged : {A : Type 0} → Judged → (Unit {0} → A) → (ℕ → A) → A
+onJudged Sound f g = f tt
+onJudged (Refused n) f g = g n
