@@ -12,14 +12,19 @@
 //! - `item ORDER TYPE ORDER VALUE START NUMBER`: what is the value's item of this
 //!   number, from 0? `ok signed X`, `ok unsigned X`, `ok single BITS`,
 //!   `ok double BITS` or `no N`. BITS are 8 or 16 upper-case digits.
+//! - `rewrite ORDER TYPE ORDER VALUE START ORDER START ROOM`: what is the value in
+//!   the last ORDER, its first octet having the last START, with room for ROOM
+//!   octets? `ok COUNT OCTETS` or `no N`. OCTETS are upper-case digits, `-` for
+//!   none.
 //!
 //! A line that is no question is answered `?`.
 
 use std::fmt;
 use std::io::{BufRead, BufWriter, Write};
 
-use crate::hexline::digits_into;
+use crate::hexline::{digits_into, encode};
 use crate::lines::{next_line, Failure, BLOCK};
+use crate::rewrite::{rewrite, Chosen};
 use crate::typecode::{check, Checked};
 use crate::value::{self, Accepted, Content, Input, Item, Lent, Refused, LONGEST_VALUE};
 
@@ -27,7 +32,7 @@ use crate::value::{self, Accepted, Content, Input, Item, Lent, Refused, LONGEST_
 pub const LONGEST_QUESTION: usize = 131_072;
 
 /// The most words of a question.
-const MOST_WORDS: usize = 7;
+const MOST_WORDS: usize = 9;
 
 /// What a line was answered.
 #[derive(Clone, PartialEq, Eq, Debug)]
@@ -44,6 +49,8 @@ enum Answer {
     RefusedValue(Refused),
     /// The value has this item.
     Item(Content),
+    /// The value is rewritten as these octets.
+    Rewritten(Vec<u8>),
 }
 
 impl fmt::Display for Answer {
@@ -60,6 +67,7 @@ impl fmt::Display for Answer {
             Answer::Item(Content::Unsigned(number)) => write!(formatter, "ok unsigned {number}"),
             Answer::Item(Content::Single(bits)) => write!(formatter, "ok single {bits:08X}"),
             Answer::Item(Content::Double(bits)) => write!(formatter, "ok double {bits:016X}"),
+            Answer::Rewritten(octets) => write_rewritten(formatter, octets),
         }
     }
 }
@@ -85,6 +93,16 @@ fn write_accepted(formatter: &mut fmt::Formatter<'_>, accepted: &Accepted) -> fm
         write!(formatter, "{comma}{kind}:{place}:{content}")?;
     }
     Ok(())
+}
+
+/// Writes the answer of a rewritten value.
+fn write_rewritten(formatter: &mut fmt::Formatter<'_>, octets: &[u8]) -> fmt::Result {
+    let digits = match octets {
+        [] => "-".into(),
+        _ => encode(octets),
+    };
+    let digits = String::from_utf8_lossy(&digits);
+    write!(formatter, "ok {} {digits}", octets.len())
 }
 
 /// Answers every line of the input.
@@ -119,19 +137,29 @@ fn answer(line: &[u8]) -> Answer {
 fn answer_words(words: &[&[u8]]) -> Option<Answer> {
     match *words {
         [b"type", order, octets] => Some(answer_type(is_little(order)?, &octets_of(octets)?)),
-        [b"value", ref value @ .., room] => answer_about(value, number_of(room)?, answer_value),
-        [b"item", ref value @ .., number] => answer_about(value, number_of(number)?, answer_item),
+        [b"value", ref value @ .., room] => {
+            let room = number_of(room)?;
+            answer_about(value, |input| answer_value(input, room))
+        }
+        [b"item", ref value @ .., number] => {
+            let number = number_of(number)?;
+            answer_about(value, |input| answer_item(input, number))
+        }
+        [b"rewrite", ref value @ .., order, start, room] => {
+            let (chosen, room) = (chosen(order, start)?, number_of(room)?);
+            answer_about(value, |input| answer_rewrite(input, chosen, room))
+        }
         _ => None,
     }
 }
 
-/// Answers what is asked about a value with a number, if the words are a value.
-fn answer_about(words: &[&[u8]], number: u64, answer: fn(Input, u64) -> Answer) -> Option<Answer> {
+/// Answers what is asked about a value, if the words are one.
+fn answer_about(words: &[&[u8]], answer: impl FnOnce(Input) -> Answer) -> Option<Answer> {
     let [type_order, typecode, value_order, value, start] = words else {
         return None;
     };
     let (typecode, value) = (octets_of(typecode)?, octets_of(value)?);
-    let input = Input {
+    Some(answer(Input {
         typecode: Lent {
             octets: &typecode,
             little: is_little(type_order)?,
@@ -140,10 +168,16 @@ fn answer_about(words: &[&[u8]], number: u64, answer: fn(Input, u64) -> Answer) 
             octets: &value,
             little: is_little(value_order)?,
         },
-        // Only the index modulo 8 matters.
-        start: (number_of(start)? % 8) as usize,
-    };
-    Some(answer(input, number))
+        start: index_of(start)?,
+    }))
+}
+
+/// The order and index that words choose.
+fn chosen(order: &[u8], start: &[u8]) -> Option<Chosen> {
+    Some(Chosen {
+        little: Some(is_little(order)?),
+        start: index_of(start)?,
+    })
 }
 
 /// Says what a value reads as, with room for so many items.
@@ -159,6 +193,15 @@ fn answer_value(input: Input, room: u64) -> Answer {
 fn answer_item(input: Input, number: u64) -> Answer {
     match value::item(input, number) {
         Ok(content) => Answer::Item(content),
+        Err(refusal) => Answer::Refused(refusal),
+    }
+}
+
+/// Says what a value is rewritten as, with room for so many octets.
+fn answer_rewrite(input: Input, chosen: Chosen, room: u64) -> Answer {
+    let room = usize::try_from(room).unwrap_or(usize::MAX);
+    match rewrite(input, chosen, room) {
+        Ok(octets) => Answer::Rewritten(octets),
         Err(refusal) => Answer::Refused(refusal),
     }
 }
@@ -188,6 +231,11 @@ fn octets_of(word: &[u8]) -> Option<Vec<u8>> {
         b"-" => Some(octets),
         digits => digits_into(digits, &mut octets).ok().map(|()| octets),
     }
+}
+
+/// The index that a word spells, of which only the rest modulo 8 matters.
+fn index_of(word: &[u8]) -> Option<usize> {
+    number_of(word).map(|index| (index % 8) as usize)
 }
 
 /// The number of 64 bits that a word of decimal digits spells.
@@ -290,6 +338,97 @@ mod tests {
         ] {
             assert_eq!(output(question.as_bytes()), format!("{expected}\n"));
         }
+    }
+
+    #[test]
+    fn samples_of_rewriting() {
+        const T: &str = "000000130000000C000000000000000300000000";
+        for (question, expected) in [
+            (
+                format!("rewrite big {T} big 0000000200000001FFFFFFFF 0 little 0 12"),
+                "ok 12 0200000001000000FFFFFFFF",
+            ),
+            (
+                format!("rewrite big {T} big 0000000200000001ffffffff 0 little 0 11"),
+                "no 57",
+            ),
+            (
+                format!("rewrite big {T} little 0200000001000000FFFFFFFF 0 big 1 99"),
+                "ok 15 0000000000000200000001FFFFFFFF",
+            ),
+            (
+                format!("rewrite big {T} big eeee0000000100abcdef 6 big 4 8"),
+                "ok 8 0000000100ABCDEF",
+            ),
+            (
+                format!("rewrite big {T} big 0000000200000001 0 big 0 0"),
+                "no 50",
+            ),
+            ("rewrite big 00000000 big - 0 big 7 0".into(), "ok 0 -"),
+            ("rewrite big 00000008 big 02 0 big 0 0".into(), "no 51"),
+            ("rewrite big 00000008 big 01 0 big 0 0".into(), "no 57"),
+            ("rewrite big - big 02 0 big 0 0".into(), "no 30"),
+        ] {
+            assert_eq!(output(question.as_bytes()), format!("{expected}\n"));
+        }
+    }
+
+    #[test]
+    fn words_of_a_rewriting() {
+        for (words, expected) in [
+            ("big 07 0 big 0 1", "ok 1 07"),
+            ("little 07 3 little 5 00001", "ok 1 07"),
+            (
+                "big 07 18446744073709551615 big 18446744073709551615 1",
+                "ok 1 07",
+            ),
+            ("big 07 0 big 0 18446744073709551615", "ok 1 07"),
+            ("big 07 0 big 0 0", "no 57"),
+            ("big - 0 big 0 0", "no 50"),
+            ("big 07 0 big 0 18446744073709551616", "?"),
+            ("big 07 0 big 18446744073709551616 1", "?"),
+            ("big 07 18446744073709551616 big 0 1", "?"),
+            ("big 07 0 Big 0 1", "?"),
+            ("big 07 0 - 0 1", "?"),
+            ("big 07 0 0 1", "?"),
+            ("big 07 0 big 1", "?"),
+            ("big 07 0 big 0", "?"),
+            ("big 07 0 big 0 1 1", "?"),
+            ("big 07 0 big 0 1 ", "?"),
+            ("big 07 0 big 0 ", "?"),
+            ("big 07 0 big  1", "?"),
+            ("big 07  0 big 0 1", "?"),
+            ("big  0 big 0 1", "?"),
+            ("big 07 0 big -1 1", "?"),
+            ("big 07 0 big 0 +1", "?"),
+            ("big 07 0 big 0 -", "?"),
+            ("big 7 0 big 0 1", "?"),
+            ("big 07 0 big 0 1\r", "?"),
+            ("07 0 big 0 1", "?"),
+            ("", "?"),
+        ] {
+            let question = format!("rewrite big 0000000A {words}");
+            assert_eq!(output(question.as_bytes()), format!("{expected}\n"));
+        }
+        for question in [
+            "rewrite",
+            "Rewrite big 0000000A big 07 0 big 0 1",
+            "rewrites big 0000000A big 07 0 big 0 1",
+            "value big 0000000A big 07 0 big 0 1",
+            "rewrite big 0000000A big 07 0 1",
+        ] {
+            assert_eq!(output(question.as_bytes()), "?\n");
+        }
+    }
+
+    #[test]
+    fn the_longest_result_is_answered() {
+        // Elements that follow the count at index 4 without a gap.
+        let elements = "0102030405060708".repeat(2_047);
+        let typecode = "000000130000000C000000000000000700000000";
+        let question = format!("rewrite big {typecode} big 000007FF{elements} 4 big 5 16387");
+        let expected = format!("ok 16387 000000000007FF00000000{elements}\n");
+        assert_eq!(output_in_blocks(question.as_bytes(), BLOCK), expected);
     }
 
     #[test]

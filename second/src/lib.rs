@@ -11,6 +11,9 @@ pub mod lines;
 pub mod primitive;
 pub mod recording;
 pub mod refusal;
+pub mod rewrite;
+#[cfg(test)]
+mod samples;
 pub mod shape;
 pub mod typecode;
 pub mod value;

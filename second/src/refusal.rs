@@ -81,6 +81,8 @@ pub const BOUND_PASSED: u32 = 54;
 pub const TOO_MANY_OPEN: u32 = 55;
 /// No room for a finished item.
 pub const NO_ROOM: u32 = 56;
+/// Output shorter than the rewritten value.
+pub const RESULT_TOO_LONG: u32 = 57;
 
 /// Gives the refusal unless the demand is met.
 pub fn demand(met: bool, refusal: u32) -> Result<(), u32> {

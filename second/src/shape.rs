@@ -98,6 +98,18 @@ pub enum Size {
     Eight,
 }
 
+impl Size {
+    /// How many octets these are.
+    pub fn octets(self) -> usize {
+        match self {
+            Size::One => 1,
+            Size::Two => 2,
+            Size::Four => 4,
+            Size::Eight => 8,
+        }
+    }
+}
+
 /// What a union's members are chosen by.
 #[derive(Clone, Copy, Debug, PartialEq, Eq)]
 pub struct Union {
@@ -174,6 +186,11 @@ impl Scalar {
     /// Whether a union can be chosen by it.
     pub fn can_choose(&self) -> bool {
         !matches!(self.number, FLOAT | DOUBLE | OCTET)
+    }
+
+    /// Whether any octets will do for it.
+    pub fn is_any(&self) -> bool {
+        self.highest == u64::MAX
     }
 
     /// Whether it is a signed number.

@@ -1,6 +1,7 @@
 //! Reading a value of a TypeCode.
 
 use std::ffi::CStr;
+use std::ops::Range;
 
 use crate::primitive::{number, ulong};
 use crate::refusal::{
@@ -9,7 +10,8 @@ use crate::refusal::{
 };
 use crate::shape::{Digest, Members, Scalar, Shape, Size, Union};
 use crate::typecode::{
-    digest, BOOLEAN, DOUBLE, FLOAT, LONG, LONGEST_TYPE, LONGLONG, SEQUENCE, SHORT, STRING, ULONG,
+    digest, BOOLEAN, DOUBLE, ENUM, FLOAT, LONG, LONGEST_TYPE, LONGLONG, SEQUENCE, SHORT, STRING,
+    ULONG,
 };
 
 /// The most octets of a value that are lent.
@@ -51,6 +53,28 @@ pub struct Item {
     pub content: u64,
 }
 
+impl Item {
+    /// Where its octets are, with the length before a text or an octet run and
+    /// the zero after a text.
+    pub fn range(&self) -> Range<usize> {
+        let Item {
+            kind,
+            place,
+            content,
+        } = *self;
+        let length = size_of::<u32>();
+        match kind {
+            STRING => place - length..place + content as usize + 1,
+            RUN => place - length..place + content as usize,
+            SEQUENCE | ENUM => place..place + length,
+            _ => {
+                let size = Scalar::primitive(kind).map_or(0, |scalar| scalar.size.octets());
+                place..place + size
+            }
+        }
+    }
+}
+
 /// An accepted value.
 #[derive(Clone, Debug, PartialEq, Eq)]
 pub struct Accepted {
@@ -60,6 +84,17 @@ pub struct Accepted {
     pub visits: u64,
     /// The items in reading order.
     pub items: Vec<Item>,
+}
+
+impl Accepted {
+    /// The octets used of those that were read, with all gaps zero.
+    pub fn gaps_zeroed(&self, octets: &[u8]) -> Vec<u8> {
+        let mut zeroed = vec![0; self.used];
+        for range in self.items.iter().map(Item::range) {
+            zeroed[range.clone()].copy_from_slice(&octets[range]);
+        }
+        zeroed
+    }
 }
 
 /// A refused value.
@@ -136,10 +171,25 @@ pub fn item(input: Input, number: u64) -> Result<Content, u32> {
     }
 }
 
-/// What finished items go to.
-trait Sink {
-    /// Takes an item; refusal 56.
-    fn take(&mut self, item: Item) -> Result<(), u32>;
+/// What hears of a value as it is read.
+pub(crate) trait Sink {
+    /// Whether it hears of elements at once if any octets will do for them, and
+    /// not of each one and its item.
+    const AT_ONCE: bool = false;
+
+    /// Hears of a primitive, enum, length, count or tag.
+    fn number<const SIZE: usize>(&mut self, _octets: [u8; SIZE]) {}
+
+    /// Hears of such numbers in a row, one at least.
+    fn numbers<const SIZE: usize>(&mut self, _octets: &[u8]) {}
+
+    /// Hears of the octets of a text or an octet run.
+    fn octets(&mut self, _octets: &[u8]) {}
+
+    /// Takes a finished item; refusal 56.
+    fn take(&mut self, _item: Item) -> Result<(), u32> {
+        Ok(())
+    }
 }
 
 /// A table with room for so many items.
@@ -179,17 +229,17 @@ impl Sink for Search {
 }
 
 /// What reading a value has brought.
-struct Reading<S> {
+pub(crate) struct Reading<S> {
     /// The octets used.
-    used: usize,
+    pub used: usize,
     /// The visits.
-    visits: u64,
-    /// Where the items are.
-    sink: S,
+    pub visits: u64,
+    /// What has heard of the value.
+    pub sink: S,
 }
 
-/// Reads a value whose items go to the sink.
-fn read_into<S: Sink>(input: Input, sink: S) -> Result<Reading<S>, Refused> {
+/// Reads a value of which the sink hears.
+pub(crate) fn read_into<S: Sink>(input: Input, sink: S) -> Result<Reading<S>, Refused> {
     let Input {
         typecode,
         value,
@@ -240,7 +290,7 @@ struct Reader<'a, S> {
     visits: u64,
     /// The scalar read last, taken as unsigned.
     scalar: u64,
-    /// Where the items go.
+    /// What hears of the value.
     sink: S,
 }
 
@@ -321,10 +371,28 @@ impl<'a, S: Sink> Reader<'a, S> {
 
     /// Reads such elements of so many octets each.
     fn sized_elements<const SIZE: usize>(&mut self, scalar: Scalar, count: u32) -> Result<(), u32> {
+        if S::AT_ONCE && scalar.is_any() {
+            return self.elements_at_once::<SIZE>(count);
+        }
         for _ in 0..count {
             self.visits += 1;
             self.sized_scalar::<SIZE>(scalar)?;
         }
+        Ok(())
+    }
+
+    /// Reads so many elements, one at least, for which any octets will do;
+    /// refusal 50. There is a gap before the first one only.
+    fn elements_at_once<const SIZE: usize>(&mut self, count: u32) -> Result<(), u32> {
+        let place = self.place(SIZE);
+        let rest = self.octets.get(place..).unwrap_or(&[]);
+        let (count, there) = (count as usize, rest.len() / SIZE);
+        // The one that is cut is a visit too.
+        self.visits += count.min(there + 1) as u64;
+        demand(count <= there, VALUE_CUT)?;
+        let octets = &rest[..count * SIZE];
+        self.offset = place + octets.len();
+        self.sink.numbers::<SIZE>(octets);
         Ok(())
     }
 
@@ -392,6 +460,7 @@ impl<'a, S: Sink> Reader<'a, S> {
         let rest = &self.octets[place..];
         let octets = rest.get(..length as usize).ok_or(VALUE_CUT)?;
         self.offset += octets.len();
+        self.sink.octets(octets);
         Ok((place, octets))
     }
 
@@ -404,12 +473,18 @@ impl<'a, S: Sink> Reader<'a, S> {
     /// Reads a primitive of so many octets after its gap, and says where it is;
     /// refusal 50.
     fn primitive<const SIZE: usize>(&mut self) -> Result<(usize, [u8; SIZE]), u32> {
-        let index = self.start + self.offset;
-        let place = index.next_multiple_of(SIZE) - self.start;
+        let place = self.place(SIZE);
         let rest = self.octets.get(place..).ok_or(VALUE_CUT)?;
         let octets = rest.first_chunk().ok_or(VALUE_CUT)?;
         self.offset = place + SIZE;
+        self.sink.number(*octets);
         Ok((place, *octets))
+    }
+
+    /// Where the next primitive of so many octets is, after its gap.
+    fn place(&self, size: usize) -> usize {
+        let index = self.start + self.offset;
+        index.next_multiple_of(size) - self.start
     }
 
     /// Finishes an item; refusal 56.
@@ -431,111 +506,11 @@ fn sign_extended<const SIZE: usize>(number: u64) -> u64 {
 #[cfg(test)]
 mod tests {
     use super::*;
-    use crate::hexline::digits_into;
-    use crate::typecode::{
-        ALIAS, ARRAY, CHAR, ENUM, EXCEPTION, INDIRECTION, OBJREF, OCTET, STRUCT, ULONGLONG, UNION,
-        USHORT,
+    use crate::samples::{
+        alias, array, capsule, deep, enumeration, input, octets, plain, sequence, tree, ulongs,
+        union, with_members, EMPTY,
     };
-
-    /// The empty text.
-    const EMPTY: &[u8] = &[0, 0, 0, 1, 0];
-
-    /// The octets of digits and spaces.
-    fn octets(digits: &str) -> Vec<u8> {
-        let mut octets = Vec::new();
-        digits_into(digits.replace(' ', "").as_bytes(), &mut octets).expect("digits");
-        octets
-    }
-
-    /// Big-endian numbers.
-    fn ulongs(numbers: &[u32]) -> Vec<u8> {
-        numbers.iter().flat_map(|n| n.to_be_bytes()).collect()
-    }
-
-    /// A kind with an encapsulation of these parts, each at a multiple of 4.
-    fn capsule(kind: u32, parts: &[&[u8]]) -> Vec<u8> {
-        let mut inner = vec![0];
-        for part in parts {
-            inner.resize(inner.len().next_multiple_of(4), 0);
-            inner.extend_from_slice(part);
-        }
-        [ulongs(&[kind, inner.len() as u32]), inner].concat()
-    }
-
-    /// A kind without parameters.
-    fn plain(kind: u32) -> Vec<u8> {
-        ulongs(&[kind])
-    }
-
-    /// An alias.
-    fn alias(of: &[u8]) -> Vec<u8> {
-        capsule(ALIAS, &[EMPTY, EMPTY, of])
-    }
-
-    /// A sequence.
-    fn sequence(of: &[u8], bound: u32) -> Vec<u8> {
-        capsule(SEQUENCE, &[of, &ulongs(&[bound])])
-    }
-
-    /// An array.
-    fn array(of: &[u8], length: u32) -> Vec<u8> {
-        capsule(ARRAY, &[of, &ulongs(&[length])])
-    }
-
-    /// A struct or an exception.
-    fn with_members(kind: u32, members: &[&[u8]]) -> Vec<u8> {
-        let count = ulongs(&[members.len() as u32]);
-        let mut parts = vec![EMPTY, EMPTY, &count];
-        for member in members {
-            parts.extend([EMPTY, member]);
-        }
-        capsule(kind, &parts)
-    }
-
-    /// An enum of so many names.
-    fn enumeration(names: u32) -> Vec<u8> {
-        let count = ulongs(&[names]);
-        let mut parts = vec![EMPTY, EMPTY, &count];
-        parts.extend((0..names).map(|_| EMPTY));
-        capsule(ENUM, &parts)
-    }
-
-    /// A union with a default and a case for each label.
-    fn union(discriminant: &[u8], default: i32, cases: &[(&[u8], u32)]) -> Vec<u8> {
-        let numbers = ulongs(&[default.cast_unsigned(), cases.len() as u32]);
-        let types: Vec<Vec<u8>> = cases.iter().map(|&(_, kind)| plain(kind)).collect();
-        let mut parts = vec![EMPTY, EMPTY, discriminant, &numbers];
-        for ((label, _), case) in cases.iter().zip(&types) {
-            parts.extend([label, EMPTY, case]);
-        }
-        capsule(UNION, &parts)
-    }
-
-    /// A struct of octets and of itself: a sequence of each.
-    fn tree() -> Vec<u8> {
-        let octets = sequence(&plain(OCTET), 0);
-        // The struct is at place 0; its second member's element, after the
-        // first member and its own name, kind, length and order.
-        let itself = |offset: i32| {
-            let element = ulongs(&[INDIRECTION, offset.cast_unsigned()]);
-            with_members(STRUCT, &[&octets, &sequence(&element, 0)])
-        };
-        let offset = itself(0).len() as i32 - 8;
-        itself(-offset)
-    }
-
-    /// An input in which both are big-endian, at index 0.
-    fn input<'a>(typecode: &'a [u8], value: &'a [u8]) -> Input<'a> {
-        let lent = |octets| Lent {
-            octets,
-            little: false,
-        };
-        Input {
-            typecode: lent(typecode),
-            value: lent(value),
-            start: 0,
-        }
-    }
+    use crate::typecode::{CHAR, EXCEPTION, OBJREF, OCTET, STRUCT, ULONGLONG, USHORT};
 
     /// The octets used, the visits and the items, or the number and the visits.
     type Answer = Result<(usize, u64, Vec<(u32, usize, u64)>), (u32, u64)>;
@@ -844,16 +819,6 @@ mod tests {
         assert_eq!(answer(&typecode, value), Ok((20, 7, items)));
     }
 
-    /// A tree inside so many others, and the octets in it.
-    fn deep(levels: usize, octets: &[u8]) -> Vec<u8> {
-        let mut value = ulongs(&[0, 1]).repeat(levels);
-        value.extend(ulongs(&[octets.len() as u32]));
-        value.extend(octets);
-        value.resize(value.len().next_multiple_of(4), 0);
-        value.extend(ulongs(&[0]));
-        value
-    }
-
     #[test]
     fn refusal_55_with_64_open() {
         // Reading V2. Trees are open at odd depths, their sequences at even
@@ -933,6 +898,65 @@ mod tests {
             assert_eq!(item(cut, number), Err(50));
         }
         assert_eq!(item(input(&plain(0), &[]), 0), Err(49));
+    }
+
+    /// Hears of elements at once, and does nothing.
+    struct Deaf;
+
+    impl Sink for Deaf {
+        const AT_ONCE: bool = true;
+    }
+
+    #[test]
+    fn elements_at_once_are_as_many_visits() {
+        for kind in [OCTET, USHORT, ULONG, DOUBLE] {
+            let typecode = with_members(STRUCT, &[&plain(CHAR), &sequence(&plain(kind), 0)]);
+            for count in [0, 1, 3, u32::MAX] {
+                let value = [&[0x41, 0, 0, 0][..], &ulongs(&[count]), &[7; 24]].concat();
+                for length in 0..value.len() {
+                    let input = input(&typecode, &value[..length]);
+                    let one_by_one = read(input, LONGEST_VALUE).map(|ok| (ok.used, ok.visits));
+                    let at_once = read_into(input, Deaf).map(|ok| (ok.used, ok.visits));
+                    assert_eq!(at_once, one_by_one);
+                }
+            }
+        }
+    }
+
+    #[test]
+    fn gaps_are_what_no_item_has() {
+        let zeroed = |typecode: &[u8], digits: &str| {
+            let value = octets(digits);
+            let accepted = read(input(typecode, &value), LONGEST_VALUE).expect("a value");
+            accepted.gaps_zeroed(&value)
+        };
+        let kinds = [10, 2, 8, 3, 9, 7, 10, 4, 6, 5, 23, 24].map(plain);
+        let members: Vec<&[u8]> = kinds.iter().map(|kind| &kind[..]).collect();
+        assert_eq!(
+            zeroed(
+                &with_members(STRUCT, &members),
+                "01 EE 0203 01 EEEEEE 04050607 08 EEEEEE 090A0B0C0D0E0F10 11 EE 1213 \
+                 14151617 18191A1B EEEEEEEE 1C1D1E1F20212223 2425262728292A2B FFFF"
+            ),
+            octets(
+                "01 00 0203 01 000000 04050607 08 000000 090A0B0C0D0E0F10 11 00 1213 \
+                 14151617 18191A1B 00000000 1C1D1E1F20212223 2425262728292A2B"
+            )
+        );
+        assert_eq!(
+            zeroed(
+                &with_members(
+                    STRUCT,
+                    &[&capsule(OBJREF, &[EMPTY, EMPTY]), &enumeration(2)]
+                ),
+                "00000002 4100 EEEE 00000002 FFFFFFFF 00000003 010203 EE 00000001 00000000 \
+                 00000001"
+            ),
+            octets(
+                "00000002 4100 0000 00000002 FFFFFFFF 00000003 010203 00 00000001 00000000 \
+                 00000001"
+            )
+        );
     }
 
     #[test]

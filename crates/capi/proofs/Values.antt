@@ -17,7 +17,7 @@ use Rattle.capi.specs.Answers.{orderIs}
 use lib.ListN.{length}
 use Rattle.written.specs.declared.RewriteAnswer.{RewriteAnswer}
 use Rattle.written.specs.Written.{Target}
-use Rattle.written.specs.Rewriting.{rewriteNumber, countIn, rewriteAnswer, outputAfter}
+use Rattle.written.specs.Rewriting.{rewriteNumber, writtenCount, rewriteAnswer, outputAfter}
 use Rattle.capi.specs.Values.{valueAt, ReadsC, PicksC, RewritesC}
 
 module _ (t : List ℕ) (little : Bool) (v : List ℕ) (order : Bool) (start : ℕ) (to vo : Order) (te : to ≡ orderIs little) (ve : vo ≡ orderIs order) where
@@ -63,7 +63,7 @@ module _ (t : List ℕ) (little : Bool) (v : List ℕ) (order : Bool) (start : �
         (subst (λ (o : Order). (answer ≡ rewriteAnswer t (orderIs little) (source v o (indexOf start)) chosen (length out)) × (last ≡ outputAfter t (orderIs little) (source v o (indexOf start)) chosen out)) ve
         (subst (λ (o : Order). (answer ≡ rewriteAnswer t o (source v vo (indexOf start)) chosen (length out)) × (last ≡ outputAfter t o (source v vo (indexOf start)) chosen out)) te q))
 
-    pub rewrites-as : (n r : ℕ) → n ≡ countIn answer count → r ≡ rewriteNumber answer → RewritesC t little (valueAt v order start) meant out count r last n
+    pub rewrites-as : (n r : ℕ) → n ≡ writtenCount answer count → r ≡ rewriteNumber answer → RewritesC t little (valueAt v order start) meant out count r last n
     rewrites-as n r ne re =
         let f = named-output .0 in
-        record { number = re ∙ ap rewriteNumber f; output = named-output .1; count-is = ne ∙ ap (λ (a : RewriteAnswer). countIn a count) f }
+        record { number = re ∙ ap rewriteNumber f; output = named-output .1; counted = ne ∙ ap (λ (a : RewriteAnswer). writtenCount a count) f }

@@ -1,5 +1,5 @@
--- What the C interface leaves in what it is lent for a value: numbers and items are filled by an accepted value and kept by a refusal, and
--- the visits are always told.
+-- What the C interface leaves in what it is lent for a value: numbers and items, output and count are filled by an accepted value and kept by
+-- a refusal, and the visits are always told.
 --   valueAt       a value's octets, its order by a flag, and its starting index
 --   ReadsC        what a call ensures of a value,
 --   PicksC        of an item,
@@ -13,7 +13,7 @@ use Rattle.reading.specs.Sinks.{Source, source}
 use Rattle.reading.specs.Value.{roomIn, valueNumber, visitsIn, usedIn, valueAnswer, tableAfter}
 use lib.ListN.{length}
 use Rattle.written.specs.Written.{Target}
-use Rattle.written.specs.Rewriting.{rewriteNumber, countIn, rewriteAnswer, outputAfter}
+use Rattle.written.specs.Rewriting.{rewriteNumber, writtenCount, rewriteAnswer, outputAfter}
 use Rattle.value.specs.Single.{itemNumber, givenIn, itemAnswer}
 use Rattle.capi.specs.Answers.{orderIs}
 
@@ -35,4 +35,4 @@ pub record RewritesC (t : List ℕ) (little : Bool) (x : Source) (to : Target) (
   where
     pub number : r ≡ rewriteNumber (rewriteAnswer t (orderIs little) x to (length out))
     pub output : outLast ≡ outputAfter t (orderIs little) x to out
-    pub count-is : countLast ≡ countIn (rewriteAnswer t (orderIs little) x to (length out)) count
+    pub counted : countLast ≡ writtenCount (rewriteAnswer t (orderIs little) x to (length out)) count

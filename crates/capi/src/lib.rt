@@ -1,11 +1,11 @@
-// The C interface: each function answers 01's number, and a refusal leaves all that was lent as it was.
+// The C interface: each function answers 01's number, and a refusal leaves all that was lent as it was, but for a value's visits.
 ghost use mathlib.Core.Path.{_≡_};
 ghost use mathlib.Core.Bool.{cond};
 ghost use Rattle.frame.specs.Frames.{headerNumbers};
 ghost use Rattle.answers.specs.Answers.{outputIn};
 ghost use Rattle.cdr.specs.Align.{indexOf};
 ghost use Rattle.written.specs.Written.{target, unnamedOrder};
-ghost use Rattle.written.specs.Rewriting.{rewriteNumber, countIn};
+ghost use Rattle.written.specs.Rewriting.{rewriteNumber, writtenCount};
 ghost use Rattle.capi.specs.Values.{valueAt, ReadsC, PicksC, RewritesC};
 ghost use Rattle.capi.specs.Answers.{decodedCount, encodedCount, joinedCount, orderIs, DecodesC, EncodesC, JudgesC, JoinsC, ChecksC};
 use answers::Answer;
@@ -338,7 +338,7 @@ pub extern "C" fn haulspar_rewrite_unnamed(
 
 // The number of octets written, or what was there where none are.
 fn rewritten_count(answer: RewriteAnswer, before: u64) -> u64
-    ensures { λ r. ⌜ r ≡ countIn answer before ⌝ }
+    ensures { λ r. ⌜ r ≡ writtenCount answer before ⌝ }
 {
     match answer {
         RewriteAnswer::Accepted(n) => n as u64,

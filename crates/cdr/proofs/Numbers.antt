@@ -12,14 +12,13 @@ use lib.ListN.{getD, length, take, drop, length-take, length-drop, length-revers
 use lib.Seq.{take-add, drop-cons, drop-drop, getD-take, getD-drop, getD-append-add, length-take-le}
 use Rattle.cdr.specs.declared.Order.{Order}
 use Rattle.cdr.specs.declared.Order.the-variants.{Big, Little}
-use Rattle.cdr.specs.Number.{littleNumber, littleOctets, numberOf, octetsOf, numberAt, signExtended}
+use Rattle.cdr.specs.declared.Size.{Size}
+use Rattle.cdr.specs.declared.Size.the-variants.{One, Two, Four, Eight}
+use Rattle.cdr.specs.Align.{octets}
+use Rattle.cdr.specs.Number.{Octets, inOrder, littleNumber, littleOctets, numberOf, octetsOf, numberAt, signExtended}
 use Rattle.cdr.specs.Inner.{firstHalf, secondHalf, Loaded}
 
--- every element is an octet
-abbrev pub Octets : List ℕ → Type 0
-Octets v = (k : ℕ) → getD v k 0 < 256
-
--- so is every element of a part
+-- every element of a part is an octet
 part-octet-by : (v : List ℕ) (at n k : ℕ) (b : Bool) → ltb k n ≡ b → Octets v → getD (take n (drop at v)) k 0 < 256
 part-octet-by v at n k true e h = let l : k < n = ltb-true k n e in rw (getD-take, getD-drop) (h (at + k))
 part-octet-by v at n k false e h =
@@ -199,3 +198,30 @@ extended-by x false h e = omega arith
 pub extended-eight : (x : ℕ) → x < 2 ^ 64 → x ≡ signExtended 8 x
 unfolding signExtended
 extended-eight x h = rw (mod-eq-of-lt h) (extended-by x _ h refl)
+
+-- what is a multiple of 256 ^ n changes none of n octets
+little-octets-beyond : (n x k : ℕ) → littleOctets n (x + k * 256 ^ n) ≡ littleOctets n x
+unfolding littleOctets
+little-octets-beyond zero x k = refl
+little-octets-beyond (suc n) x k =
+    let p : k * 256 ^ suc n ≡ k * 256 ^ n * 256 = ap (λ (m : ℕ). k * m) (pow-suc 256 n) ∙ sym (mul-assoc k (256 ^ n) 256) in
+    let r : (x + k * 256 ^ n * 256) % 256 ≡ x % 256 = omega arith in
+    let q : (x + k * 256 ^ n * 256) / 256 ≡ x / 256 + k * 256 ^ n = omega arith in
+    rw (p, r, q, little-octets-beyond n (x / 256) k)
+
+-- so the last octets of a sign-extended number are the number's own
+sign-octets : (size : Size) → 2 ^ 64 - 256 ^ octets size ≡ (256 ^ (8 - octets size) - 1) * 256 ^ octets size
+sign-octets One = refl
+sign-octets Two = refl
+sign-octets Four = refl
+sign-octets Eight = refl
+
+little-extended : (size : Size) (x : ℕ) (t : Bool)
+    → littleOctets (octets size) (cond t x (x + (2 ^ 64 - 256 ^ octets size))) ≡ littleOctets (octets size) x
+little-extended size x true = refl
+little-extended size x false = rw (sign-octets size) (little-octets-beyond (octets size) x (256 ^ (8 - octets size) - 1))
+
+pub octets-extended : (order : Order) (size : Size) (x : ℕ) → x < 256 ^ octets size
+    → octetsOf order (octets size) (signExtended (octets size) x) ≡ octetsOf order (octets size) x
+unfolding octetsOf signExtended
+octets-extended order size x h = rw (mod-eq-of-lt h) (ap (inOrder order) (little-extended size x (ltb (x * 2) (256 ^ octets size))))

@@ -1,4 +1,5 @@
 -- Numbers of any size in octets, in either byte order.
+--   Octets          numbers below 256, as every slice of octets has
 --   inOrder         octets that stand in a byte order, the least significant first; and back
 --   littleNumber    the number that octets give, the least significant first
 --   littleOctets    the n octets of a number, the least significant first
@@ -7,11 +8,11 @@
 --   numberAt        the number in n octets from `at` on
 --   readOf          the number of a size that starts at or after `at`, in octets whose first has the index `start`
 --   signExtended    the two's complement of n octets as one of eight
-use Prim.Native.Nat.{ℕ, zero, suc, _+_, _-_, _*_, _/_, _%_, _^_}
+use Prim.Native.Nat.{ℕ, zero, suc, _+_, _-_, _*_, _/_, _%_, _^_, _<_}
 use mathlib.Core.List.{List, [], _∷_, reverse}
 use mathlib.Core.Bool.{cond}
 use lib.Dec.{ltb}
-use lib.ListN.{length, take, drop}
+use lib.ListN.{length, getD, take, drop}
 use Rattle.cdr.specs.declared.Order.{Order}
 use Rattle.cdr.specs.declared.Order.the-variants.{Big, Little}
 use Rattle.cdr.specs.declared.Size.{Size}
@@ -19,6 +20,9 @@ use Rattle.cdr.specs.declared.Index.{Index}
 use Rattle.cdr.specs.declared.Read.{Read}
 use Rattle.cdr.specs.declared.Read.the-variants.{Number, Ends}
 use Rattle.cdr.specs.Align.{octets, behindGap}
+
+abbrev pub Octets : List ℕ → Type 0
+Octets v = (k : ℕ) → getD v k 0 < 256
 
 abbrev pub inOrder : Order → List ℕ → List ℕ
 inOrder Little l = l

@@ -1,5 +1,5 @@
 -- What reading a value answers: 42 "before the type check", then the type's refusal "with the same number", then the value's.
---   roomIn          how many items a lent table has room for: "three numbers an item"
+--   roomIn          how many items a lent table has room for: an item is three numbers
 --   valueNumber     01's number of an answer, 0 for an accepted value
 --   visitsIn        the visits that an answer gives: "a refusal gives the visits begun"
 --   usedIn          octets used and items of an accepted value
@@ -8,6 +8,7 @@
 --   readingOf       the reading under the type that octets give
 --   overlong        "42, also for over 16,384 value octets", comes before the type check
 --   onType          what follows an accepted type, and a refused one's number
+--   underType       what follows an accepted type, or a refusal before any visit: 42 first, then the type's
 --   valueAnswer     the answer, where there is room for so many items
 --   flat            items as numbers, three each
 --   filledBy        a table that an answer fills or leaves
@@ -66,11 +67,11 @@ onType (accepted used kinds) f g = f tt
 onType (refused r) f g = g (answerNumber (refused r))
 onType Loop f g = g (answerNumber Loop)
 
+abbrev pub underType : {A : Type 0} → List ℕ → Order → Source → (Unit {0} → A) → (ℕ → A) → A
+underType v order x f g = choose (overlong v x) (λ _. g 42) (λ _. onType (checkedType v order .answer) f g)
+
 unfoldable pub valueAnswer : List ℕ → Order → Source → ℕ → ValueAnswer
-valueAnswer v order x room =
-    choose (overlong v x)
-    (λ _. Refused 42 0)
-    (λ _. onType (checkedType v order .answer) (λ _. answerOf (readingOf (roomFor room) v order x)) (λ n. Refused n 0))
+valueAnswer v order x room = underType v order x (λ _. answerOf (readingOf (roomFor room) v order x)) (λ n. Refused n 0)
 
 unfoldable pub flat : List Item → List ℕ
 flat [] = []

@@ -25,10 +25,10 @@ use Rattle.reading.specs.Reading.{anyRoom, reading}
 use Rattle.reading.specs.Value.{readingOf}
 use Rattle.reading.proofs.Bound.{items-bound}
 use Rattle.value.specs.declared.Judged.{Judged}
-use Rattle.value.specs.declared.Judged.the-variants.{Sound as sound, Refused as refusedType}
+use Rattle.value.specs.declared.Judged.the-variants.{Accepted as acceptedType, Refused as refusedType}
 use Rattle.value.specs.declared.Typed.{Typed}
-use Rattle.value.specs.Typed.{typedFor, onJudged}
-use Rattle.value.proofs.Answers.{Under, under, answer-judged, bounded}
+use Rattle.value.specs.Typed.{typedFor}
+use Rattle.value.proofs.Answers.{onJudged, under, answer-judged, bounded}
 use Rattle.written.specs.declared.RewriteAnswer.{RewriteAnswer}
 use Rattle.written.specs.declared.RewriteAnswer.the-variants.{Refused}
 use Rattle.written.specs.Written.{Target, written}
@@ -49,7 +49,7 @@ module _ (v : List ℕ) (order : Order) (k : ℕ) (m : Met) (type : AcceptedAs v
   plain-inside p kind e = plain-by p (ltb (findPlace m p) (m .count)) refl kind e
 
 module _ (v : List ℕ) (order : Order) (x : Source) (r : Typed) (e : r ≡ typedFor v order (length (x .octets))) where
-  pub readable : r .judged ≡ sound → Readable (checked v (r .met)) x
+  pub readable : r .judged ≡ acceptedType → Readable (checked v (r .met)) x
   readable s =
       let u = under v order (length (x .octets)) r e s in
       record {
@@ -78,7 +78,7 @@ module _ (v : List ℕ) (order : Order) (x : Source) (r : Typed) (e : r ≡ type
         (a, ap (λ (y : RewriteAnswer). writtenBy y out (rewritten v order x to)) a)
 
     -- the answer under an accepted type, and the output after it
-    pub read-under : r .judged ≡ sound → (y : RewriteAnswer) (last : List ℕ) → Rewrites (checked v (r .met)) x to out y last
+    pub read-under : r .judged ≡ acceptedType → (y : RewriteAnswer) (last : List ℕ) → Rewrites (checked v (r .met)) x to out y last
         → (y ≡ answer) × (last ≡ outputAfter v order x to out)
     unfolding outputAfter readingOf
     read-under s y last done =

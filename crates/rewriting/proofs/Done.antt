@@ -10,7 +10,7 @@ use lib.ListN.{getD, length, take, drop, length-append, List·getD-append}
 use lib.Seq.{sets, sets-eq, length-sets}
 use borrow.Author.Tests.{eq-eqb, ne-eqb, lt-ltb, le-ltb}
 use Rattle.choices.specs.Branch.{choose}
-use Rattle.cdr.proofs.Numbers.{Octets}
+use Rattle.cdr.specs.Number.{Octets}
 use Rattle.checking.specs.Types.{octetsLimit}
 use Rattle.reading.specs.Sinks.{Source, Item, St}
 use Rattle.reading.specs.Visit.{Checked}

@@ -5,13 +5,15 @@ use Prim.Native.Nat.{ℕ, zero, suc, _+_, _-_, _*_, _%_, _<_, _≤_}
 use native.Mathlib.Omega.{arith}
 use native.Mathlib.Numerals.{add-one}
 use native.Mathlib.Nat.{zero-add}
-use lib.Dec.{leb}
-use borrow.Author.Tests.{eq-eqb, leb-true, leb-false}
+use lib.Dec.{eqb, leb}
+use borrow.Author.Tests.{eq-eqb, eqb-true, eqb-false, leb-true, leb-false}
 use Rattle.choices.proofs.Choices.{by-test}
-use lib.ListN.{length, take, drop, replicate, length-append, length-replicate, length-drop}
+use lib.ListN.{length, take, drop, set, replicate, length-append, length-replicate, length-drop}
 use lib.Seq.{sets, length-sets, length-take-le}
 use Rattle.cdr.specs.declared.Index.{Index}
 use Rattle.cdr.specs.declared.Size.{Size}
+use Rattle.cdr.specs.declared.Size.the-variants.{One}
+use Rattle.reading.specs.Visit.{sizeOf}
 use Rattle.cdr.specs.Align.{octets, gap, behindGap}
 use Rattle.cdr.specs.Number.{octetsOf}
 use Rattle.cdr.proofs.Alignment.{octets-small, gap-small, gap-modulo-8}
@@ -20,9 +22,9 @@ use Rattle.checking.specs.Types.{octetsLimit}
 use Rattle.reading.specs.Sinks.{Item, item}
 use Rattle.writing.specs.declared.Written.{Written}
 use Rattle.writing.specs.Write.{Stored}
-use Rattle.writing.proofs.Stores.{sets-append, stored-fits}
+use Rattle.writing.proofs.Stores.{sets-append, one-octet, stored-fits}
 use Rattle.written.specs.Written.{Target}
-use Rattle.rewriting.specs.Inner.{widthOf, headOf, tailOf, endOf, itemOctets, upTo, reach, rowOf, Sized, Rows}
+use Rattle.rewriting.specs.Inner.{widthOf, Octet, headOf, tailOf, endOf, itemOctets, upTo, reach, rowOf, Sized, Rows}
 
 -- the next item, and how far it reaches
 pub reach-next : (start : Index) (items : ℕ → Item) (k : ℕ) → reach start items (k + 1) ≡ endOf start (reach start items k) (items k .kind) (items k .content)
@@ -171,3 +173,48 @@ no-tail l b at n e = ap (λ (k : ℕ). sets b at (take k l)) (sym e)
 pub tail-text : (kind content : ℕ) → kind ≡ 18 → tailOf kind content ≡ content + 1
 unfolding tailOf
 tail-text kind content e = simp (eq-eqb _ _ e)
+
+-- a boolean, a char and an octet are an octet by themselves
+octet-8 : Octet 8
+unfolding widthOf headOf tailOf sizeOf
+octet-8 = record { width = refl; head = λ content. refl; tail = λ content. refl }
+
+octet-9 : Octet 9
+unfolding widthOf headOf tailOf sizeOf
+octet-9 = record { width = refl; head = λ content. refl; tail = λ content. refl }
+
+octet-10 : Octet 10
+unfolding widthOf headOf tailOf sizeOf
+octet-10 = record { width = refl; head = λ content. refl; tail = λ content. refl }
+
+pub octet-kind : (kind : ℕ) → 8 ≤ kind → kind < 11 → Octet kind
+octet-kind kind h l =
+    by-test (eqb kind 8) (λ t. subst Octet (sym (eqb-true kind 8 t)) octet-8) (λ t.
+    by-test (eqb kind 9) (λ u. subst Octet (sym (eqb-true kind 9 u)) octet-9) (λ u.
+    let a = eqb-false kind 8 t in
+    let b = eqb-false kind 9 u in
+    subst Octet (ten kind h l a b) octet-10))
+  where
+    ten : (kind : ℕ) → 8 ≤ kind → kind < 11 → (kind ≡ 8 → ⊥) → (kind ≡ 9 → ⊥) → 10 ≡ kind
+    ten kind h l a b = omega arith
+
+no-gap : (i : ℕ) → gap i 1 ≡ 0
+no-gap i = let g = gap-small One i in omega arith
+
+pub octet-ends : (start : Index) (at kind content : ℕ) → Octet kind → at + 1 ≡ endOf start at kind content
+octet-ends start at kind content o =
+    let g = no-gap (start .0 + at) in
+    let e : at + 1 ≡ behindGap start at 1 + 1 + 0 = omega arith in
+    e
+    ∙ ap (λ (n : ℕ). behindGap start at 1 + 1 + n) (sym (o .tail content))
+    ∙ ap (λ (z : Size). behindGap start at (octets z) + octets z + tailOf kind content) (sym (o .width))
+
+pub octet-octets : (to : Target) (v out : List ℕ) (at kind place content : ℕ) → Octet kind
+    → set out at (content % 256) ≡ sets out at (itemOctets to v at (item kind place content))
+octet-octets to v out at kind place content o =
+    ap (sets out at)
+    (ap (λ (l : List ℕ). l ++ []) (sym (one-octet (to .order) content))
+    ∙ ap (λ (n : ℕ). replicate n 0 ++ (octetsOf (to .order) 1 content ++ [])) (sym (no-gap (to .start .0 + at)))
+    ∙ ap (λ (n : ℕ). replicate (gap (to .start .0 + at) 1) 0 ++ (octetsOf (to .order) 1 n ++ [])) (sym (o .head content))
+    ∙ ap (λ (n : ℕ). replicate (gap (to .start .0 + at) 1) 0 ++ (octetsOf (to .order) 1 (headOf kind content) ++ take n (drop place v))) (sym (o .tail content))
+    ∙ ap (λ (z : Size). replicate (gap (to .start .0 + at) (octets z)) 0 ++ (octetsOf (to .order) (octets z) (headOf kind content) ++ take (tailOf kind content) (drop place v))) (sym (o .width)))

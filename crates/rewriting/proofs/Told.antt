@@ -2,26 +2,24 @@
 use mathlib.Core.Path.{_≡_, refl, sym, ap, subst, _∙_}
 use mathlib.Core.List.{List, [], _∷_, _++_, append-assoc, append-nil}
 use mathlib.Core.Bool.{Bool, true, false, cond}
-use Prim.Native.Nat.{ℕ, zero, suc, _+_, _-_, _*_, _/_, _%_, _^_, _<_, _≤_}
+use Prim.Native.Nat.{ℕ, zero, suc, _+_, _-_, _^_, _<_, _≤_}
 use native.Mathlib.Omega.{arith}
 use native.Mathlib.Numerals.{add-one}
-use native.Mathlib.Nat.{mod-eq-of-lt}
 use lib.Dec.{eqb, ltb, leb}
 use lib.ListN.{length, take, drop, replicate, length-append}
 use borrow.Author.Tests.{eqb-true, eqb-false, ne-eqb, ltb-true, ltb-false}
 use Rattle.choices.specs.Branch.{choose}
 use Rattle.choices.proofs.Choices.{by-test, clash}
 use Rattle.cdr.specs.declared.Order.{Order}
-use Rattle.cdr.specs.declared.Order.the-variants.{Big, Little}
 use Rattle.cdr.specs.declared.Place.{Place}
 use Rattle.cdr.specs.declared.Size.{Size}
-use Rattle.cdr.specs.declared.Size.the-variants.{One, Two, Four, Eight}
+use Rattle.cdr.specs.declared.Size.the-variants.{Four}
 use Rattle.cdr.specs.declared.Read.{Read}
 use Rattle.cdr.specs.declared.Read.the-variants.{Number, Ends}
 use Rattle.cdr.specs.Align.{octets, gap}
-use Rattle.cdr.specs.Number.{littleOctets, inOrder, octetsOf, signExtended}
+use Rattle.cdr.specs.Number.{Octets, octetsOf, signExtended}
 use Rattle.cdr.proofs.Alignment.{read-facts}
-use Rattle.cdr.proofs.Numbers.{Octets, number-small, extended-eight}
+use Rattle.cdr.proofs.Numbers.{number-small, octets-extended}
 use Rattle.items.specs.Items.{signedKind}
 use Rattle.kinds.specs.declared.Form.the-variants.{Plain}
 use Rattle.kinds.specs.declared.Parameters.{Parameters}
@@ -39,58 +37,7 @@ use Rattle.written.proofs.Pieces.{writes-none, writes-more}
 use Rattle.rewriting.specs.Inner.{widthOf, headOf, tailOf, itemOctets, upTo}
 use Rattle.rewriting.proofs.Items.{up-next}
 
--- a number of two's complement and the same in eight octets have the same last octets
-rest : (x y k : ℕ) → y ≡ x + k * 256 → y % 256 ≡ x % 256
-rest x y k e = omega arith
-
-next : (x y k : ℕ) → y ≡ x + k * 256 → y / 256 ≡ x / 256 + k
-next x y k e = omega arith
-
-little-one : (x y : ℕ) → y ≡ x + (2 ^ 64 - 256) → littleOctets 1 y ≡ littleOctets 1 x
-unfolding littleOctets
-little-one x y e = let a : y % 256 ≡ x % 256 = omega arith in rw a
-
-little-two : (x y : ℕ) → y ≡ x + (2 ^ 64 - 65536) → littleOctets 2 y ≡ littleOctets 2 x
-unfolding littleOctets
-little-two x y e =
-    let a : y % 256 ≡ x % 256 = omega arith in
-    let f : y / 256 ≡ x / 256 + (2 ^ 48 - 1) * 256 = next x y ((2 ^ 48 - 1) * 256) (omega arith) in
-    let b : y / 256 % 256 ≡ x / 256 % 256 = rest (x / 256) (y / 256) (2 ^ 48 - 1) f in
-    rw (a, b)
-
-little-four : (x y : ℕ) → y ≡ x + (2 ^ 64 - 4294967296) → littleOctets 4 y ≡ littleOctets 4 x
-unfolding littleOctets
-little-four x y e =
-    let a : y % 256 ≡ x % 256 = omega arith in
-    let f : y / 256 ≡ x / 256 + (2 ^ 48 - 2 ^ 16) * 256 = next x y ((2 ^ 48 - 2 ^ 16) * 256) (omega arith) in
-    let b : y / 256 % 256 ≡ x / 256 % 256 = rest (x / 256) (y / 256) (2 ^ 48 - 2 ^ 16) f in
-    let g : y / 256 / 256 ≡ x / 256 / 256 + (2 ^ 40 - 256) * 256 = next (x / 256) (y / 256) (2 ^ 48 - 2 ^ 16) f in
-    let c : y / 256 / 256 % 256 ≡ x / 256 / 256 % 256 = rest (x / 256 / 256) (y / 256 / 256) (2 ^ 40 - 256) g in
-    let h : y / 256 / 256 / 256 ≡ x / 256 / 256 / 256 + (2 ^ 32 - 1) * 256 = next (x / 256 / 256) (y / 256 / 256) (2 ^ 40 - 256) g in
-    let d : y / 256 / 256 / 256 % 256 ≡ x / 256 / 256 / 256 % 256 = rest (x / 256 / 256 / 256) (y / 256 / 256 / 256) (2 ^ 32 - 1) h in
-    rw (a, b, c, d)
-
-little-eight : (x y : ℕ) → y ≡ x + (2 ^ 64 - 2 ^ 64) → littleOctets 8 y ≡ littleOctets 8 x
-little-eight x y e = ap (littleOctets 8) (omega arith)
-
-little-by : (n x : ℕ) (t : Bool) → x < 256 ^ n → ((y : ℕ) → y ≡ x + (2 ^ 64 - 256 ^ n) → littleOctets n y ≡ littleOctets n x)
-    → littleOctets n (cond t x (x + (2 ^ 64 - 256 ^ n))) ≡ littleOctets n x
-little-by n x true h f = refl
-little-by n x false h f = f (x + (2 ^ 64 - 256 ^ n)) refl
-
-little-extended : (n x : ℕ) → x < 256 ^ n → ((y : ℕ) → y ≡ x + (2 ^ 64 - 256 ^ n) → littleOctets n y ≡ littleOctets n x)
-    → littleOctets n (signExtended n x) ≡ littleOctets n x
-unfolding signExtended
-little-extended n x h f = rw (mod-eq-of-lt h) (little-by n x (ltb (x * 2) (256 ^ n)) h f)
-
-octets-extended : (order : Order) (size : Size) (x : ℕ) → x < 256 ^ octets size
-    → octetsOf order (octets size) (signExtended (octets size) x) ≡ octetsOf order (octets size) x
-unfolding octetsOf
-octets-extended order One x h = ap (inOrder order) (little-extended 1 x h (little-one x))
-octets-extended order Two x h = ap (inOrder order) (little-extended 2 x h (little-two x))
-octets-extended order Four x h = ap (inOrder order) (little-extended 4 x h (little-four x))
-octets-extended order Eight x h = ap (inOrder order) (little-extended 8 x h (little-eight x))
-
+-- a signed number's content and the number have the same last octets
 content-by : (order : Order) (size : Size) (x : ℕ) (signed : Bool) → x < 256 ^ octets size
     → octetsOf order (octets size) (cond signed (signExtended (octets size) x) x) ≡ octetsOf order (octets size) x
 content-by order size x true h = octets-extended order size x h

@@ -3,6 +3,7 @@
 --   widthOf      the size of an item's number: lengths, counts, tags and enums have four octets
 --   headOf       the number that stands for an item: a text's length counts its final zero
 --   tailOf       how many octets stand behind the number as they are
+--   Octet        an item that is an octet by itself
 --   endOf        where an item ends that is written from `at` on, the first octet having the index `start`
 --   itemOctets   an item's octets from `at` on, its gap among them; v is the value that was read
 --   upTo         the octets of the first n items, one after the other
@@ -11,7 +12,7 @@
 --   Sized        a table whose first n rows are items with no more octets than a value has
 --   Rows         a table whose first n rows are items of a value
 --   Readable     a value that is not too long, under an accepted type: a machine word holds its visits, it has no more items than octets,
---                and kinds without parameters are primitives
+--                and kinds without parameters are null, void and primitives
 --   Holds        a table with room for as many items as a value has octets
 --   Rewrites     an answer and an output that are those of a reading
 use mathlib.Core.Path.{_≡_}
@@ -22,7 +23,7 @@ use lib.Dec.{eqb}
 use lib.ListN.{length, getD, take, drop, replicate}
 use Rattle.cdr.specs.declared.Index.{Index}
 use Rattle.cdr.specs.declared.Size.{Size}
-use Rattle.cdr.specs.declared.Size.the-variants.{Four}
+use Rattle.cdr.specs.declared.Size.the-variants.{One, Four}
 use Rattle.cdr.specs.Align.{octets, gap, behindGap}
 use Rattle.cdr.specs.Number.{octetsOf}
 use Rattle.cdr.specs.declared.Place.{Place}
@@ -33,7 +34,7 @@ use Rattle.checking.specs.Types.{octetsLimit}
 use Rattle.reading.specs.Sinks.{Source, Item, item}
 use Rattle.reading.specs.Visit.{Checked, inside, sizeOf}
 use Rattle.reading.specs.Reading.{anyRoom, reading}
-use Rattle.value.specs.Inner.{Bounded}
+use Rattle.value.specs.Typed.{Bounded}
 use Rattle.written.specs.declared.RewriteAnswer.{RewriteAnswer}
 use Rattle.written.specs.Written.{Target, written}
 use Rattle.written.specs.Rewriting.{rewriteOf, writtenBy}
@@ -46,6 +47,11 @@ headOf kind content = cond (eqb kind 18) (content + 1) content
 
 unfoldable pub tailOf : ℕ → ℕ → ℕ
 tailOf kind content = cond (eqb kind 18) (content + 1) (cond (eqb kind 256) content 0)
+
+pub record Octet (kind : ℕ) : Type 0 where
+  pub width : widthOf kind ≡ One
+  pub head : (content : ℕ) → headOf kind content ≡ content
+  pub tail : (content : ℕ) → tailOf kind content ≡ 0
 
 abbrev pub endOf : Index → ℕ → ℕ → ℕ → ℕ
 endOf start at kind content = behindGap start at (octets (widthOf kind)) + octets (widthOf kind) + tailOf kind content

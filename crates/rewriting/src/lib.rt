@@ -19,12 +19,13 @@ mod rows;
 // The order that is meant where none is named.
 const UNNAMED: Order = Order::Big;
 
-// The most octets of a value, and of one whose items fit the smaller memory.
+// The most octets of a value; and of a short one, for which less memory is cleared.
 const MOST: usize = 16384;
 
 const FEW: usize = 1024;
 
-// Rewrites a value in the chosen order from the chosen index on, from the start of the output; a refusal leaves it as it was.
+// Rewrites a value in the chosen order from the chosen index on, from the start of the output, and gives the octets written; a refusal
+// leaves the output as it was. Every call takes 384 KB of stack for the value's items.
 pub fn rewrite(
     t: &[u8],
     torder: Order,
@@ -41,7 +42,7 @@ pub fn rewrite(
     let met = c.met;
     let judged = c.judged;
     match judged {
-        Judged::Sound => rewrite_read(t, met, v, order, start, chosen, index, out),
+        Judged::Accepted => rewrite_read(t, met, v, order, start, chosen, index, out),
         Judged::Refused(number) => RewriteAnswer::Refused(number),
     }
 }

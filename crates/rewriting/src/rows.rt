@@ -1,5 +1,6 @@
 // Items as the rows of a table, and the octets that they are written as.
 ghost use mathlib.Core.Path.{_≡_};
+ghost use mathlib.Core.Bool.{true};
 ghost use Prim.Native.Nat.{_+_, _≤_, _<_, _^_};
 ghost use lib.ListN.{length};
 ghost use lib.Seq.{sets};
@@ -7,7 +8,7 @@ ghost use Rattle.cdr.specs.Align.{octets, behindGap};
 ghost use Rattle.checking.specs.Types.{octetsLimit};
 ghost use Rattle.reading.specs.Sinks.{item};
 ghost use Rattle.written.specs.Written.{target};
-ghost use Rattle.rewriting.specs.Inner.{widthOf, headOf, tailOf, endOf, itemOctets, upTo, reach, rowOf, Sized, Rows};
+ghost use Rattle.rewriting.specs.Inner.{widthOf, Octet, headOf, tailOf, endOf, itemOctets, upTo, reach, rowOf, Sized, Rows};
 use cdr::Index;
 use cdr::Order;
 use cdr::Size;
@@ -38,6 +39,16 @@ fn width_of(kind: u64) -> Size
         return Size::Four;
     }
     leaves::size_of(kind)
+}
+
+// Whether an item is an octet by itself: a boolean, a char or an octet.
+fn is_octet(kind: u64) -> bool
+    ensures { λ r. ⌜ (r ≡ true → Octet kind) ⌝ }
+{
+    if kind < 8 {
+        return false;
+    }
+    kind < 11
 }
 
 // The number that stands for an item.
@@ -77,6 +88,9 @@ fn item_end(index: Index, at: usize, kind: u64, content: u64) -> usize
     requires { ⌜ (at < 2 ^ 63) × (tailOf kind content ≤ octetsLimit) ⌝ }
     ensures { λ r. ⌜ r ≡ endOf index at kind content ⌝ }
 {
+    if is_octet(kind) {
+        return at + 1;
+    }
     let size = width_of(kind);
     behind_gap(index, at, size) + size.octets() + tail_of(kind, content)
 }
@@ -97,6 +111,27 @@ pub(crate) fn count(rows: &[u64], n: usize, index: Index) -> usize
 
 // Writes an item from `at` on, and gives where it ends.
 fn write_item(
+    v: &[u8],
+    out: &mut [u8],
+    order: Order,
+    index: Index,
+    at: usize,
+    kind: u64,
+    place: usize,
+    content: u64,
+) -> usize
+    requires { ⌜ (tailOf kind content ≤ octetsLimit) × (place + tailOf kind content ≤ length (now v)) × (endOf index at kind content ≤ length (now out)) ⌝ }
+    ensures { λ r. ⌜ (r ≡ endOf index at kind content) × (now (out .exit) ≡ sets (now (out .entry)) at (itemOctets (target order index) (now (v .entry)) at (item kind place content))) ⌝ }
+{
+    if is_octet(kind) {
+        out[at] = (content % 256) as u8;
+        return at + 1;
+    }
+    write_wide(v, out, order, index, at, kind, place, content)
+}
+
+// Writes an item with its gap and the octets behind its number.
+fn write_wide(
     v: &[u8],
     out: &mut [u8],
     order: Order,

@@ -2,3 +2,4 @@
 pub mod Samples
 pub mod Slips
 pub mod Readings
+pub mod Rewritings

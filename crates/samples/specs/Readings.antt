@@ -5,16 +5,14 @@
 --   wrong            an exception without members
 --   readings         the table
 --   readings-hold    the statement
---   rewritings       values rewritten: gaps, texts, refusals and 57
---   rewritings-hold  the statement
 --   itemGiven        what an item asked for by number is: 01's number, which case it is, and its 64 bits
 --   singles          items, and what they are
 --   singles-hold     the statement
-use mathlib.Core.List.{List, [], _∷_, _++_}
+use mathlib.Core.List.{List, [], _∷_}
 use mathlib.Core.Bool.{Bool, _&&_}
 use Prim.Native.Nat.{ℕ}
 use lib.ListN.{replicate}
-use Rattle.cdr.specs.declared.Order.the-variants.{Big, Little}
+use Rattle.cdr.specs.declared.Order.the-variants.{Big}
 use lib.Dec.{T}
 use Rattle.cdr.specs.Number.{littleNumber, littleOctets, numberOf, octetsOf, numberAt}
 use Rattle.choices.specs.Branch.{choose}
@@ -39,21 +37,18 @@ use Rattle.reading.specs.Reading.{reads, reading}
 use Rattle.reading.specs.Value.{readingOf, valueAnswer, flat, tableAfter, itemNo}
 use Rattle.items.specs.Items.{itemOf}
 use Rattle.value.specs.Single.{itemNumber, givenIn, givenBy, itemAnswer}
-use Rattle.cdr.specs.Align.{indexOf}
-use Rattle.written.specs.Written.{target, unnamedOrder, wrote, writes}
-use Rattle.written.specs.Rewriting.{rewriteOf, rewriteAnswer, outputAfter}
-use Rattle.samples.specs.Samples.{paper, lent, fromStart, value, rewrite, same, Sample, holds}
+use Rattle.samples.specs.Samples.{paper, lent, fromStart, value, same, Sample, holds}
 
 abbrev alias : List ℕ
 alias = paper 32 0x0000001500000018000000000000000100000000000000010000000000000003
 
-abbrev switch : List ℕ
+abbrev pub switch : List ℕ
 switch = paper 72 0x00000010000000400000000000000001000000000000000100000000000000080000000100000002000000000000000100000000000000030100000000000001000000000000000A
 
 abbrev letters : List ℕ
 letters = paper 56 0x0000001000000030000000000000000100000000000000010000000000000009FFFFFFFF0000000161000000000000010000000000000003
 
-abbrev wrong : List ℕ
+abbrev pub wrong : List ℕ
 wrong = paper 32 0x0000001600000018000000000000000100000000000000010000000000000000
 
 unfoldable pub readings : List Sample
@@ -77,30 +72,6 @@ readings =
 pub readings-hold : T (holds readings)
 unfolding littleNumber littleOctets numberOf octetsOf numberAt choose readOf fieldOf stringOf textOf endsText overBound runOf countedOf formOf fieldIn skipField skipCounted targetOf aimed spotAt memberAt namesIn countIn typeIn elementIn unionIn encapsulated parametersAt added findIn findPlace positionOf parametersOf leafLabels labelsAfter labelsFor outOfKind labelAmong belowTop entryOf textStep namesStep numberStep countStep anyCount headStep exceptionStep lengthStep textsStep enumStep partOf badDefault switchStep entered closed targetStep indirectionAt nameStep membersAt labelsAt switchedAt discriminantAt endedAt compositeAt enteredAt kindAt enterAt typeAt walkedOf closure anyBelow loopFound memberIs steps loopLast checkedType signExtended after repeats taken done numberTaken octetsStep inside sizeOf contentOf leafDone leafAt textDone textGot textAt countDone countAt elementsAt sequenceAt enter reads reading readingOf valueAnswer flat tableAfter defaultOf chosenOf caseOf memberNo unionAt enumDone enumAt exceptionAt tagDone tagAt runDone runGot runAt profileAt profilesAt objrefAt valueMembers readings
 readings-hold = tt
-
-unfoldable pub rewritings : List Sample
-rewritings =
-    -- a gap is all zero, whatever was found in it
-    record { asked = rewrite (replicate 9 9) (target Big (indexOf 0)) switch (paper 8 0x00AABBCC00000007); given = 0 ∷ 8 ∷ (paper 8 7 ++ (9 ∷ [])) }
-    -- and the smallest one, counted from the chosen index
-    ∷ record { asked = rewrite (replicate 9 9) (target Big (indexOf 3)) switch (paper 8 0x00AABBCC00000007); given = 0 ∷ 5 ∷ (paper 5 7 ++ replicate 4 9) }
-    -- a gap before the first primitive belongs to the result
-    ∷ record { asked = rewrite (replicate 9 9) (target Little (indexOf 6)) (paper 4 5) (paper 4 5); given = 0 ∷ 6 ∷ (paper 6 0x000005000000 ++ replicate 3 9) }
-    -- a text keeps its zero, and its octets their order
-    ∷ record { asked = rewrite (replicate 9 9) (target Little (indexOf 0)) wrong (paper 8 0x0000000441424300); given = 0 ∷ 8 ∷ (paper 8 0x0400000041424300 ++ (9 ∷ [])) }
-    -- 57 where the output is an octet short, and the output is as it was
-    ∷ record { asked = rewrite (replicate 7 9) (target Little (indexOf 0)) wrong (paper 8 0x0000000441424300); given = 57 ∷ 0 ∷ replicate 7 9 }
-    -- a value's refusal comes before it
-    ∷ record { asked = rewrite [] (target Little (indexOf 0)) wrong (paper 8 0x0000000441004300); given = 53 ∷ 0 ∷ [] }
-    -- a value without octets needs no output
-    ∷ record { asked = rewrite [] (target Little (indexOf 5)) (paper 4 0) []; given = 0 ∷ 0 ∷ [] }
-    -- "big-endian if none is named"
-    ∷ record { asked = rewrite (replicate 5 9) (target unnamedOrder (indexOf 0)) (paper 4 3) (paper 4 0xFFFFFFFE); given = 0 ∷ 4 ∷ (paper 4 0xFFFFFFFE ++ (9 ∷ [])) }
-    ∷ []
-
-pub rewritings-hold : T (holds rewritings)
-unfolding littleNumber littleOctets numberOf octetsOf numberAt choose readOf fieldOf stringOf textOf endsText overBound runOf countedOf formOf fieldIn skipField skipCounted targetOf aimed spotAt memberAt namesIn countIn typeIn elementIn unionIn encapsulated parametersAt added findIn findPlace positionOf parametersOf leafLabels labelsAfter labelsFor outOfKind labelAmong belowTop entryOf textStep namesStep numberStep countStep anyCount headStep exceptionStep lengthStep textsStep enumStep partOf badDefault switchStep entered closed targetStep indirectionAt nameStep membersAt labelsAt switchedAt discriminantAt endedAt compositeAt enteredAt kindAt enterAt typeAt walkedOf closure anyBelow loopFound memberIs steps loopLast checkedType signExtended after repeats taken done numberTaken octetsStep inside sizeOf contentOf leafDone leafAt textDone textGot textAt countDone countAt elementsAt sequenceAt enter reads reading readingOf valueAnswer flat tableAfter defaultOf chosenOf caseOf memberNo unionAt enumDone enumAt exceptionAt tagDone tagAt runDone runGot runAt profileAt profilesAt objrefAt valueMembers wrote writes rewriteOf rewriteAnswer outputAfter rewritings
-rewritings-hold = tt
 
 -- an item's number, which case it is and its 64 bits
 abbrev pub itemGiven : ℕ → List ℕ → List ℕ → List ℕ

@@ -51,13 +51,13 @@ paper n digits = octetsOf Big n digits
 -- `type`: a byte order and the octets of a TypeCode; the number, then octets used and kinds written
 -- `value`: a lent table, and the octets of a TypeCode and of a value, both big-endian from index 0; the number, then octets used, items and
 -- visits, and all that the table then holds: kind, place and content of each item, and what was there behind them
--- `rewrite`: a lent output, the chosen order and index, and type and value as before; the number, then octets written, and all that the
--- output then holds
+-- `rewrite`: a lent output, the chosen order and index, the octets of a TypeCode, big-endian, and a value; the number, then octets written,
+-- and all that the output then holds
 pub data Question : Type 0 where
   frame : List ℕ → Question
   type : Order → List ℕ → Question
   value : List ℕ → List ℕ → List ℕ → Question
-  rewrite : List ℕ → Target → List ℕ → List ℕ → Question
+  rewrite : List ℕ → Target → List ℕ → Source → Question
 
 abbrev pub fromStart : List ℕ → Source
 fromStart x = source x Big (indexOf 0)
@@ -69,8 +69,7 @@ abbrev pub answer : Question → List ℕ
 answer (frame v) = frameNumbers (frameOf v)
 answer (type order v) = answerNumbers (checkedType v order .answer)
 answer (value table v x) = valueNumbers (valueAnswer v Big (fromStart x) (roomIn table)) ++ tableAfter v Big (fromStart x) table
-answer (rewrite out to v x) =
-    rewriteNumbers (rewriteAnswer v Big (fromStart x) to (length out)) ++ outputAfter v Big (fromStart x) to out
+answer (rewrite out to v x) = rewriteNumbers (rewriteAnswer v Big x to (length out)) ++ outputAfter v Big x to out
 
 pub record Sample : Type 0 where
   pub asked : Question
@@ -107,7 +106,7 @@ samples =
     ∷ record { asked = value lent (paper 20 0x000000130000000C000000000000000300000000) (paper 8 0x0000000200000001); given = 50 ∷ 0 ∷ 0 ∷ 3 ∷ lent }
     -- "that value rewritten little"
     ∷ record {
-      asked = rewrite (replicate 13 9) (target Little (indexOf 0)) (paper 20 0x000000130000000C000000000000000300000000) (paper 12 0x0000000200000001FFFFFFFF);
+      asked = rewrite (replicate 13 9) (target Little (indexOf 0)) (paper 20 0x000000130000000C000000000000000300000000) (fromStart (paper 12 0x0000000200000001FFFFFFFF));
       given = 0 ∷ 12 ∷ (paper 12 0x0200000001000000FFFFFFFF ++ (9 ∷ []));
     }
     -- "type 00000008, value 02: 51, 1 visit"

@@ -27,12 +27,18 @@ use Rattle.reading.specs.Value.{roomIn, overlong, onType, answerOf, readingOf, 
 use Rattle.reading.proofs.Bound.{visits-bound, items-bound}
 use Rattle.met.specs.Met.{noKinds}
 use Rattle.value.specs.declared.Judged.{Judged}
-use Rattle.value.specs.declared.Judged.the-variants.{Sound, Refused as refusedType}
+use Rattle.value.specs.declared.Judged.the-variants.{Accepted as acceptedType, Refused as refusedType}
 use Rattle.value.specs.declared.Typed.{Typed}
 use Rattle.value.specs.declared.ItemAnswer.the-variants.{Refused as refusedItem}
-use Rattle.value.specs.Typed.{typed, judgedBy, typedFor, onJudged}
+use Rattle.value.specs.Typed.{typed, judgedBy, typedFor}
 use Rattle.value.specs.Single.{givenBy, itemAnswer}
-use Rattle.value.specs.Inner.{Bounded, readInto, Read}
+use Rattle.value.specs.Typed.{Bounded}
+use Rattle.value.specs.Inner.{readInto, Read}
+
+-- what follows an accepted type, or a refusal
+abbrev pub onJudged : {A : Type 0} → Judged → (Unit {0} → A) → (ℕ → A) → A
+onJudged acceptedType f g = f tt
+onJudged (refusedType n) f g = g n
 
 -- the check of a type by its ways
 module _ (v : List ℕ) (order : Order) (n : ℕ) where
@@ -54,15 +60,15 @@ module _ (v : List ℕ) (order : Order) (n : ℕ) where
     pub met : checkedType v order .met ≡ m
     pub short : n ≤ octetsLimit
 
-  under-type : (a : TypeAnswer) → checkedType v order .answer ≡ a → judgedBy a ≡ Sound → n ≤ octetsLimit → Under (checkedType v order .met)
+  under-type : (a : TypeAnswer) → checkedType v order .answer ≡ a → judgedBy a ≡ acceptedType → n ≤ octetsLimit → Under (checkedType v order .met)
   under-type (accepted used k) q e short = record { kinds = k; type = accepted-as v order used k q; met = refl; short = short }
   under-type (refused r) q e short = clash cc
   under-type Loop q e short = clash cc
 
-  pub under : (r : Typed) → r ≡ typedFor v order n → r .judged ≡ Sound → Under (r .met)
+  pub under : (r : Typed) → r ≡ typedFor v order n → r .judged ≡ acceptedType → Under (r .met)
   under r e s =
       by-test long
-      (λ t. let q : refusedType 42 ≡ Sound = ap (λ (y : Typed). y .judged) (typed-long t ∙ sym e) ∙ s in clash cc)
+      (λ t. let q : refusedType 42 ≡ acceptedType = ap (λ (y : Typed). y .judged) (typed-long t ∙ sym e) ∙ s in clash cc)
       (λ t. let is : typed (judgedBy (checkedType v order .answer)) (checkedType v order .met) ≡ r = typed-short t ∙ sym e in
       subst Under (ap (λ (y : Typed). y .met) is)
       (under-type (checkedType v order .answer) refl (ap (λ (y : Typed). y .judged) is ∙ s)
@@ -114,7 +120,7 @@ module _ (v : List ℕ) (order : Order) (x : Source) where
     item-refused n number s =
         sym (item-judged n ∙ ap (λ (j : Judged). onJudged j (λ _. givenBy (readingOf anyRoom v order x) n) refusedItem) s)
 
-    pub item-read : (n : ℕ) → r .judged ≡ Sound → givenBy (reading anyRoom x (checked v (r .met))) n ≡ itemAnswer v order x n
+    pub item-read : (n : ℕ) → r .judged ≡ acceptedType → givenBy (reading anyRoom x (checked v (r .met))) n ≡ itemAnswer v order x n
     unfolding readingOf
     item-read n s =
         ap (λ (m : Met). givenBy (reading anyRoom x (checked v m)) n) (sym (under v order octets r e s .met))
@@ -135,7 +141,7 @@ module _ (v : List ℕ) (order : Order) (x : Source) where
           (a, ap (λ (y : ValueAnswer). filledBy y table (readingOf (roomFor (roomIn table)) v order x .kept .items)) a)
 
       -- the reading under an accepted type is the answer, and fills the table
-      pub value-read : r .judged ≡ Sound → (y : ValueAnswer) (after : List ℕ) → Read (checked v (r .met)) x table y after
+      pub value-read : r .judged ≡ acceptedType → (y : ValueAnswer) (after : List ℕ) → Read (checked v (r .met)) x table y after
           → (y ≡ answer) × (after ≡ tableAfter v order x table)
       unfolding tableAfter readingOf
       value-read s y after read =

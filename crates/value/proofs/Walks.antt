@@ -21,7 +21,8 @@ use Rattle.leaves.specs.Walk.{stateOf, startOf}
 use Rattle.leaves.proofs.Filling.{roomIn, stored, Small, walked, filled, row, picked}
 use Rattle.value.specs.declared.ItemAnswer.the-variants.{Given, Refused as refusedItem}
 use Rattle.value.specs.Single.{givenBy}
-use Rattle.value.specs.Inner.{Bounded, readInto, Read}
+use Rattle.value.specs.Typed.{Bounded}
+use Rattle.value.specs.Inner.{readInto, Read}
 
 -- a cursor and a table after a walk
 pub record After (limited fill : Bool) (first : ℕ) (x : Source) (t : Checked) (table : List ℕ) (c : Cursor) (after : List ℕ) : Type 0 where

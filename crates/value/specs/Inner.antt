@@ -1,21 +1,14 @@
 -- What the private functions of the crate promise each other; nothing that a caller is told rests on these names.
---   Bounded    a machine word holds the visits and the items of every reading
 --   readInto   what reading into a table answers
 --   Read       an answer and a table that are those of a reading
 use mathlib.Core.Path.{_≡_}
 use mathlib.Core.List.{List}
-use mathlib.Core.Bool.{Bool}
-use Prim.Native.Nat.{ℕ, _^_, _<_}
-use lib.ListN.{length}
+use Prim.Native.Nat.{ℕ}
 use Rattle.reading.specs.declared.ValueAnswer.{ValueAnswer}
 use Rattle.reading.specs.Sinks.{Source}
 use Rattle.reading.specs.Visit.{Checked}
 use Rattle.reading.specs.Reading.{roomFor, reading}
 use Rattle.reading.specs.Value.{roomIn, answerOf, filledBy}
-
-pub record Bounded (t : Checked) (x : Source) : Type 0 where
-  pub visits : (full : ℕ → Bool) → reading full x t .kept .visits < 2 ^ 64
-  pub items : (full : ℕ → Bool) → length (reading full x t .kept .items) < 2 ^ 64
 
 abbrev pub readInto : Checked → Source → List ℕ → ValueAnswer
 readInto t x table = answerOf (reading (roomFor (roomIn table)) x t)

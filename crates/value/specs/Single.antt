@@ -10,10 +10,9 @@ use lib.ListN.{length}
 use Rattle.choices.specs.Branch.{choose}
 use Rattle.cdr.specs.declared.Order.{Order}
 use Rattle.items.specs.Items.{itemOf, itemNumbers}
-use Rattle.typecode.specs.TypeCode.{checkedType}
 use Rattle.reading.specs.Sinks.{Source, St}
 use Rattle.reading.specs.Reading.{Log, anyRoom}
-use Rattle.reading.specs.Value.{overlong, onType, readingOf, itemNo}
+use Rattle.reading.specs.Value.{readingOf, underType, itemNo}
 use Rattle.value.specs.declared.ItemAnswer.{ItemAnswer}
 use Rattle.value.specs.declared.ItemAnswer.the-variants.{Given, Refused}
 
@@ -34,7 +33,4 @@ givenBy s n =
     (λ _. Refused (s .fault))
 
 unfoldable pub itemAnswer : List ℕ → Order → Source → ℕ → ItemAnswer
-itemAnswer v order x n =
-    choose (overlong v x)
-    (λ _. Refused 42)
-    (λ _. onType (checkedType v order .answer) (λ _. givenBy (readingOf anyRoom v order x) n) Refused)
+itemAnswer v order x n = underType v order x (λ _. givenBy (readingOf anyRoom v order x) n) Refused

@@ -2,10 +2,10 @@
 --   typed       the judgement and the kinds
 --   judgedBy    what a type's check means for a value of it
 --   typedFor    what a value of so many octets is read under
---   onJudged    what follows an accepted type, or a refusal
-use Prim.Native.Nat.{ℕ}
+--   Bounded     a machine word holds the visits and the items of every reading
+use Prim.Native.Nat.{ℕ, _^_, _<_}
 use mathlib.Core.List.{List}
-use mathlib.Core.Bool.{_||_}
+use mathlib.Core.Bool.{Bool, _||_}
 use lib.Dec.{ltb}
 use lib.ListN.{length}
 use Rattle.choices.specs.Branch.{choose}
@@ -15,16 +15,19 @@ use Rattle.met.specs.Met.{noKinds}
 use Rattle.checking.specs.Types.{octetsLimit}
 use Rattle.typecode.specs.declared.TypeAnswer.{TypeAnswer}
 use Rattle.typecode.specs.TypeCode.{checkedType}
+use Rattle.reading.specs.Sinks.{Source}
+use Rattle.reading.specs.Visit.{Checked}
+use Rattle.reading.specs.Reading.{reading}
 use Rattle.reading.specs.Value.{onType}
 use Rattle.value.specs.declared.Judged.{Judged}
-use Rattle.value.specs.declared.Judged.the-variants.{Sound, Refused}
+use Rattle.value.specs.declared.Judged.the-variants.{Accepted, Refused}
 use Rattle.value.specs.declared.Typed.{Typed}
 
 abbrev pub typed : Judged → Met → Typed
 typed judged met = record { judged = judged; met = met }
 
 abbrev pub judgedBy : TypeAnswer → Judged
-judgedBy a = onType a (λ _. Sound) Refused
+judgedBy a = onType a (λ _. Accepted) Refused
 
 unfoldable pub typedFor : List ℕ → Order → ℕ → Typed
 typedFor v order n =
@@ -32,6 +35,6 @@ typedFor v order n =
     (λ _. typed (Refused 42) noKinds)
     (λ _. typed (judgedBy (checkedType v order .answer)) (checkedType v order .met))
 
-abbrev pub onJudged : {A : Type 0} → Judged → (Unit {0} → A) → (ℕ → A) → A
-onJudged Sound f g = f tt
-onJudged (Refused n) f g = g n
+pub record Bounded (t : Checked) (x : Source) : Type 0 where
+  pub visits : (full : ℕ → Bool) → reading full x t .kept .visits < 2 ^ 64
+  pub items : (full : ℕ → Bool) → length (reading full x t .kept .items) < 2 ^ 64

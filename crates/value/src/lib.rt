@@ -9,7 +9,8 @@ ghost use Rattle.checking.specs.Types.{octetsLimit};
 ghost use Rattle.reading.specs.Value.{roomIn, valueAnswer, tableAfter};
 ghost use Rattle.value.specs.Typed.{judgedBy, typedFor};
 ghost use Rattle.value.specs.Single.{givenBy, itemAnswer};
-ghost use Rattle.value.specs.Inner.{Bounded, Read};
+ghost use Rattle.value.specs.Typed.{Bounded};
+ghost use Rattle.value.specs.Inner.{Read};
 use cdr::Index;
 use cdr::Order;
 use items::Item;
@@ -20,7 +21,7 @@ use typecode::TypeAnswer;
 
 // Whether a value may be read under a type, or 01's number of the refusal.
 pub enum Judged {
-    Sound,
+    Accepted,
     Refused(u32),
 }
 
@@ -54,7 +55,7 @@ pub fn read_value(
     let met = c.met;
     let judged = c.judged;
     match judged {
-        Judged::Sound => read_into(t, met, v, order, start, table),
+        Judged::Accepted => read_into(t, met, v, order, start, table),
         Judged::Refused(number) => ValueAnswer::Refused { number, visits: 0 },
     }
 }
@@ -74,7 +75,7 @@ pub fn read_item(
     let met = c.met;
     let judged = c.judged;
     match judged {
-        Judged::Sound => pick(t, met, v, order, start, number),
+        Judged::Accepted => pick(t, met, v, order, start, number),
         Judged::Refused(refusal) => ItemAnswer::Refused(refusal),
     }
 }
@@ -103,7 +104,7 @@ fn judge(answer: TypeAnswer) -> Judged
     ensures { λ r. ⌜ r ≡ judgedBy answer ⌝ }
 {
     match answer {
-        TypeAnswer::Accepted { used: _, kinds: _ } => Judged::Sound,
+        TypeAnswer::Accepted { used: _, kinds: _ } => Judged::Accepted,
         TypeAnswer::Refused(refusal) => Judged::Refused(refusal.number()),
         TypeAnswer::Loop => Judged::Refused(refusals::LOOP),
     }

@@ -1,5 +1,5 @@
 -- What an accepted answer tells of the type, of the octets and of the reading, and where the answer is accepted.
-use mathlib.Core.Path.{_≡_, refl}
+use mathlib.Core.Path.{_≡_, refl, subst}
 use mathlib.Core.List.{List}
 use mathlib.Core.Bool.{Bool, true, false}
 use Prim.Native.Nat.{ℕ, _≤_}
@@ -63,6 +63,19 @@ written-accepted : (s : St Log) (to : Target) (room n : ℕ) → WrittenAs s to 
 unfolding rewriteOf choose
 written-accepted s to room n r h = rw (eq-eqb (s .fault) 0 (r .fault), r .count, le-ltb room n h)
 
+room-by : (s : St Log) (to : Target) (room n : ℕ) (t u : Bool) → ltb room (length (written to s)) ≡ u
+    → choose t (λ _. choose u (λ _. refused 57) (λ _. accepted (length (written to s)))) (λ _. refused (s .fault)) ≡ accepted n → n ≤ room
+unfolding choose
+room-by s to room n true true u e = clash cc
+room-by s to room n true false u e =
+    let c : length (written to s) ≡ n = cc in
+    subst (λ (k : ℕ). k ≤ room) c (ltb-false room (length (written to s)) u)
+room-by s to room n false t u e = clash cc
+
+written-room : (s : St Log) (to : Target) (room n : ℕ) → rewriteOf s to room ≡ accepted n → n ≤ room
+unfolding rewriteOf
+written-room s to room n e = room-by s to room n _ _ refl e
+
 -- under an accepted type, and octets that are not over the limit
 pub record RewrittenAs (v : List ℕ) (order : Order) (x : Source) (to : Target) (n : ℕ) : Type 0 where
   pub typeShort : length v ≤ octetsLimit
@@ -107,3 +120,20 @@ module _ (v : List ℕ) (order : Order) (x : Source) (to : Target) (room n : ℕ
   pub rewritten-accepted : RewrittenAs v order x to n → n ≤ room → rewriteAnswer v order x to room ≡ accepted n
   unfolding rewriteAnswer choose
   rewritten-accepted r h = rw (not-overlong r, r .type) (written-accepted (readingOf anyRoom v order x) to room n (r .octets) h)
+
+  -- what is accepted has room
+  room-type : (a : TypeAnswer) → onType a (λ _. rewriteOf (readingOf anyRoom v order x) to room) refused ≡ accepted n → n ≤ room
+  room-type (acceptedType used kinds) e = written-room (readingOf anyRoom v order x) to room n e
+  room-type (refusedType r) e = clash cc
+  room-type Loop e = clash cc
+
+  rewritten-room-by : (t : Bool)
+      → choose t (λ _. refused 42) (λ _. onType (checkedType v order .answer) (λ _. rewriteOf (readingOf anyRoom v order x) to room) refused)
+      ≡ accepted n → n ≤ room
+  unfolding choose
+  rewritten-room-by true e = clash cc
+  rewritten-room-by false e = room-type (checkedType v order .answer) e
+
+  pub rewritten-room : rewriteAnswer v order x to room ≡ accepted n → n ≤ room
+  unfolding rewriteAnswer
+  rewritten-room e = rewritten-room-by (overlong v x) e

@@ -10,9 +10,9 @@ use lib.Seq.{drop-append-seam, take-at}
 use Rattle.cdr.specs.declared.Size.{Size}
 use Rattle.cdr.specs.declared.Read.the-variants.{Number}
 use Rattle.cdr.specs.Align.{octets, gap, behindGap}
-use Rattle.cdr.specs.Number.{numberOf, octetsOf, numberAt, readOf}
+use Rattle.cdr.specs.Number.{Octets, numberOf, octetsOf, numberAt, readOf}
 use Rattle.cdr.proofs.Alignment.{read-number, read-facts}
-use Rattle.cdr.proofs.Numbers.{Octets, octets-length, number-small, number-of-octets}
+use Rattle.cdr.proofs.Numbers.{octets-length, number-small, number-of-octets}
 use Rattle.reading.specs.Sinks.{Source, source, item, Piece, number, run, St, taken, readAt, tookNumber, tookOctets}
 use Rattle.reading.specs.Visit.{Checked}
 use Rattle.reading.specs.Reading.{Log, logging, levels, atStart, topOf, reading}

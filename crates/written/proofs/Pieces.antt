@@ -15,6 +15,7 @@ use Rattle.cdr.proofs.Numbers.{octets-length}
 use Rattle.reading.specs.Sinks.{Source, Piece, number, run, St}
 use Rattle.reading.specs.Visit.{Checked}
 use Rattle.reading.specs.Reading.{Log, reading}
+use Rattle.written.specs.Rewriting.{rewriteOf}
 use Rattle.written.specs.Written.{Target, target, wrote, writes, written, bare}
 use Rattle.written.proofs.Taken.{EachKeeps, reading-keeps}
 
@@ -46,18 +47,16 @@ writes-bare to out (p ∷ ps) = ap (λ (l : List ℕ). writes to l (map bare ps)
 pub same-octets : (to : Target) (s s′ : St Log) → map bare (s .kept .pieces) ≡ map bare (s′ .kept .pieces) → written to s ≡ written to s′
 same-octets to s s′ e = sym (writes-bare to [] (s .kept .pieces)) ∙ ap (writes to []) e ∙ writes-bare to [] (s′ .kept .pieces)
 
+pub same-answer : (to : Target) (s s′ : St Log) → s .fault ≡ s′ .fault → map bare (s .kept .pieces) ≡ map bare (s′ .kept .pieces)
+    → (room : ℕ) → rewriteOf s to room ≡ rewriteOf s′ to room
+unfolding rewriteOf
+same-answer to s s′ f e room = rw (f, same-octets to s s′ e)
+
 -- how long it is with a number more, and with octets more
 pub number-length : (to : Target) (out : List ℕ) (before place size value : ℕ)
     → length (wrote to out (number before place size value)) ≡ length out + gap (to .start .0 + length out) size + size
 unfolding wrote
-number-length to out before place size value =
-    let zeros : List ℕ = replicate (gap (to .start .0 + length out) size) 0 in
-    let these : List ℕ = octetsOf (to .order) size value in
-    let a = length-append out (zeros ++ these) in
-    let b = length-append zeros these in
-    let c : length zeros ≡ gap (to .start .0 + length out) size = length-replicate (gap (to .start .0 + length out) size) 0 in
-    let d = octets-length (to .order) size value in
-    omega arith
+number-length to out before place size value = simp (length-append, length-replicate, octets-length) (omega arith)
 
 pub run-length : (to : Target) (out : List ℕ) (place : ℕ) (these : List ℕ) → length (wrote to out (run place these)) ≡ length out + length these
 unfolding wrote
@@ -104,8 +103,9 @@ module _ (order : Order) (i j : ℕ) (alike : i % 8 ≡ j % 8) where
       → wrote first out (number before place (octets size) value) ≡ wrote second out (number before place (octets size) value)
   unfolding wrote
   number-alike out before place size value =
-      ap (λ (k : ℕ). out ++ (replicate k 0 ++ octetsOf order (octets size) value))
-      (sym (gap-modulo-8 size i (length out)) ∙ ap (λ (k : ℕ). gap (k + length out) (octets size)) alike ∙ gap-modulo-8 size j (length out))
+      let e : gap (i + length out) (octets size) ≡ gap (j + length out) (octets size) =
+      sym (gap-modulo-8 size i (length out)) ∙ ap (λ (k : ℕ). gap (k + length out) (octets size)) alike ∙ gap-modulo-8 size j (length out) in
+      rw e
 
   run-alike : (out : List ℕ) (place : ℕ) (these : List ℕ) → wrote first out (run place these) ≡ wrote second out (run place these)
   unfolding wrote

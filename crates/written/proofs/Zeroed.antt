@@ -9,26 +9,26 @@ use lib.Seq.{sets, sets-eq, take-append-seam, drop-append-add, drop-at, take-add
 use Rattle.cdr.specs.declared.Size.{Size}
 use Rattle.cdr.specs.declared.Order.{Order}
 use Rattle.cdr.specs.Align.{octets, gap, behindGap}
-use Rattle.cdr.specs.Number.{octetsOf, numberAt}
+use Rattle.cdr.specs.Number.{Octets, octetsOf, numberAt}
 use Rattle.cdr.proofs.Alignment.{NumberRead}
-use Rattle.cdr.proofs.Numbers.{Octets, part-octets, octets-of-number}
+use Rattle.cdr.proofs.Numbers.{part-octets, octets-of-number}
 use Rattle.reading.specs.Sinks.{Source, Piece, number, run}
 use Rattle.reading.specs.Visit.{Checked}
 use Rattle.reading.specs.Reading.{reading}
-use Rattle.written.specs.Written.{wrote, writes, written, cleared, clears, usedZeroed}
-use Rattle.written.specs.Trip.{firstOf}
+use Rattle.written.specs.Written.{wrote, writes, written, gapZeroed, gapsZeroed, usedZeroed}
+use Rattle.written.specs.RoundTrip.{firstTarget}
 use Rattle.written.proofs.Taken.{EachKeeps, reading-keeps}
 use Rattle.written.proofs.Pieces.{writes-more, writes-none, number-length, part-length}
 
 -- one piece more
-clears-more : (v : List ℕ) (ps : List Piece) (p : Piece) → clears v (ps ++ (p ∷ [])) ≡ cleared (clears v ps) p
-unfolding clears
-clears-more v [] p = refl
-clears-more v (q ∷ ps) p = clears-more (cleared v q) ps p
+gapsZeroed-more : (v : List ℕ) (ps : List Piece) (p : Piece) → gapsZeroed v (ps ++ (p ∷ [])) ≡ gapZeroed (gapsZeroed v ps) p
+unfolding gapsZeroed
+gapsZeroed-more v [] p = refl
+gapsZeroed-more v (q ∷ ps) p = gapsZeroed-more (gapZeroed v q) ps p
 
-clears-none : (v : List ℕ) → clears v [] ≡ v
-unfolding clears
-clears-none v = refl
+gapsZeroed-none : (v : List ℕ) → gapsZeroed v [] ≡ v
+unfolding gapsZeroed
+gapsZeroed-none v = refl
 
 -- octets over as many others
 sets-over : (w a b z : List ℕ) → length a ≡ length z → sets (w ++ (a ++ b)) (length w) z ≡ w ++ (z ++ b)
@@ -60,13 +60,13 @@ take-parts v at p n h =
 module _ (x : Source) (ok : Octets (x .octets)) where
   -- as many octets as were used; and where other octets follow the used ones, they follow what is written
   record OwnOrder (at : ℕ) (ps : List Piece) : Type 0 where
-    long : length (writes (firstOf x) [] ps) ≡ at
-    is : (rest : List ℕ) → clears (take at (x .octets) ++ rest) ps ≡ writes (firstOf x) [] ps ++ rest
+    long : length (writes (firstTarget x) [] ps) ≡ at
+    is : (rest : List ℕ) → gapsZeroed (take at (x .octets) ++ rest) ps ≡ writes (firstTarget x) [] ps ++ rest
 
   -- with a number more, and with octets more
   module _ (size : Size) (at p n : ℕ) (ps : List Piece) (r : NumberRead (x .octets) (x .start) at size (x .order) p n) (h : OwnOrder at ps) where
     abbrev out : List ℕ
-    out = writes (firstOf x) [] ps
+    out = writes (firstTarget x) [] ps
 
     abbrev piece : Piece
     piece = number (p - at) p (octets size) n
@@ -83,28 +83,28 @@ module _ (x : Source) (ok : Octets (x .octets)) where
     from-at : at ≤ p
     from-at = let a = r .place in omega arith
 
-    own-number : writes (firstOf x) [] (ps ++ (piece ∷ [])) ≡ out ++ (zeros ++ these)
+    own-number : writes (firstTarget x) [] (ps ++ (piece ∷ [])) ≡ out ++ (zeros ++ these)
     unfolding wrote
     own-number =
         let a = r .place in
         let g : gap (x .start .0 + at) (octets size) ≡ p - at = omega arith in
-        writes-more (firstOf x) [] ps piece
+        writes-more (firstTarget x) [] ps piece
         ∙ ap (λ (k : ℕ). out ++ (replicate (gap (x .start .0 + k) (octets size)) 0 ++ octetsOf (x .order) (octets size) n)) (h .long)
         ∙ ap (λ (k : ℕ). out ++ (replicate k 0 ++ octetsOf (x .order) (octets size) n)) g
         ∙ ap (λ (l : List ℕ). out ++ (zeros ++ l))
         (ap (octetsOf (x .order) (octets size)) (r .value) ∙ octets-at (x .octets) p (octets size) (x .order) ok (r .fits))
 
-    own-length : length (writes (firstOf x) [] (ps ++ (piece ∷ []))) ≡ p + octets size
+    own-length : length (writes (firstTarget x) [] (ps ++ (piece ∷ []))) ≡ p + octets size
     own-length =
-        ap length (writes-more (firstOf x) [] ps piece)
-        ∙ number-length (firstOf x) out (p - at) p (octets size) n
+        ap length (writes-more (firstTarget x) [] ps piece)
+        ∙ number-length (firstTarget x) out (p - at) p (octets size) n
         ∙ ap (λ (k : ℕ). behindGap (x .start) k (octets size) + octets size) (h .long)
         ∙ ap (λ (k : ℕ). k + octets size) (sym (r .place))
 
-    cleared-so-far : (rest : List ℕ) → clears (take (p + octets size) (x .octets) ++ rest) ps ≡ out ++ (before ++ (these ++ rest))
-    cleared-so-far rest =
-        ap (λ (l : List ℕ). clears (l ++ rest) ps) (take-parts (x .octets) at p (octets size) from-at)
-        ∙ ap (λ (l : List ℕ). clears l ps) (append-assoc (take at (x .octets)) (before ++ these) rest)
+    gapZeroed-so-far : (rest : List ℕ) → gapsZeroed (take (p + octets size) (x .octets) ++ rest) ps ≡ out ++ (before ++ (these ++ rest))
+    gapZeroed-so-far rest =
+        ap (λ (l : List ℕ). gapsZeroed (l ++ rest) ps) (take-parts (x .octets) at p (octets size) from-at)
+        ∙ ap (λ (l : List ℕ). gapsZeroed l ps) (append-assoc (take at (x .octets)) (before ++ these) rest)
         ∙ h .is ((before ++ these) ++ rest)
         ∙ ap (λ (l : List ℕ). out ++ l) (append-assoc before these rest)
 
@@ -114,12 +114,12 @@ module _ (x : Source) (ok : Octets (x .octets)) where
         let b = from-at in
         part-length (x .octets) at (p - at) (omega arith) ∙ sym (length-replicate (p - at) 0)
 
-    own-cleared : (rest : List ℕ)
-        → clears (take (p + octets size) (x .octets) ++ rest) (ps ++ (piece ∷ [])) ≡ writes (firstOf x) [] (ps ++ (piece ∷ [])) ++ rest
-    own-cleared rest =
+    own-gapZeroed : (rest : List ℕ)
+        → gapsZeroed (take (p + octets size) (x .octets) ++ rest) (ps ++ (piece ∷ [])) ≡ writes (firstTarget x) [] (ps ++ (piece ∷ [])) ++ rest
+    own-gapZeroed rest =
         let a : p - (p - at) ≡ length out = let b = from-at in let c = h .long in omega arith in
-        clears-more (take (p + octets size) (x .octets) ++ rest) ps piece
-        ∙ ap (λ (l : List ℕ). sets l (p - (p - at)) zeros) (cleared-so-far rest)
+        gapsZeroed-more (take (p + octets size) (x .octets) ++ rest) ps piece
+        ∙ ap (λ (l : List ℕ). sets l (p - (p - at)) zeros) (gapZeroed-so-far rest)
         ∙ ap (λ (k : ℕ). sets (out ++ (before ++ (these ++ rest))) k zeros) a
         ∙ sets-over out before (these ++ rest) zeros before-length
         ∙ ap (λ (l : List ℕ). out ++ l) (sym (append-assoc zeros these rest))
@@ -130,15 +130,15 @@ module _ (x : Source) (ok : Octets (x .octets)) where
       → OwnOrder (at + n) (ps ++ (run at (take n (drop at (x .octets))) ∷ []))
   unfolding wrote
   own-run at n ps fits h =
-      let out : List ℕ = writes (firstOf x) [] ps in
+      let out : List ℕ = writes (firstTarget x) [] ps in
       let these : List ℕ = take n (drop at (x .octets)) in
-      let more : writes (firstOf x) [] (ps ++ (run at these ∷ [])) ≡ out ++ these = writes-more (firstOf x) [] ps (run at these) in
+      let more : writes (firstTarget x) [] (ps ++ (run at these ∷ [])) ≡ out ++ these = writes-more (firstTarget x) [] ps (run at these) in
       record {
         long = let a = ap length more in let b = length-append out these in let c = part-length (x .octets) at n fits in let d = h .long in omega arith;
         is = λ rest.
-            clears-more (take (at + n) (x .octets) ++ rest) ps (run at these)
-            ∙ ap (λ (l : List ℕ). clears (l ++ rest) ps) (take-add at n (x .octets))
-            ∙ ap (λ (l : List ℕ). clears l ps) (append-assoc (take at (x .octets)) these rest)
+            gapsZeroed-more (take (at + n) (x .octets) ++ rest) ps (run at these)
+            ∙ ap (λ (l : List ℕ). gapsZeroed (l ++ rest) ps) (take-add at n (x .octets))
+            ∙ ap (λ (l : List ℕ). gapsZeroed l ps) (append-assoc (take at (x .octets)) these rest)
             ∙ h .is (these ++ rest)
             ∙ sym (append-assoc out these rest)
             ∙ ap (λ (l : List ℕ). l ++ rest) (sym more);
@@ -146,12 +146,12 @@ module _ (x : Source) (ok : Octets (x .octets)) where
 
   own-none : OwnOrder 0 []
   own-none =
-      let e = writes-none (firstOf x) in
-      record { long = ap length e; is = λ rest. clears-none rest ∙ ap (λ (l : List ℕ). l ++ rest) (sym e) }
+      let e = writes-none (firstTarget x) in
+      record { long = ap length e; is = λ rest. gapsZeroed-none rest ∙ ap (λ (l : List ℕ). l ++ rest) (sym e) }
 
   own-kept : EachKeeps x OwnOrder
   own-kept = record {
-    number-keeps = λ size at p n ps r h. record { long = own-length size at p n ps r h; is = own-cleared size at p n ps r h };
+    number-keeps = λ size at p n ps r h. record { long = own-length size at p n ps r h; is = own-gapZeroed size at p n ps r h };
     run-keeps = own-run;
   }
 
@@ -159,13 +159,13 @@ module _ (x : Source) (ok : Octets (x .octets)) where
     own-order : OwnOrder (reading full x t .at) (reading full x t .kept .pieces)
     own-order = reading-keeps full x OwnOrder own-kept own-none t
 
-    pub own-octets : written (firstOf x) (reading full x t) ≡ usedZeroed x (reading full x t)
+    pub own-octets : written (firstTarget x) (reading full x t) ≡ usedZeroed x (reading full x t)
     own-octets =
         let s = reading full x t in
         sym
-        (ap (λ (l : List ℕ). clears l (s .kept .pieces)) (sym (append-nil (take (s .at) (x .octets))))
+        (ap (λ (l : List ℕ). gapsZeroed l (s .kept .pieces)) (sym (append-nil (take (s .at) (x .octets))))
         ∙ own-order .is []
-        ∙ append-nil (written (firstOf x) s))
+        ∙ append-nil (written (firstTarget x) s))
 
-    pub own-count : length (written (firstOf x) (reading full x t)) ≡ reading full x t .at
+    pub own-count : length (written (firstTarget x) (reading full x t)) ≡ reading full x t .at
     own-count = own-order .long

@@ -1,4 +1,4 @@
 -- Rewriting a value.
 pub mod Written
 pub mod Rewriting
-pub mod Trip
+pub mod RoundTrip

@@ -1,6 +1,6 @@
 -- What rewriting a value answers: "refusals as reading without 56, then 57, output too short". "The answer gives octets written."
 --   rewriteNumber   01's number of an answer, 0 where the value is written
---   countIn         the octets written, by an answer that gives them
+--   writtenCount    the octets written, or what was there before where none are
 --   rewriteNumbers  an answer's number, and octets written: a refusal's other number is 0
 --   rewriteOf       the answer for a reading, where there is room for so many octets
 --   rewriteAnswer   the answer: 42 "before the type check", then the type's refusal, then the value's, then 57
@@ -14,10 +14,9 @@ use lib.ListN.{length}
 use lib.Seq.{sets}
 use Rattle.choices.specs.Branch.{choose}
 use Rattle.cdr.specs.declared.Order.{Order}
-use Rattle.typecode.specs.TypeCode.{checkedType}
 use Rattle.reading.specs.Sinks.{Source, St}
 use Rattle.reading.specs.Reading.{Log, anyRoom}
-use Rattle.reading.specs.Value.{overlong, onType, readingOf}
+use Rattle.reading.specs.Value.{readingOf, underType}
 use Rattle.written.specs.declared.RewriteAnswer.{RewriteAnswer}
 use Rattle.written.specs.declared.RewriteAnswer.the-variants.{Accepted, Refused}
 use Rattle.written.specs.Written.{Target, written}
@@ -26,12 +25,12 @@ abbrev pub rewriteNumber : RewriteAnswer → ℕ
 rewriteNumber (Accepted count) = 0
 rewriteNumber (Refused number) = number
 
-abbrev pub countIn : RewriteAnswer → ℕ → ℕ
-countIn (Accepted count) before = count
-countIn (Refused number) before = before
+abbrev pub writtenCount : RewriteAnswer → ℕ → ℕ
+writtenCount (Accepted count) before = count
+writtenCount (Refused number) before = before
 
 abbrev pub rewriteNumbers : RewriteAnswer → List ℕ
-rewriteNumbers a = rewriteNumber a ∷ countIn a 0 ∷ []
+rewriteNumbers a = rewriteNumber a ∷ writtenCount a 0 ∷ []
 
 unfoldable pub rewriteOf : St Log → Target → ℕ → RewriteAnswer
 rewriteOf s to room =
@@ -42,10 +41,7 @@ rewriteOf s to room =
     (λ _. Refused (s .fault))
 
 unfoldable pub rewriteAnswer : List ℕ → Order → Source → Target → ℕ → RewriteAnswer
-rewriteAnswer v order x to room =
-    choose (overlong v x)
-    (λ _. Refused 42)
-    (λ _. onType (checkedType v order .answer) (λ _. rewriteOf (readingOf anyRoom v order x) to room) Refused)
+rewriteAnswer v order x to room = underType v order x (λ _. rewriteOf (readingOf anyRoom v order x) to room) Refused
 
 abbrev pub rewritten : List ℕ → Order → Source → Target → List ℕ
 rewritten v order x to = written to (readingOf anyRoom v order x)

@@ -1,4 +1,4 @@
--- "The same value in a chosen order, and index: smallest gaps, all zero." What is written is a fold over the pieces that the reading tells,
+-- "The same value in a chosen order, .. and index: smallest gaps, all zero." What is written is a fold over the pieces that the reading tells,
 -- whatever kinds they come from.
 --   Target         the chosen order and index; a gap depends on the index modulo 8 alone (`target-modulo-8`), so the index stands here as it is
 --                  given; `target` the same from its parts
@@ -6,8 +6,8 @@
 --   wrote          a piece behind what is written: a number behind the smallest gap, all zero, in the chosen order; a run as it is
 --   writes         pieces behind what is written, one after the other
 --   written        the octets of a reading
---   cleared        octets of a value with the gap before a piece zero
---   clears         the same for the gaps before pieces, one after the other
+--   gapZeroed        octets of a value with the gap before a piece zero
+--   gapsZeroed         the same for the gaps before pieces, one after the other
 --   usedZeroed     "the used octets with gaps zeroed"
 --   unplaced       an item without its place: "the same items except places"
 --   bare           a piece without its place and the gap before it
@@ -44,16 +44,16 @@ writes to out (p ∷ ps) = writes to (wrote to out p) ps
 abbrev pub written : Target → St Log → List ℕ
 written to s = writes to [] (s .kept .pieces)
 
-abbrev pub cleared : List ℕ → Piece → List ℕ
-cleared v (number before place size value) = sets v (place - before) (replicate before 0)
-cleared v (run place these) = v
+abbrev pub gapZeroed : List ℕ → Piece → List ℕ
+gapZeroed v (number before place size value) = sets v (place - before) (replicate before 0)
+gapZeroed v (run place these) = v
 
-unfoldable pub clears : List ℕ → List Piece → List ℕ
-clears v [] = v
-clears v (p ∷ ps) = clears (cleared v p) ps
+unfoldable pub gapsZeroed : List ℕ → List Piece → List ℕ
+gapsZeroed v [] = v
+gapsZeroed v (p ∷ ps) = gapsZeroed (gapZeroed v p) ps
 
 abbrev pub usedZeroed : Source → St Log → List ℕ
-usedZeroed x s = clears (take (s .at) (x .octets)) (s .kept .pieces)
+usedZeroed x s = gapsZeroed (take (s .at) (x .octets)) (s .kept .pieces)
 
 abbrev pub unplaced : Item → Item
 unplaced i = item (i .kind) 0 (i .content)

@@ -1,6 +1,7 @@
 //! The proved library, each of its functions behind one safe call.
 
 use second::joining::Record;
+use second::rewrite::Chosen;
 use second::typecode::MOST_KINDS;
 use second::value::Input;
 
@@ -100,6 +101,39 @@ extern "C" {
         start: usize,
         number: u64,
         answer: *mut u64,
+    ) -> u32;
+
+    /// A value in a chosen order and from a chosen index on: 0, or a refusal, of
+    /// the type, 42, 50 to 55 or 57. The output and the count, the octets
+    /// written, change at 0 only.
+    fn haulspar_rewrite(
+        typecode: *const u8,
+        type_len: usize,
+        type_little: bool,
+        value: *const u8,
+        value_len: usize,
+        value_little: bool,
+        start: usize,
+        to_little: bool,
+        to_start: usize,
+        out: *mut u8,
+        out_len: usize,
+        count: *mut u64,
+    ) -> u32;
+
+    /// The same with no order named.
+    fn haulspar_rewrite_unnamed(
+        typecode: *const u8,
+        type_len: usize,
+        type_little: bool,
+        value: *const u8,
+        value_len: usize,
+        value_little: bool,
+        start: usize,
+        to_start: usize,
+        out: *mut u8,
+        out_len: usize,
+        count: *mut u64,
     ) -> u32;
 }
 
@@ -213,6 +247,55 @@ pub fn item(input: Input, number: u64, answer: &mut [u64; 2]) -> u32 {
             input.start,
             number,
             answer.as_mut_ptr(),
+        )
+    }
+}
+
+/// A value rewritten as chosen at the start of `out`.
+pub fn rewrite(input: Input, chosen: Chosen, out: &mut [u8], count: &mut u64) -> u32 {
+    match chosen.little {
+        Some(little) => rewrite_named(input, little, chosen.start, out, count),
+        None => rewrite_unnamed(input, chosen.start, out, count),
+    }
+}
+
+/// A value rewritten in an order that is named.
+fn rewrite_named(input: Input, little: bool, start: usize, out: &mut [u8], count: &mut u64) -> u32 {
+    // SAFETY: pointers and lengths are those of live, distinct borrows.
+    unsafe {
+        haulspar_rewrite(
+            input.typecode.octets.as_ptr(),
+            input.typecode.octets.len(),
+            input.typecode.little,
+            input.value.octets.as_ptr(),
+            input.value.octets.len(),
+            input.value.little,
+            input.start,
+            little,
+            start,
+            out.as_mut_ptr(),
+            out.len(),
+            count,
+        )
+    }
+}
+
+/// A value rewritten with no order named.
+fn rewrite_unnamed(input: Input, start: usize, out: &mut [u8], count: &mut u64) -> u32 {
+    // SAFETY: pointers and lengths are those of live, distinct borrows.
+    unsafe {
+        haulspar_rewrite_unnamed(
+            input.typecode.octets.as_ptr(),
+            input.typecode.octets.len(),
+            input.typecode.little,
+            input.value.octets.as_ptr(),
+            input.value.octets.len(),
+            input.value.little,
+            input.start,
+            start,
+            out.as_mut_ptr(),
+            out.len(),
+            count,
         )
     }
 }

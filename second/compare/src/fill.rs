@@ -54,6 +54,22 @@ impl Value {
             marks: Vec::new(),
         }
     }
+
+    /// Adds a number of so many octets after its gap, and says where.
+    pub fn number(&mut self, width: usize, number: u64, mut gap: impl FnMut() -> u8) -> usize {
+        let first = self.start % 8;
+        while !(first + self.octets.len()).is_multiple_of(width) {
+            self.octets.push(gap());
+        }
+        let place = self.octets.len();
+        let octets = number.to_le_bytes();
+        let octets = octets[..width].iter();
+        match self.little {
+            true => self.octets.extend(octets),
+            false => self.octets.extend(octets.rev()),
+        }
+        place
+    }
 }
 
 /// How large a value becomes.
@@ -83,9 +99,20 @@ struct Filler<'a> {
     value: Value,
 }
 
-/// A value of a type, whose first octet has this index.
+/// A value of a type in either order, whose first octet has this index.
 pub fn filled(chance: &mut Chance, digest: &Digest, start: usize, extent: Extent) -> Value {
     let little = chance.once_in(2);
+    filled_in(chance, digest, little, start, extent)
+}
+
+/// A value of a type in this order.
+pub fn filled_in(
+    chance: &mut Chance,
+    digest: &Digest,
+    little: bool,
+    start: usize,
+    extent: Extent,
+) -> Value {
     let junk = chance.once_in(2);
     let mut filler = Filler {
         chance,
@@ -98,16 +125,6 @@ pub fn filled(chance: &mut Chance, digest: &Digest, start: usize, extent: Extent
     // A value that is given up is cut where it is.
     let _ = filler.visit(0, None);
     filler.value
-}
-
-/// The octets of a size.
-pub fn width(size: Size) -> usize {
-    match size {
-        Size::One => 1,
-        Size::Two => 2,
-        Size::Four => 4,
-        Size::Eight => 8,
-    }
 }
 
 impl Filler<'_> {
@@ -238,7 +255,7 @@ impl Filler<'_> {
             Some(number) => number,
             None => self.any_of(scalar),
         };
-        let place = self.number(width(scalar.size), number);
+        let place = self.number(scalar.size.octets(), number);
         match scalar.number {
             BOOLEAN => self.mark(place, Spot::Boolean),
             ENUM => self.mark(place, Spot::Enum(scalar.highest as u32)),
@@ -248,7 +265,7 @@ impl Filler<'_> {
 
     /// Any number that a scalar can be.
     fn any_of(&mut self, scalar: Scalar) -> u64 {
-        let all = u64::MAX >> (64 - 8 * width(scalar.size));
+        let all = u64::MAX >> (64 - 8 * scalar.size.octets());
         let highest = scalar.highest.min(all);
         if highest < all {
             return self.chance.below(highest as usize + 1) as u64;
@@ -288,19 +305,9 @@ impl Filler<'_> {
 
     /// Adds a number of so many octets after its gap, and says where.
     fn number(&mut self, width: usize, number: u64) -> usize {
-        let first = self.value.start % 8;
-        while !(first + self.value.octets.len()).is_multiple_of(width) {
-            let octet = if self.junk { self.chance.octet() } else { 0 };
-            self.value.octets.push(octet);
-        }
-        let place = self.value.octets.len();
-        let octets = number.to_le_bytes();
-        let octets = octets[..width].iter();
-        match self.value.little {
-            true => self.value.octets.extend(octets),
-            false => self.value.octets.extend(octets.rev()),
-        }
-        place
+        let (chance, junk) = (&mut *self.chance, self.junk);
+        let gap = || if junk { chance.octet() } else { 0 };
+        self.value.number(width, number, gap)
     }
 
     /// Notes what is at a place.

@@ -1,7 +1,10 @@
 //! Large values, which take the longest to read.
 
 use chance::Chance;
-use second::typecode::{BOOLEAN, CHAR, DOUBLE, FLOAT, LONG, OCTET, SHORT, ULONGLONG, USHORT};
+use second::shape::Scalar;
+use second::typecode::{
+    BOOLEAN, CHAR, DOUBLE, FLOAT, LONG, OCTET, SHORT, ULONG, ULONGLONG, USHORT,
+};
 
 use crate::fill::Value;
 use crate::graphs::Wrapper;
@@ -33,6 +36,20 @@ pub fn rows() -> [Row; 6] {
     ]
 }
 
+/// Large values to be rewritten.
+pub fn rewritten() -> [Row; 7] {
+    let chance = &mut Chance::new(0x4EA_712);
+    [
+        row(chance, "sequence of octets", octets),
+        row(chance, "sequence of longs", longs),
+        row(chance, "sequence of doubles", doubles),
+        row(chance, "sequence of structs of ten primitives", ten),
+        row(chance, "tree of structs, bushy", bushy),
+        row(chance, "sequence of strings", strings),
+        row(chance, "sequence of objrefs", objrefs),
+    ]
+}
+
 /// A large value of this name.
 fn row(chance: &mut Chance, name: &'static str, make: fn(&mut Chance) -> (Node, Octets)) -> Row {
     let (node, octets) = make(chance);
@@ -61,10 +78,37 @@ impl Octets {
     fn ulong(&mut self, number: usize) {
         self.number(&(number as u32).to_be_bytes());
     }
+
+    /// Adds a text of so many octets and the zero.
+    fn text(&mut self, chance: &mut Chance, length: usize) {
+        self.ulong(length + 1);
+        for _ in 0..length {
+            self.0.push(chance.octet().max(1));
+        }
+        self.0.push(0);
+    }
+
+    /// As many elements as there are octets for, after their count.
+    fn of_elements(chance: &mut Chance, add: fn(&mut Chance, &mut Octets)) -> Self {
+        let mut octets = Octets::default();
+        octets.ulong(0);
+        let mut count = 0;
+        while octets.0.len() < OCTETS {
+            add(chance, &mut octets);
+            count += 1;
+        }
+        octets.0[..4].copy_from_slice(&u32::to_be_bytes(count));
+        octets
+    }
+}
+
+/// The octets of a primitive.
+pub fn width(kind: u32) -> usize {
+    Scalar::primitive(kind).map_or(0, |scalar| scalar.size.octets())
 }
 
 /// A sequence without bound.
-fn sequence(chance: &mut Chance, of: Node) -> Node {
+pub fn sequence(chance: &mut Chance, of: Node) -> Node {
     let mut node = Node::sequence(chance, of);
     put(&mut node, Meaning::Bound, 0);
     node
@@ -92,12 +136,48 @@ fn put(node: &mut Node, meaning: Meaning, number: u64) {
     }
 }
 
+/// A sequence of primitives for which any octets will do.
+fn primitives(chance: &mut Chance, kind: u32) -> (Node, Octets) {
+    let node = sequence(chance, Node::plain(kind));
+    let mut octets = Octets::default();
+    octets.ulong(OCTETS / width(kind));
+    octets
+        .0
+        .resize(octets.0.len().next_multiple_of(width(kind)), 0);
+    chance.add_octets(&mut octets.0, OCTETS);
+    (node, octets)
+}
+
 /// A sequence of octets.
 fn octets(chance: &mut Chance) -> (Node, Octets) {
-    let node = sequence(chance, Node::plain(OCTET));
+    primitives(chance, OCTET)
+}
+
+/// A sequence of longs.
+fn longs(chance: &mut Chance) -> (Node, Octets) {
+    primitives(chance, LONG)
+}
+
+/// A sequence of doubles.
+fn doubles(chance: &mut Chance) -> (Node, Octets) {
+    primitives(chance, DOUBLE)
+}
+
+/// A sequence of so many structs of primitives.
+fn structs_of(chance: &mut Chance, kinds: &[u32], count: usize) -> (Node, Octets) {
+    let members = kinds.iter().map(|&kind| Node::plain(kind)).collect();
+    let node = Node::of_members(chance, members);
+    let node = sequence(chance, node);
     let mut octets = Octets::default();
-    octets.ulong(OCTETS);
-    chance.add_octets(&mut octets.0, OCTETS);
+    octets.ulong(count);
+    for _ in 0..count {
+        for &kind in kinds {
+            match kind {
+                BOOLEAN => octets.number(&[u8::from(chance.once_in(2))]),
+                _ => octets.number(&chance.octets(width(kind))),
+            }
+        }
+    }
     (node, octets)
 }
 
@@ -106,21 +186,15 @@ fn structs(chance: &mut Chance) -> (Node, Octets) {
     let kinds = [
         OCTET, SHORT, LONG, DOUBLE, BOOLEAN, FLOAT, CHAR, USHORT, ULONGLONG,
     ];
-    let node = Node::of_members(chance, kinds.map(Node::plain).into());
-    let node = sequence(chance, node);
-    let count = 400;
-    let mut octets = Octets::default();
-    octets.ulong(count);
-    for _ in 0..count {
-        for width in [1, 2, 4, 8] {
-            octets.number(&chance.octets(width));
-        }
-        octets.number(&[u8::from(chance.once_in(2))]);
-        for width in [4, 1, 2, 8] {
-            octets.number(&chance.octets(width));
-        }
-    }
-    (node, octets)
+    structs_of(chance, &kinds, 400)
+}
+
+/// A sequence of structs of ten primitives.
+fn ten(chance: &mut Chance) -> (Node, Octets) {
+    let kinds = [
+        OCTET, SHORT, LONG, DOUBLE, BOOLEAN, FLOAT, CHAR, USHORT, ULONGLONG, ULONG,
+    ];
+    structs_of(chance, &kinds, 330)
 }
 
 /// A struct of a long and a sequence of itself.
@@ -164,19 +238,29 @@ fn deep(chance: &mut Chance) -> (Node, Octets) {
 /// A sequence of strings of mixed lengths.
 fn strings(chance: &mut Chance) -> (Node, Octets) {
     let node = sequence(chance, Node::string(0));
-    let mut octets = Octets::default();
-    octets.ulong(0);
-    let mut count = 0;
-    while octets.0.len() < OCTETS {
+    let octets = Octets::of_elements(chance, |chance, octets| {
         let length = chance.pick(&[0, 3, 8, 12, 20, 31, 64, 150]);
-        octets.ulong(length + 1);
-        for _ in 0..length {
-            octets.0.push(chance.octet().max(1));
+        octets.text(chance, length);
+    });
+    (node, octets)
+}
+
+/// A sequence of objrefs with one to three profiles.
+fn objrefs(chance: &mut Chance) -> (Node, Octets) {
+    let objref = Node::objref(chance);
+    let node = sequence(chance, objref);
+    let octets = Octets::of_elements(chance, |chance, octets| {
+        let length = 12 + chance.below(30);
+        octets.text(chance, length);
+        let profiles = 1 + chance.below(3);
+        octets.ulong(profiles);
+        for _ in 0..profiles {
+            octets.ulong(chance.below(2));
+            let length = 30 + chance.below(70);
+            octets.ulong(length);
+            chance.add_octets(&mut octets.0, length);
         }
-        octets.0.push(0);
-        count += 1;
-    }
-    octets.0[..4].copy_from_slice(&u32::to_be_bytes(count));
+    });
     (node, octets)
 }
 

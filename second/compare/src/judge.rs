@@ -4,6 +4,7 @@ use chance::Chance;
 use second::hexline::LONGEST_MESSAGE;
 use second::joining::{Answer, CANCELLED, JOINED, PLACE_OCTETS, WHOLE};
 use second::refusal::{LINE_TOO_LONG, OUTPUT_TOO_SHORT};
+use second::rewrite::{rewrite, Chosen};
 use second::typecode;
 use second::value::{self, Input};
 use second::Header;
@@ -11,6 +12,7 @@ use second::Header;
 use crate::archive::{self, HeaderNumbers};
 use crate::joinings::Recording;
 use crate::lent::{LentChecked, LentHeader, LentItem, LentJoining, LentOutput, LentValue, Noise};
+use crate::reread;
 use crate::tally::{Held, Section, Tally};
 use crate::types::order_name;
 
@@ -154,6 +156,21 @@ impl Judge {
         self.enter_value(Section::Items, name, ask, input, found, held);
     }
 
+    /// Rewrites a value as chosen into an output with room for so many octets. A
+    /// result is read and rewritten in its turn.
+    pub fn rewrite(&mut self, name: &str, input: Input, chosen: Chosen, room: usize) {
+        let mut lent = LentOutput::new(self.seeds.next(), room);
+        let (out, count) = lent.lend();
+        let number = archive::rewrite(input, chosen, out, count);
+        let answer = rewrite(input, chosen, room);
+        let mut held = hold_output(&lent, &answer);
+        if let (0, None, Ok(result)) = (number, &held.memory, &answer) {
+            held.memory = reread::unlike_value(self.seeds.next(), input, chosen, result);
+        }
+        let ask = || format!("{name}, {}, room {room}: {}", to(chosen), asked(&input));
+        self.enter_value(Section::Rewrites, name, ask, input, number, held);
+    }
+
     /// Enters a question about a value, which is told whole if the answers
     /// differ.
     fn enter_value(
@@ -219,6 +236,12 @@ impl Judge {
         self.tally.enter(Section::Joining, name, line, number, held);
         answer
     }
+}
+
+/// What a value is rewritten to.
+fn to(chosen: Chosen) -> String {
+    let order = chosen.little.map_or("no order named", order_name);
+    format!("to {order}, start {}", chosen.start)
 }
 
 /// A value's type, orders and start as a question has them, the type cut.

@@ -9,7 +9,10 @@ use std::path::Path;
 use std::process::ExitCode;
 
 use compare::judge::Judge;
-use compare::{frames, joinings, lines, orb, orb_values, questions, recordings, types, values};
+use compare::{
+    frames, joinings, lines, orb, orb_rewrites, orb_values, questions, recordings, rewrites, types,
+    values,
+};
 
 /// Judges all inputs and writes the tally; succeeds if nothing is wrong.
 fn main() -> ExitCode {
@@ -33,6 +36,8 @@ fn run() -> io::Result<u64> {
     orb::judge(&mut judge);
     values::judge(&mut judge);
     orb_values::judge(&mut judge);
+    rewrites::judge(&mut judge);
+    orb_rewrites::judge(&mut judge);
     if let Some(program) = env::args_os().nth(1) {
         recordings::judge(&mut judge, Path::new(&program))?;
     }

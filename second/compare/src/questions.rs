@@ -34,13 +34,19 @@ pub fn judge(judge: &mut Judge, program: &Path) -> io::Result<()> {
     let about_types = questions(chance);
     let mut about_values = value_questions::lines(chance);
     shuffle(chance, &mut about_values);
-    for (name, all) in [("types", &about_types), ("values", &about_values)] {
+    let mut about_rewriting = value_questions::rewrite_lines(chance);
+    shuffle(chance, &mut about_rewriting);
+    for (name, all) in [
+        ("types", &about_types),
+        ("values", &about_values),
+        ("rewriting", &about_rewriting),
+    ] {
         for lines in all.chunks(AT_ONCE) {
             let text = text_of(chance, lines);
             hold(judge, name, program, &text)?;
         }
     }
-    let mut all = [about_types, about_values].concat();
+    let mut all = [about_types, about_values, about_rewriting].concat();
     shuffle(chance, &mut all);
     let text = text_of(chance, &all);
     hold(judge, "all", program, &text)
@@ -107,7 +113,7 @@ fn shown(output: &[u8], number: usize) -> String {
 }
 
 /// Texts by hand: every way a line can end.
-fn fixed() -> [&'static str; 22] {
+fn fixed() -> [&'static str; 27] {
     [
         "",
         "\n",
@@ -131,6 +137,11 @@ fn fixed() -> [&'static str; 22] {
         "item big 00000008 big 01 0 0\nitem big 00000008 big 01 0 1",
         "item big 00000006 little 0100A0FF 7 0\nitem big 00000007 big FFF4000000000000 0 0\n",
         "value\nbig\n",
+        "rewrite big 00000000 big - 0 big 0 0",
+        "rewrite big 00000003 big 00000001 0 little 0 4\nrewrite big 00000008 big 02 0 big 0 0\n",
+        "rewrite big 00000008 big 01 0 big 0 0\n\n",
+        "rewrite big 00000008 big 01 0 big 0 1\r\n",
+        "rewrite\nbig\n",
     ]
 }
 
@@ -210,6 +221,7 @@ fn other_words(chance: &mut Chance, line: &[u8]) -> Vec<u8> {
         "typ",
         "value",
         "item",
+        "rewrite",
         "big",
         "Big",
         "BIG",
@@ -252,6 +264,8 @@ fn long_lines(chance: &mut Chance) -> Vec<Vec<Vec<u8>>> {
             "type  big ",
             "value big 00000003 big ",
             "item big 00000003 little 00000000 0 ",
+            "rewrite big 00000003 big ",
+            "rewrite big 00000003 big 00000000 0 little 0 ",
             "0",
             "",
         ];

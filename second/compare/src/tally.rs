@@ -7,7 +7,8 @@ use std::ops::RangeInclusive;
 use second::joining::{CANCELLED, WHOLE};
 use second::refusal::{
     FRAGMENT_UNALIGNED, HEADER_CUT, ID_OPEN, KIND_BELOW_TOP, LINE_TOO_LONG, NO_ROOM, NO_SUCH_ITEM,
-    OCTETS_TOO_MANY, OUTPUT_TOO_SHORT, RECORD_UNSOUND, TOO_MANY_OPEN, TYPE_CUT, VALUE_CUT,
+    OCTETS_TOO_MANY, OUTPUT_TOO_SHORT, RECORD_UNSOUND, RESULT_TOO_LONG, TOO_MANY_OPEN, TYPE_CUT,
+    VALUE_CUT,
 };
 
 /// How many differences are shown.
@@ -20,10 +21,11 @@ const SHOWN_DIGITS: usize = 200;
 const ENOUGH: u64 = 200_000;
 
 /// The sections of which there must be so many inputs.
-const ENOUGH_OF: [(Section, u64); 3] = [
+const ENOUGH_OF: [(Section, u64); 4] = [
     (Section::Types, 500_000),
     (Section::Values, 500_000),
     (Section::Items, 150_000),
+    (Section::Rewrites, 300_000),
 ];
 
 /// The sections of the paper whose numbers are counted apart.
@@ -39,15 +41,18 @@ pub enum Section {
     Values,
     /// Reading one item of a value.
     Items,
+    /// Rewriting.
+    Rewrites,
 }
 
 /// All sections.
-const SECTIONS: [Section; 5] = [
+const SECTIONS: [Section; 6] = [
     Section::Lines,
     Section::Joining,
     Section::Types,
     Section::Values,
     Section::Items,
+    Section::Rewrites,
 ];
 
 /// Numbers of a section, and how often each of them must be given.
@@ -103,6 +108,15 @@ const OF_ITEMS: [Demand; 5] = [
     each(VALUE_CUT, TOO_MANY_OPEN, 500),
 ];
 
+/// What rewriting must bring, likewise.
+const OF_REWRITES: [Demand; 5] = [
+    each(0, 0, 500),
+    each(TYPE_CUT, KIND_BELOW_TOP, 300),
+    each(OCTETS_TOO_MANY, OCTETS_TOO_MANY, 500),
+    each(VALUE_CUT, TOO_MANY_OPEN, 500),
+    each(RESULT_TOO_LONG, RESULT_TOO_LONG, 500),
+];
+
 impl Section {
     /// The section's numbers, each with how often it must be given.
     fn demands(self) -> impl Iterator<Item = (u32, u64)> {
@@ -112,6 +126,7 @@ impl Section {
             Section::Types => &OF_TYPES,
             Section::Values => &OF_VALUES,
             Section::Items => &OF_ITEMS,
+            Section::Rewrites => &OF_REWRITES,
         };
         demands
             .iter()
@@ -127,6 +142,7 @@ impl fmt::Display for Section {
             Section::Types => "types",
             Section::Values => "values",
             Section::Items => "items",
+            Section::Rewrites => "rewrites",
         })
     }
 }

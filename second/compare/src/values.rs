@@ -1,5 +1,7 @@
 //! Inputs of the section on reading a value.
 
+use std::ops::Range;
+
 use chance::Chance;
 use second::primitive::ulong_octets;
 use second::typecode::{digest, DEEPEST, LONGEST_TYPE, MOST_KINDS};
@@ -29,6 +31,9 @@ const FIRST: u64 = 1 << 31;
 /// So many items have room where room is not the matter.
 const MUCH: usize = 700;
 
+/// How many others are made of a question, some of them changed.
+pub const OTHERS: usize = 6;
+
 /// The octets that values mostly have.
 const SIZES: [usize; 6] = [4, 12, 30, 30, 80, 200];
 
@@ -55,6 +60,14 @@ impl Question {
             },
             start: self.value.start,
         }
+    }
+
+    /// What is read if the value has so many octets only. The rest stays where
+    /// it is, so that reading too far would show.
+    pub fn cut(&self, kept: usize) -> Input<'_> {
+        let mut input = self.input();
+        input.value.octets = &input.value.octets[..kept];
+        input
     }
 }
 
@@ -136,13 +149,9 @@ pub fn one(judge: &mut Judge, chance: &mut Chance, name: &str, question: &Questi
             judge.item(&whole, input, any_number(chance));
         }
     }
-    for change in 0..6 {
-        let name = format!("{name}, change {change})");
-        let changed = match change {
-            0 => longer(chance, question),
-            1 => elsewhere(chance, question),
-            _ => changed(chance, question),
-        };
+    for number in 0..OTHERS {
+        let name = format!("{name}, change {number})");
+        let changed = other(chance, question, number);
         let length = match chance.once_in(4) {
             true => few(chance),
             false => enough(chance, &changed),
@@ -150,28 +159,37 @@ pub fn one(judge: &mut Judge, chance: &mut Chance, name: &str, question: &Questi
         judge.value(&name, changed.input(), length);
         judge.item(&name, changed.input(), any_number(chance));
     }
-    cut(judge, chance, name, question);
-}
-
-/// Judges a question with its value cut at every octet, if it is short and the
-/// type is accepted.
-fn cut(judge: &mut Judge, chance: &mut Chance, name: &str, question: &Question) {
-    let octets = &question.value.octets;
-    let short = octets.len() <= SHORT || octets.len() <= MIDDLING && chance.once_in(16);
-    let Sample { little, .. } = question.typecode;
-    if !short || digest(&question.typecode.octets, little).is_err() {
-        return;
-    }
     let name = format!("{name}, cut)");
+    let cuts = cuts(chance, question);
     let length = enough(chance, question);
-    // The rest stays where it is, so that reading too far would show.
-    for kept in 0..octets.len() {
-        let mut input = question.input();
-        input.value.octets = &octets[..kept];
+    for kept in cuts {
+        let input = question.cut(kept);
         judge.value(&name, input, length);
         if chance.once_in(4) {
             judge.item(&name, input, any_number(chance));
         }
+    }
+}
+
+/// Where a question's value is cut: at every octet, if it is short and the type
+/// is accepted.
+pub fn cuts(chance: &mut Chance, question: &Question) -> Range<usize> {
+    let length = question.value.octets.len();
+    let short = length <= SHORT || length <= MIDDLING && chance.once_in(16);
+    let Sample { octets, little, .. } = &question.typecode;
+    match short && digest(octets, *little).is_ok() {
+        true => 0..length,
+        false => 0..0,
+    }
+}
+
+/// The question of this number that is made of another: longer, elsewhere, or
+/// changed.
+pub fn other(chance: &mut Chance, question: &Question, number: usize) -> Question {
+    match number {
+        0 => longer(chance, question),
+        1 => elsewhere(chance, question),
+        _ => changed(chance, question),
     }
 }
 
@@ -289,7 +307,7 @@ fn of_node(chance: &mut Chance, node: &Node) -> Question {
 }
 
 /// Makes all arrays of a type short, and all bounds low.
-fn shorten(chance: &mut Chance, node: &mut Node, lengths: &[u64], bounds: &[u32]) {
+pub fn shorten(chance: &mut Chance, node: &mut Node, lengths: &[u64], bounds: &[u32]) {
     for number in 0..node.types() {
         let Some(node) = node.nth(number) else {
             continue;

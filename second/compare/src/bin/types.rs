@@ -2,21 +2,15 @@
 //! a second, on the same types, in turns: five times each, and the median.
 
 use std::hint::black_box;
-use std::io::{self, Write};
+use std::io;
 use std::process::ExitCode;
-use std::time::{Duration, Instant};
 
 use compare::archive::{self, Checked};
 use compare::layout::Sample;
+use compare::measure::{rounds_a_second, status, write_speeds};
 use compare::orb;
 use compare::types::{self, GENERATORS};
 use second::typecode::{self, LONGEST_TYPE, MOST_KINDS};
-
-/// How often each side is measured.
-const RUNS: usize = 5;
-
-/// About how long the slower side's run is.
-const LONG_ENOUGH: Duration = Duration::from_millis(400);
 
 /// How many of the largest types there are of each generator.
 const LARGEST: usize = 8;
@@ -24,18 +18,9 @@ const LARGEST: usize = 8;
 /// The generators of the largest types.
 const LARGE: [&str; 4] = ["wide", "wide union", "dense", "alias chain"];
 
-/// Checks types.
-type Side = fn(&[Sample]);
-
 /// Measures both kinds of types, or says on standard error why it cannot.
 fn main() -> ExitCode {
-    match run() {
-        Ok(()) => ExitCode::SUCCESS,
-        Err(error) => {
-            let _ = writeln!(io::stderr(), "types: {error}");
-            ExitCode::FAILURE
-        }
-    }
+    status("types", run())
 }
 
 /// Measures both kinds of types.
@@ -74,38 +59,14 @@ fn measure(name: &str, samples: &[Sample]) -> io::Result<()> {
         let reason = format!("{name}: the answers to type {number} differ");
         return Err(io::Error::other(reason));
     }
-    let sides: [Side; 2] = [by_archive, by_second];
-    let slower = sides.map(|side| time(side, samples, 1)).into_iter().max();
-    let once = slower.unwrap_or_default().max(Duration::from_nanos(1));
-    let rounds = 1 + (LONG_ENOUGH.as_nanos() / once.as_nanos()) as usize;
-    let mut times = [[Duration::ZERO; RUNS]; 2];
-    for run in 0..RUNS {
-        for (side, times) in sides.iter().zip(&mut times) {
-            times[run] = time(*side, samples, rounds);
-        }
-    }
-    let [archive, second] = times.map(|times| speed(times, rounds * samples.len()));
+    let rounds = rounds_a_second(
+        |rounds| (0..rounds).for_each(|_| by_archive(samples)),
+        |rounds| (0..rounds).for_each(|_| by_second(samples)),
+    );
     let octets: usize = samples.iter().map(|sample| sample.octets.len()).sum();
-    let mut output = io::stdout().lock();
-    writeln!(output, "{name}: {} of {octets} octets", samples.len())?;
-    writeln!(output, "archive: {archive:.0} checks/s")?;
-    writeln!(output, "second: {second:.0} checks/s")?;
-    writeln!(output, "archive/second: {:.2}", archive / second)
-}
-
-/// Checks a second at the median of the times for so many checks.
-fn speed(mut times: [Duration; RUNS], checks: usize) -> f64 {
-    times.sort();
-    checks as f64 / times[RUNS / 2].as_secs_f64()
-}
-
-/// How long a side takes to check the types so many times.
-fn time(side: Side, samples: &[Sample], rounds: usize) -> Duration {
-    let start = Instant::now();
-    for _ in 0..rounds {
-        side(samples);
-    }
-    start.elapsed()
+    let measured = format!("{name}: {} of {octets} octets", samples.len());
+    let speeds = rounds.map(|rounds| rounds * samples.len() as f64);
+    write_speeds(&measured, "checks", speeds)
 }
 
 /// Nothing met yet.

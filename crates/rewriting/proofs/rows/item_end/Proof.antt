@@ -9,6 +9,16 @@ use Rattle.cdr.specs.declared.Size.{Size}
 use Rattle.cdr.specs.Align.{octets, behindGap}
 use Rattle.cdr.proofs.Alignment.{octets-small, gap-small}
 use Rattle.rewriting.specs.Inner.{widthOf, tailOf}
+use Rattle.rewriting.proofs.Items.{octet-ends}
+
+is-octet-requires : tie.Need-is-octet-requires
+is-octet-requires c κs = search needs
+
+add-result : tie.Need-add-result
+add-result c = search needs
+
+returns : tie.Need-returns
+returns c = octet-ends (c .before .before .args .index) (c .before .before .args .at) (c .before .before .args .kind) (c .before .before .args .content) (c .before .is-octet .ensures (c .if1 .taken))
 
 width-of-requires : tie.Need-width-of-requires
 width-of-requires c κs = search needs
@@ -19,26 +29,29 @@ behind-gap-requires c κs = search needs
 octets-requires : tie.Need-octets-requires
 octets-requires c κs = search needs
 
-add-result : tie.Need-add-result
-add-result c = let g = gap-small (c .before .before .width-of .result) (c .before .before .before .args .index .0 + c .before .before .before .args .at) in let o = octets-small (c .before .before .width-of .result) in let e = c .before .behind-gap .ensures in let f = c .octets .ensures in omega (arith, c .before .before .before .pre .0)
+add-result-2 : tie.Need-add-result-2
+add-result-2 c = let g = gap-small (c .before .before .width-of .result) (c .before .before .before .before .before .args .index .0 + c .before .before .before .before .before .args .at) in let o = octets-small (c .before .before .width-of .result) in let e = c .before .behind-gap .ensures in let f = c .octets .ensures in omega (arith, c .before .before .before .before .before .pre .0)
 
 tail-of-requires : tie.Need-tail-of-requires
 tail-of-requires c κs = search needs
 
-add-result-2 : tie.Need-add-result-2
-add-result-2 c = let g = gap-small (c .before .before .before .width-of .result) (c .before .before .before .before .args .index .0 + c .before .before .before .before .args .at) in let o = octets-small (c .before .before .before .width-of .result) in let e = c .before .before .behind-gap .ensures in let f = c .before .octets .ensures in let t = c .tail-of .ensures in omega (arith, c .before .before .before .before .pre .0, c .before .before .before .before .pre .1)
+add-result-3 : tie.Need-add-result-3
+add-result-3 c = let g = gap-small (c .before .before .before .width-of .result) (c .before .before .before .before .before .before .args .index .0 + c .before .before .before .before .before .before .args .at) in let o = octets-small (c .before .before .before .width-of .result) in let e = c .before .before .behind-gap .ensures in let f = c .before .octets .ensures in let t = c .tail-of .ensures in omega (arith, c .before .before .before .before .before .before .pre .0, c .before .before .before .before .before .before .pre .1)
 
-returns : tie.Need-returns
-returns c = ap (λ (n : ℕ). n + c .before .octets .result + c .tail-of .result) (c .before .before .behind-gap .ensures) ∙ ap (λ (n : ℕ). behindGap (c .before .before .before .before .args .index) (c .before .before .before .before .args .at) (octets (c .before .before .before .width-of .result)) + n + c .tail-of .result) (c .before .octets .ensures) ∙ ap (λ (z : Size). behindGap (c .before .before .before .before .args .index) (c .before .before .before .before .args .at) (octets z) + octets z + c .tail-of .result) (c .before .before .before .width-of .ensures) ∙ ap (λ (n : ℕ). behindGap (c .before .before .before .before .args .index) (c .before .before .before .before .args .at) (octets (widthOf (c .before .before .before .before .args .kind))) + octets (widthOf (c .before .before .before .before .args .kind)) + n) (c .tail-of .ensures)
+returns-2 : tie.Need-returns-2
+returns-2 c = ap (λ (n : ℕ). n + c .before .octets .result + c .tail-of .result) (c .before .before .behind-gap .ensures) ∙ ap (λ (n : ℕ). behindGap (c .before .before .before .before .before .before .args .index) (c .before .before .before .before .before .before .args .at) (octets (c .before .before .before .width-of .result)) + n + c .tail-of .result) (c .before .octets .ensures) ∙ ap (λ (z : Size). behindGap (c .before .before .before .before .before .before .args .index) (c .before .before .before .before .before .before .args .at) (octets z) + octets z + c .tail-of .result) (c .before .before .before .width-of .ensures) ∙ ap (λ (n : ℕ). behindGap (c .before .before .before .before .before .before .args .index) (c .before .before .before .before .before .before .args .at) (octets (widthOf (c .before .before .before .before .before .before .args .kind))) + octets (widthOf (c .before .before .before .before .before .before .args .kind)) + n) (c .tail-of .ensures)
 
 pub item-end-spec : {M : Type 1} → statement M
 item-end-spec =
     tie.close
     (tie.spec
+    is-octet-requires
+    add-result
+    returns
     width-of-requires
     behind-gap-requires
     octets-requires
-    add-result
-    tail-of-requires
     add-result-2
-    returns)
+    tail-of-requires
+    add-result-3
+    returns-2)

@@ -1,102 +1,49 @@
--- A gap, a number and octets as they are.
+-- An octet, or more.
 use borrow.Author.Needs.{needs}
 use Rattle.rewriting.proofs.rows.write_item.Statement.{statement}
 use Rattle.rewriting.proofs.rows.write_item.Tie as tie
-use mathlib.Core.Path.{_≡_, refl, sym, ap, subst, _∙_}
-use mathlib.Core.List.{List, []}
-use Prim.Native.Nat.{ℕ, _+_, _-_, _<_, _≤_}
+use mathlib.Core.Path.{sym}
 use native.Mathlib.Omega.{arith}
-use lib.ListN.{length, take, drop, replicate, length-replicate}
-use lib.Seq.{sets}
-use Rattle.cdr.specs.declared.Size.{Size}
-use Rattle.cdr.specs.Align.{octets, behindGap, gap}
-use Rattle.cdr.specs.Number.{octetsOf}
-use Rattle.cdr.proofs.Alignment.{octets-small, gap-small}
-use Rattle.cdr.proofs.Numbers.{octets-length}
-use Rattle.checking.specs.Types.{octetsLimit}
-use Rattle.reading.specs.Sinks.{item}
-use Rattle.writing.proofs.Stores.{stored-fits}
 use Rattle.written.specs.Written.{target}
-use Rattle.rewriting.specs.Inner.{widthOf, headOf, tailOf, endOf, itemOctets}
-use Rattle.rewriting.proofs.Items as items
+use Rattle.rewriting.proofs.Items.{octet-ends, octet-octets}
 
-width-of-requires : tie.Need-width-of-requires
-width-of-requires c κs = search needs
+is-octet-requires : tie.Need-is-octet-requires
+is-octet-requires c κs = search needs
 
-behind-gap-requires : tie.Need-behind-gap-requires
-behind-gap-requires c κs = search needs
+cast-out : tie.Need-cast-out
+cast-out c = search needs
 
-octets-requires : tie.Need-octets-requires
-octets-requires c κs = search needs
+slice-write-out : tie.Need-slice-write-out
+slice-write-out c = let e = octet-ends (c .before .before .before .before .args .index) (c .before .before .before .before .args .at) (c .before .before .before .before .args .kind) (c .before .before .before .before .args .content) (c .before .is-octet .ensures (c .if1 .taken)) in omega (arith, c .before .before .before .before .pre .2)
 
-add-end : tie.Need-add-end
-add-end c = let f = items.item-fits (target (c .before .before .before .before .before .args .order) (c .before .before .before .before .before .args .index)) (c .before .before .before .before .before .args .v .now) (c .before .before .before .before .before .args .out .now) (c .before .before .before .before .before .args .at) (c .before .before .before .before .before .args .kind) (c .before .before .before .before .before .args .place) (c .before .before .before .before .before .args .content) (c .before .before .width-of .result) (c .before .behind-gap .result) (headOf (c .before .before .before .before .before .args .kind) (c .before .before .before .before .before .args .content)) (c .before .before .width-of .ensures) (c .before .behind-gap .ensures) refl _ (c .before .before .before .before .before .pre .2) in let e = c .octets .ensures in omega arith
-
-sub-write-zeros : tie.Need-sub-write-zeros
-sub-write-zeros c = search needs
-
-write-zeros-requires : tie.Need-write-zeros-requires
-write-zeros-requires c κs = search needs
-
-head-of-requires : tie.Need-head-of-requires
-head-of-requires c κs = search needs
-
-write-number-requires : tie.Need-write-number-requires
-write-number-requires c κs = search needs
-
-tail-of-requires : tie.Need-tail-of-requires
-tail-of-requires c κs = search needs
+add-result : tie.Need-add-result
+add-result c = search needs
 
 same-length : tie.Need-same-length
 same-length c = search needs
 
 returns : tie.Need-returns
-returns c = (let e : c .before .tail-of .result ≡ 0 = c .if1 .taken in let z = items.item-ends (target (c .before .before .before .before .before .before .before .before .before .before .before .before .before .before .before .before .args .order) (c .before .before .before .before .before .before .before .before .before .before .before .before .before .before .before .before .args .index)) (c .before .before .before .before .before .before .before .before .before .before .before .before .before .before .before .before .args .v .now) (c .before .before .before .before .before .before .before .before .before .before .before .before .before .before .before .before .args .out .now) (c .before .before .before .before .before .before .before .before .before .before .before .before .before .before .before .before .args .at) (c .before .before .before .before .before .before .before .before .before .before .before .before .before .before .before .before .args .kind) (c .before .before .before .before .before .before .before .before .before .before .before .before .before .before .before .before .args .place) (c .before .before .before .before .before .before .before .before .before .before .before .before .before .before .before .before .args .content) (c .before .before .before .before .before .before .before .before .before .before .before .before .before .width-of .result) (c .before .before .before .before .before .before .before .before .before .before .before .before .behind-gap .result) (c .before .before .before .before .before .head-of .result) (c .before .before .before .before .before .before .before .before .before .before .before .before .before .width-of .ensures) (c .before .before .before .before .before .before .before .before .before .before .before .before .behind-gap .ensures) (c .before .before .before .before .before .head-of .ensures) (c .before .before .before .before .before .before .before .before .before .before .before .octets .result) (c .before .tail-of .result) (c .before .before .before .before .before .before .before .before .before .before .before .octets .ensures) (c .before .tail-of .ensures) in omega arith, items.item-written (target (c .before .before .before .before .before .before .before .before .before .before .before .before .before .before .before .before .args .order) (c .before .before .before .before .before .before .before .before .before .before .before .before .before .before .before .before .args .index)) (c .before .before .before .before .before .before .before .before .before .before .before .before .before .before .before .before .args .v .now) (c .before .before .before .before .before .before .before .before .before .before .before .before .before .before .before .before .args .out .now) (c .before .before .before .before .before .before .before .before .before .before .before .before .before .before .before .before .args .at) (c .before .before .before .before .before .before .before .before .before .before .before .before .before .before .before .before .args .kind) (c .before .before .before .before .before .before .before .before .before .before .before .before .before .before .before .before .args .place) (c .before .before .before .before .before .before .before .before .before .before .before .before .before .before .before .before .args .content) (c .before .before .before .before .before .before .before .before .before .before .before .before .before .width-of .result) (c .before .before .before .before .before .before .before .before .before .before .before .before .behind-gap .result) (c .before .before .before .before .before .head-of .result) (c .before .before .before .before .before .before .before .before .before .before .before .before .before .width-of .ensures) (c .before .before .before .before .before .before .before .before .before .before .before .before .behind-gap .ensures) (c .before .before .before .before .before .head-of .ensures) (c .before .before .before .before .before .before .before .before .before .before .before .before .before .before .before .before .pre .2) (c .before .tail-of .result) (c .before .before .before .before .before .before .before .before .before .before .before .octets .result) (c .before .tail-of .ensures) (c .before .before .before .before .before .before .before .before .before .before .before .octets .ensures) _ _ _ _ _ (c .before .before .before .before .before .before .before .before .before .write-zeros .ensures) (c .before .before .before .before .write-number .ensures) (items.no-tail _ _ _ _ (c .if1 .taken)))
+returns c = (octet-ends (c .before .before .before .before .args .index) (c .before .before .before .before .args .at) (c .before .before .before .before .args .kind) (c .before .before .before .before .args .content) (c .before .is-octet .ensures (c .if1 .taken)), octet-octets (target (c .before .before .before .before .args .order) (c .before .before .before .before .args .index)) (c .before .before .before .before .args .v .now) (c .before .before .before .before .args .out .now) (c .before .before .before .before .args .at) (c .before .before .before .before .args .kind) (c .before .before .before .before .args .place) (c .before .before .before .before .args .content) (c .before .is-octet .ensures (c .if1 .taken)))
 
-add-write-octets : tie.Need-add-write-octets
-add-write-octets c = search needs
-
-sub-write-octets : tie.Need-sub-write-octets
-sub-write-octets c = search needs
-
-part-write-octets-start : tie.Need-part-write-octets-start
-part-write-octets-start c = search needs
-
-part-write-octets-end : tie.Need-part-write-octets-end
-part-write-octets-end c = search needs
-
-write-octets-requires : tie.Need-write-octets-requires
-write-octets-requires c κs = search needs
-
-add-result : tie.Need-add-result
-add-result c = let f = items.item-fits (target (c .before .before .before .before .before .before .before .before .before .before .before .before .before .before .before .before .before .before .before .before .before .args .order) (c .before .before .before .before .before .before .before .before .before .before .before .before .before .before .before .before .before .before .before .before .before .args .index)) (c .before .before .before .before .before .before .before .before .before .before .before .before .before .before .before .before .before .before .before .before .before .args .v .now) (c .before .before .before .before .before .before .before .before .before .before .before .before .before .before .before .before .before .before .before .before .before .args .out .now) (c .before .before .before .before .before .before .before .before .before .before .before .before .before .before .before .before .before .before .before .before .before .args .at) (c .before .before .before .before .before .before .before .before .before .before .before .before .before .before .before .before .before .before .before .before .before .args .kind) (c .before .before .before .before .before .before .before .before .before .before .before .before .before .before .before .before .before .before .before .before .before .args .place) (c .before .before .before .before .before .before .before .before .before .before .before .before .before .before .before .before .before .before .before .before .before .args .content) (c .before .before .before .before .before .before .before .before .before .before .before .before .before .before .before .before .before .before .width-of .result) (c .before .before .before .before .before .before .before .before .before .before .before .before .before .before .before .before .before .behind-gap .result) (headOf (c .before .before .before .before .before .before .before .before .before .before .before .before .before .before .before .before .before .before .before .before .before .args .kind) (c .before .before .before .before .before .before .before .before .before .before .before .before .before .before .before .before .before .before .before .before .before .args .content)) (c .before .before .before .before .before .before .before .before .before .before .before .before .before .before .before .before .before .before .width-of .ensures) (c .before .before .before .before .before .before .before .before .before .before .before .before .before .before .before .before .before .behind-gap .ensures) refl _ (c .before .before .before .before .before .before .before .before .before .before .before .before .before .before .before .before .before .before .before .before .before .pre .2) in let e = c .before .before .before .before .before .before .before .before .before .before .before .before .before .before .before .before .octets .ensures in let t = c .before .before .before .before .before .before .tail-of .ensures in omega arith
+write-wide-requires : tie.Need-write-wide-requires
+write-wide-requires c κs = search needs
 
 same-length-2 : tie.Need-same-length-2
 same-length-2 c = search needs
 
 returns-2 : tie.Need-returns-2
-returns-2 c = (items.item-ends (target (c .before .before .before .before .before .before .before .before .before .before .before .before .before .before .before .before .before .before .before .before .before .args .order) (c .before .before .before .before .before .before .before .before .before .before .before .before .before .before .before .before .before .before .before .before .before .args .index)) (c .before .before .before .before .before .before .before .before .before .before .before .before .before .before .before .before .before .before .before .before .before .args .v .now) (c .before .before .before .before .before .before .before .before .before .before .before .before .before .before .before .before .before .before .before .before .before .args .out .now) (c .before .before .before .before .before .before .before .before .before .before .before .before .before .before .before .before .before .before .before .before .before .args .at) (c .before .before .before .before .before .before .before .before .before .before .before .before .before .before .before .before .before .before .before .before .before .args .kind) (c .before .before .before .before .before .before .before .before .before .before .before .before .before .before .before .before .before .before .before .before .before .args .place) (c .before .before .before .before .before .before .before .before .before .before .before .before .before .before .before .before .before .before .before .before .before .args .content) (c .before .before .before .before .before .before .before .before .before .before .before .before .before .before .before .before .before .before .width-of .result) (c .before .before .before .before .before .before .before .before .before .before .before .before .before .before .before .before .before .behind-gap .result) (c .before .before .before .before .before .before .before .before .before .before .head-of .result) (c .before .before .before .before .before .before .before .before .before .before .before .before .before .before .before .before .before .before .width-of .ensures) (c .before .before .before .before .before .before .before .before .before .before .before .before .before .before .before .before .before .behind-gap .ensures) (c .before .before .before .before .before .before .before .before .before .before .head-of .ensures) (c .before .before .before .before .before .before .before .before .before .before .before .before .before .before .before .before .octets .result) (c .before .before .before .before .before .before .tail-of .result) (c .before .before .before .before .before .before .before .before .before .before .before .before .before .before .before .before .octets .ensures) (c .before .before .before .before .before .before .tail-of .ensures), items.item-written (target (c .before .before .before .before .before .before .before .before .before .before .before .before .before .before .before .before .before .before .before .before .before .args .order) (c .before .before .before .before .before .before .before .before .before .before .before .before .before .before .before .before .before .before .before .before .before .args .index)) (c .before .before .before .before .before .before .before .before .before .before .before .before .before .before .before .before .before .before .before .before .before .args .v .now) (c .before .before .before .before .before .before .before .before .before .before .before .before .before .before .before .before .before .before .before .before .before .args .out .now) (c .before .before .before .before .before .before .before .before .before .before .before .before .before .before .before .before .before .before .before .before .before .args .at) (c .before .before .before .before .before .before .before .before .before .before .before .before .before .before .before .before .before .before .before .before .before .args .kind) (c .before .before .before .before .before .before .before .before .before .before .before .before .before .before .before .before .before .before .before .before .before .args .place) (c .before .before .before .before .before .before .before .before .before .before .before .before .before .before .before .before .before .before .before .before .before .args .content) (c .before .before .before .before .before .before .before .before .before .before .before .before .before .before .before .before .before .before .width-of .result) (c .before .before .before .before .before .before .before .before .before .before .before .before .before .before .before .before .before .behind-gap .result) (c .before .before .before .before .before .before .before .before .before .before .head-of .result) (c .before .before .before .before .before .before .before .before .before .before .before .before .before .before .before .before .before .before .width-of .ensures) (c .before .before .before .before .before .before .before .before .before .before .before .before .before .before .before .before .before .behind-gap .ensures) (c .before .before .before .before .before .before .before .before .before .before .head-of .ensures) (c .before .before .before .before .before .before .before .before .before .before .before .before .before .before .before .before .before .before .before .before .before .pre .2) (c .before .before .before .before .before .before .tail-of .result) (c .before .before .before .before .before .before .before .before .before .before .before .before .before .before .before .before .octets .result) (c .before .before .before .before .before .before .tail-of .ensures) (c .before .before .before .before .before .before .before .before .before .before .before .before .before .before .before .before .octets .ensures) _ _ _ _ _ (c .before .before .before .before .before .before .before .before .before .before .before .before .before .before .write-zeros .ensures) (c .before .before .before .before .before .before .before .before .before .write-number .ensures) (items.tail-written (target (c .before .before .before .before .before .before .before .before .before .before .before .before .before .before .before .before .before .before .before .before .before .args .order) (c .before .before .before .before .before .before .before .before .before .before .before .before .before .before .before .before .before .before .before .before .before .args .index)) (c .before .before .before .before .before .before .before .before .before .before .before .before .before .before .before .before .before .before .before .before .before .args .v .now) (c .before .before .before .before .before .before .before .before .before .before .before .before .before .before .before .before .before .before .before .before .before .args .out .now) (c .before .before .before .before .before .before .before .before .before .before .before .before .before .before .before .before .before .before .before .before .before .args .at) (c .before .before .before .before .before .before .before .before .before .before .before .before .before .before .before .before .before .before .before .before .before .args .kind) (c .before .before .before .before .before .before .before .before .before .before .before .before .before .before .before .before .before .before .before .before .before .args .place) (c .before .before .before .before .before .before .before .before .before .before .before .before .before .before .before .before .before .before .before .before .before .args .content) (c .before .before .before .before .before .before .before .before .before .before .before .before .before .before .before .before .before .before .width-of .result) (c .before .before .before .before .before .before .before .before .before .before .before .before .before .before .before .before .before .behind-gap .result) (c .before .before .before .before .before .before .before .before .before .before .head-of .result) (c .before .before .before .before .before .before .before .before .before .before .before .before .before .before .before .before .before .before .width-of .ensures) (c .before .before .before .before .before .before .before .before .before .before .before .before .before .before .before .before .before .behind-gap .ensures) (c .before .before .before .before .before .before .before .before .before .before .head-of .ensures) (c .before .before .before .before .before .before .before .before .before .before .before .before .before .before .before .before .before .before .before .before .before .pre .2) (c .before .before .before .before .before .before .before .before .before .before .before .before .before .before .before .before .before .before .before .before .before .pre .1) (c .before .before .before .before .before .before .tail-of .result) (c .before .before .before .before .before .before .before .before .before .before .before .before .before .before .before .before .octets .result) (c .before .before .before .before .before .before .tail-of .ensures) (c .before .before .before .before .before .before .before .before .before .before .before .before .before .before .before .before .octets .ensures) _ _ _ (c .before .before .before .before .before .before .before .before .before .write-number .kept .0 ∙ c .before .before .before .before .before .before .before .before .before .before .before .before .before .before .write-zeros .kept .0) (c .before .before .write-octets .ensures)))
+returns-2 c = search needs
 
 pub write-item-spec : {M : Type 1} → statement M
 write-item-spec =
     tie.close
     (tie.spec
-    width-of-requires
-    behind-gap-requires
-    octets-requires
-    add-end
-    sub-write-zeros
-    write-zeros-requires
-    head-of-requires
-    write-number-requires
-    tail-of-requires
+    is-octet-requires
+    cast-out
+    slice-write-out
+    add-result
     same-length
     returns
-    add-write-octets
-    sub-write-octets
-    part-write-octets-start
-    part-write-octets-end
-    write-octets-requires
-    add-result
+    write-wide-requires
     same-length-2
     returns-2)

@@ -3,10 +3,12 @@
 use mathlib.Core.Path.{_≡_, refl, sym, ap, subst, _∙_}
 use mathlib.Core.List.{List}
 use mathlib.Core.Bool.{Bool}
-use Prim.Native.Nat.{ℕ, _≤_}
-use lib.ListN.{length}
+use Prim.Native.Nat.{ℕ, _+_, _≤_}
+use native.Mathlib.Omega.{arith}
+use lib.ListN.{length, take, drop}
+use lib.Seq.{sets-eq, take-at}
 use Rattle.cdr.specs.declared.Order.{Order}
-use Rattle.cdr.proofs.Numbers.{Octets}
+use Rattle.cdr.specs.Number.{Octets}
 use Rattle.checking.specs.Types.{octetsLimit}
 use Rattle.typecode.specs.TypeCode.{checkedType}
 use Rattle.reading.specs.declared.ValueAnswer.the-variants.{Accepted}
@@ -16,15 +18,16 @@ use Rattle.reading.specs.Reading.{anyRoom, roomFor}
 use Rattle.reading.specs.Value.{answerOf, readingOf, valueAnswer}
 use Rattle.reading.proofs.Demand.{answer-is}
 use Rattle.reading.proofs.Room.{room-enough}
+use Rattle.written.specs.declared.RewriteAnswer.{RewriteAnswer}
 use Rattle.written.specs.declared.RewriteAnswer.the-variants.{Accepted as accepted}
 use Rattle.written.specs.Written.{Target, written, usedZeroed}
-use Rattle.written.specs.Rewriting.{rewriteAnswer, rewritten}
-use Rattle.written.specs.Trip.{result, firstOf, ReadBack, Returned}
+use Rattle.written.specs.Rewriting.{rewriteAnswer, rewritten, writtenBy, outputAfter}
+use Rattle.written.specs.RoundTrip.{result, firstTarget, ReadBack, RewrittenBack, ReadsBack, RewritesBack}
 use Rattle.written.proofs.Pieces.{same-octets}
 use Rattle.written.proofs.Room.{accepted-any}
 use Rattle.written.proofs.Back.{Beside, same-count, reads-beside}
 use Rattle.written.proofs.Zeroed.{own-octets, own-count}
-use Rattle.written.proofs.Answers.{ReadAs, read-as, read-accepted, RewrittenAs, rewritten-as, rewritten-accepted}
+use Rattle.written.proofs.Answers.{ReadAs, read-as, read-accepted, RewrittenAs, rewritten-as, rewritten-accepted, rewritten-room}
 
 module _ (v : List ℕ) (order : Order) (x : Source) (to : Target) (count : ℕ) (ok : Octets (x .octets)) (r : RewrittenAs v order x to count)
     (few : count ≤ octetsLimit) where
@@ -85,22 +88,23 @@ module _ (v : List ℕ) (order : Order) (x : Source) (to : Target) (count : ℕ)
   read-back : (room : ℕ) → length (readingOf anyRoom v order x .kept .items) ≤ room → ReadBack v order x to room
   read-back room h =
       let e = value-accepted room h in
-      record { first = e; second = result-accepted room _ _ _ e; items = sym (value-beside room _ _ _ e .items) }
+      record { first = e; second = result-accepted room _ _ _ e; items = sym (value-beside room _ _ _ e .items); pieces = sym (value-beside room _ _ _ e .pieces) }
+
+  -- to any order and index the result gives what the value gives
+  again : (other : Target) → rewritten v order y other ≡ rewritten v order x other
+  again other =
+      same-octets other (readingOf anyRoom v order y) (readingOf anyRoom v order x) (sym (result-beside anyRoom (r .octets .fault) .pieces))
 
   -- to the first order and index
-  again : rewritten v order y (firstOf x) ≡ rewritten v order x (firstOf x)
-  again =
-      same-octets (firstOf x) (readingOf anyRoom v order y) (readingOf anyRoom v order x) (sym (result-beside anyRoom (r .octets .fault) .pieces))
-
-  used-octets : rewritten v order x (firstOf x) ≡ usedZeroed x (readingOf anyRoom v order x)
+  used-octets : rewritten v order x (firstTarget x) ≡ usedZeroed x (readingOf anyRoom v order x)
   unfolding readingOf
   used-octets = own-octets x ok anyRoom t
 
-  used-count : length (rewritten v order x (firstOf x)) ≡ readingOf anyRoom v order x .at
+  used-count : length (rewritten v order x (firstTarget x)) ≡ readingOf anyRoom v order x .at
   unfolding readingOf
   used-count = own-count x ok anyRoom t
 
-  rewritten-again : RewrittenAs v order y (firstOf x) (readingOf anyRoom v order x .at)
+  rewritten-again : RewrittenAs v order y (firstTarget x) (readingOf anyRoom v order x .at)
   rewritten-again = record {
     typeShort = r .typeShort;
     short = result-short;
@@ -109,23 +113,36 @@ module _ (v : List ℕ) (order : Order) (x : Source) (to : Target) (count : ℕ)
     type = r .type;
     octets = record {
       fault = sym (result-beside anyRoom (r .octets .fault) .fault) ∙ r .octets .fault;
-      count = ap length again ∙ used-count;
+      count = ap length (again (firstTarget x)) ∙ used-count;
     };
   }
 
-  returned : Returned v order x to
-  returned = record {
-    octets = again ∙ used-octets;
+  rewritten-back : RewrittenBack v order x to
+  rewritten-back = record {
+    octets = again (firstTarget x) ∙ used-octets;
     count = ap length (sym used-octets) ∙ used-count;
-    answer = λ room h. rewritten-accepted v order y (firstOf x) room (readingOf anyRoom v order x .at) rewritten-again h;
+    answer = λ room h. rewritten-accepted v order y (firstTarget x) room (readingOf anyRoom v order x .at) rewritten-again h;
+    again = again;
   }
 
--- count octets are written, where there is output for so many
-pub reads-back : (v : List ℕ) (order : Order) (x : Source) (to : Target) (count output : ℕ) → Octets (x .octets)
-    → rewriteAnswer v order x to output ≡ accepted count → count ≤ octetsLimit → (room : ℕ)
-    → length (readingOf anyRoom v order x .kept .items) ≤ room → ReadBack v order x to room
-reads-back v order x to count output ok e few = read-back v order x to count ok (rewritten-as v order x to output count e) few
+-- the result of an accepted rewriting reads back
+pub reads-back : (v : List ℕ) (order : Order) (x : Source) (to : Target) → Octets (x .octets) → ReadsBack v order x to
+reads-back v order x to ok output count e few = read-back v order x to count ok (rewritten-as v order x to output count e) few
 
-pub there-and-back : (v : List ℕ) (order : Order) (x : Source) (to : Target) (count output : ℕ) → Octets (x .octets)
-    → rewriteAnswer v order x to output ≡ accepted count → count ≤ octetsLimit → Returned v order x to
-there-and-back v order x to count output ok e few = returned v order x to count ok (rewritten-as v order x to output count e) few
+-- and is rewritten to the used octets with gaps zeroed
+pub rewrites-back : (v : List ℕ) (order : Order) (x : Source) (to : Target) → Octets (x .octets) → RewritesBack v order x to
+rewrites-back v order x to ok output count e few = rewritten-back v order x to count ok (rewritten-as v order x to output count e) few
+
+-- the octets that the contract speaks of are those that the round trip speaks of
+pub output-octets : (v : List ℕ) (order : Order) (x : Source) (to : Target) (out : List ℕ) (count : ℕ)
+    → rewriteAnswer v order x to (length out) ≡ accepted count
+    → (length (rewritten v order x to) ≡ count) × (take count (outputAfter v order x to out) ≡ rewritten v order x to)
+unfolding outputAfter
+output-octets v order x to out count e =
+    let l : length (rewritten v order x to) ≡ count = rewritten-as v order x to (length out) count e .octets .count in
+    let fits : 0 + length (rewritten v order x to) ≤ length out = let h = rewritten-room v order x to (length out) count e in omega arith in (
+      l,
+      ap (λ (a : RewriteAnswer). take count (writtenBy a out (rewritten v order x to))) e
+          ∙ ap (take count) (sets-eq (rewritten v order x to) out 0 fits)
+          ∙ take-at (rewritten v order x to) (drop (0 + length (rewritten v order x to)) out) count l,
+    )
