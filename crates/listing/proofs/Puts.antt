@@ -1,42 +1,15 @@
 -- The digits of a message, put into what is left of the memory.
-use mathlib.Core.Path.{_≡_, sym, ap, _∙_}
-use mathlib.Core.List.{List, [], _++_, append-assoc, append-nil}
+use mathlib.Core.List.{List, _++_}
 use Prim.Native.Nat.{ℕ, _+_, _-_, _*_, _≤_}
 use native.Mathlib.Omega.{arith}
-use lib.ListN.{length, take, drop, length-drop, drop-of-length-le}
-use lib.Seq.{sets, sets-eq, take-all, drop-drop}
+use lib.ListN.{length, take, drop}
 use Rattle.decimals.specs.Puts.{Put}
 use Rattle.hexline.specs.declared.Encoded.{Encoded}
-use Rattle.hexline.specs.Encoding.{octetDigits, encodedInto, Encodes}
+use Rattle.hexline.specs.Encoding.{octetDigits, Encodes}
 use Rattle.hexline.proofs.Laws.{digits-length}
-use Rattle.hexline.proofs.Answers.{digits-fit}
+use Rattle.hexline.proofs.Parts.{digits-behind}
 
--- a part of the memory, filled from its start
-pub part-filled : (out : List ℕ) (at : ℕ) (xs : List ℕ) → at + length xs ≤ length out
-    → take at out ++ (sets (take (length out - at) (drop at out)) 0 xs ++ drop (length out - at) (drop at out)) ≡ sets out at xs
-part-filled out at xs h =
-    let n : length (drop at out) ≡ length out - at = length-drop at out in
-    let w : take (length out - at) (drop at out) ≡ drop at out = take-all (length out - at) (drop at out) (omega arith) in
-    let z : drop (length out - at) (drop at out) ≡ [] = drop-of-length-le (drop at out) {i = length out - at} (omega arith) in
-    let k : at + (0 + length xs) ≡ at + length xs = omega arith in
-    rw (w, z, append-nil (sets (drop at out) 0 xs), sets-eq xs (drop at out) 0 (omega arith), drop-drop (0 + length xs) at out, k)
-    (sym (sets-eq xs out at h ∙ append-assoc (take at out) xs (drop (at + length xs) out)))
-
--- the digits of octets, in a part of the memory that has room for them
-pub put-digits : (octets out part : List ℕ) (r : Encoded) (last : List ℕ) → length octets * 2 ≤ length part
-    → Encodes octets part r last → last ≡ sets part 0 (octetDigits octets)
-put-digits octets out part r last h s =
-    s .output ∙ ap (λ (a : Encoded). encodedInto a octets part) (s .answer ∙ digits-fit octets (length part) h)
-
--- a message in what is left of the memory
 pub message-put : (octets out : List ℕ) (at : ℕ) (r : Encoded) (last : List ℕ) → at + length octets * 2 ≤ length out
     → Encodes octets (take (length out - at) (drop at out)) r last
     → Put out at (octetDigits octets) (at + length octets * 2) (take at out ++ (last ++ drop (length out - at) (drop at out)))
-message-put octets out at r last h s =
-    let n : length (drop at out) ≡ length out - at = length-drop at out in
-    let w : length (take (length out - at) (drop at out)) ≡ length out - at = ap length (take-all (length out - at) (drop at out) (omega arith)) ∙ n in
-    let d = digits-length octets in
-    record {
-      end = omega arith;
-      contents = rw (put-digits octets out (take (length out - at) (drop at out)) r last (omega arith) s) (part-filled out at (octetDigits octets) (omega arith));
-    }
+message-put octets out at r last h s = record { end = omega (arith, digits-length octets); contents = digits-behind octets out at r last h s }

@@ -30,11 +30,12 @@ use Rattle.writing.specs.declared.Written.{Written}
 use Rattle.writing.specs.Write.{Stored}
 use Rattle.writing.proofs.Stores.{stored-fits}
 use Rattle.printing.specs.declared.Reply.{Reply}
-use Rattle.printing.specs.declared.Reply.the-variants.{Typed, Read, Refused, Unread, Signed, Unsigned, Single, Double, NoQuestion}
+use Rattle.printing.specs.declared.Reply.the-variants.{Typed, Read, Refused, Unread, Signed, Unsigned, Single, Double, Rewritten, NoQuestion}
 use Rattle.printing.specs.Items.{lf, itemsText}
-use Rattle.printing.specs.Replies.{space, signedText, bitsText, headText, tailText, replyText}
+use Rattle.printing.specs.Replies.{space, signedText, bitsText, octetsText, headText, tailText, replyText}
 use Rattle.printing.proofs.Reply.{the-type as reply-type}
 use Rattle.printing.proofs.Joined.{items-most}
+use Rattle.printing.proofs.Digits.{octets-most as octets-text-most}
 
 pub octets-most : (size : Size) → octets size ≤ 8
 octets-most One = omega arith
@@ -103,6 +104,7 @@ head-most (Signed x) = omega (arith, length-append (signedText x) (lf ∷ []), s
 head-most (Unsigned x) = omega (arith, number-most x (lf ∷ []))
 head-most (Single x) = omega (arith, length-append (bitsText 4 x) (lf ∷ []), bits-length 4 x)
 head-most (Double x) = omega (arith, length-append (bitsText 8 x) (lf ∷ []), bits-length 8 x)
+head-most (Rewritten count) = omega (arith, number-most count (space ∷ []))
 head-most NoQuestion = omega arith
 
 -- where the text was put
@@ -118,42 +120,63 @@ nothing-behind : (xs : List ℕ) → xs ++ [] ≡ xs
 nothing-behind [] = refl
 nothing-behind (x ∷ xs) = ap (λ (ys : List ℕ). x ∷ ys) (nothing-behind xs)
 
-pub read-text : (reply : Reply) (is : List Item) → OneOf (1 ∷ []) (tagOf reply-type reply) → headText reply ++ itemsText is ≡ replyText reply is
+pub read-text : (reply : Reply) (is : List Item) (xs : List ℕ) → OneOf (1 ∷ []) (tagOf reply-type reply)
+    → headText reply ++ itemsText is ≡ replyText reply is xs
 unfolding replyText
-read-text (Typed used kinds) is k = absurd (miss (1 ∷ []) 0 tt k)
-read-text (Read used visits count) is k = refl
-read-text (Refused number) is k = absurd (miss (1 ∷ []) 2 tt k)
-read-text (Unread number visits) is k = absurd (miss (1 ∷ []) 3 tt k)
-read-text (Signed x) is k = absurd (miss (1 ∷ []) 4 tt k)
-read-text (Unsigned x) is k = absurd (miss (1 ∷ []) 5 tt k)
-read-text (Single x) is k = absurd (miss (1 ∷ []) 6 tt k)
-read-text (Double x) is k = absurd (miss (1 ∷ []) 7 tt k)
-read-text NoQuestion is k = absurd (miss (1 ∷ []) 8 tt k)
+read-text (Typed used kinds) is xs k = absurd (miss (1 ∷ []) 0 tt k)
+read-text (Read used visits count) is xs k = refl
+read-text (Refused number) is xs k = absurd (miss (1 ∷ []) 2 tt k)
+read-text (Unread number visits) is xs k = absurd (miss (1 ∷ []) 3 tt k)
+read-text (Signed x) is xs k = absurd (miss (1 ∷ []) 4 tt k)
+read-text (Unsigned x) is xs k = absurd (miss (1 ∷ []) 5 tt k)
+read-text (Single x) is xs k = absurd (miss (1 ∷ []) 6 tt k)
+read-text (Double x) is xs k = absurd (miss (1 ∷ []) 7 tt k)
+read-text (Rewritten count) is xs k = absurd (miss (1 ∷ []) 8 tt k)
+read-text NoQuestion is xs k = absurd (miss (1 ∷ []) 9 tt k)
 
-pub other-text : (reply : Reply) (is : List Item) → OneOf (0 ∷ 2 ∷ 3 ∷ 4 ∷ 5 ∷ 6 ∷ 7 ∷ 8 ∷ []) (tagOf reply-type reply) → headText reply ≡ replyText reply is
+pub rewritten-text : (reply : Reply) (is : List Item) (xs : List ℕ) → OneOf (8 ∷ []) (tagOf reply-type reply)
+    → headText reply ++ octetsText xs ≡ replyText reply is xs
 unfolding replyText
-other-text (Read used visits count) is k = absurd (miss (0 ∷ 2 ∷ 3 ∷ 4 ∷ 5 ∷ 6 ∷ 7 ∷ 8 ∷ []) 1 tt k)
-other-text (Typed used kinds) is k = sym (nothing-behind (headText (Typed used kinds)))
-other-text (Refused number) is k = sym (nothing-behind (headText (Refused number)))
-other-text (Unread number visits) is k = sym (nothing-behind (headText (Unread number visits)))
-other-text (Signed x) is k = sym (nothing-behind (headText (Signed x)))
-other-text (Unsigned x) is k = sym (nothing-behind (headText (Unsigned x)))
-other-text (Single x) is k = sym (nothing-behind (headText (Single x)))
-other-text (Double x) is k = sym (nothing-behind (headText (Double x)))
-other-text NoQuestion is k = refl
+rewritten-text (Typed used kinds) is xs k = absurd (miss (8 ∷ []) 0 tt k)
+rewritten-text (Read used visits count) is xs k = absurd (miss (8 ∷ []) 1 tt k)
+rewritten-text (Refused number) is xs k = absurd (miss (8 ∷ []) 2 tt k)
+rewritten-text (Unread number visits) is xs k = absurd (miss (8 ∷ []) 3 tt k)
+rewritten-text (Signed x) is xs k = absurd (miss (8 ∷ []) 4 tt k)
+rewritten-text (Unsigned x) is xs k = absurd (miss (8 ∷ []) 5 tt k)
+rewritten-text (Single x) is xs k = absurd (miss (8 ∷ []) 6 tt k)
+rewritten-text (Double x) is xs k = absurd (miss (8 ∷ []) 7 tt k)
+rewritten-text (Rewritten count) is xs k = refl
+rewritten-text NoQuestion is xs k = absurd (miss (8 ∷ []) 9 tt k)
 
--- no text is longer than 66 characters and 63 for each item
-tail-most : (reply : Reply) (is : List Item) (n : ℕ) → length is ≤ n → 0 < n → length (tailText reply is) ≤ n * 63
-tail-most (Read used visits count) is n h k = items-most is n h k
-tail-most (Typed used kinds) is n h k = omega arith
-tail-most (Refused number) is n h k = omega arith
-tail-most (Unread number visits) is n h k = omega arith
-tail-most (Signed x) is n h k = omega arith
-tail-most (Unsigned x) is n h k = omega arith
-tail-most (Single x) is n h k = omega arith
-tail-most (Double x) is n h k = omega arith
-tail-most NoQuestion is n h k = omega arith
-
-pub text-most : (reply : Reply) (is : List Item) (n : ℕ) → length is ≤ n → 0 < n → length (replyText reply is) ≤ 66 + n * 63
+pub other-text : (reply : Reply) (is : List Item) (xs : List ℕ) → OneOf (0 ∷ 2 ∷ 3 ∷ 4 ∷ 5 ∷ 6 ∷ 7 ∷ 9 ∷ []) (tagOf reply-type reply)
+    → headText reply ≡ replyText reply is xs
 unfolding replyText
-text-most reply is n h k = rw length-append (omega (arith, head-most reply, tail-most reply is n h k))
+other-text (Read used visits count) is xs k = absurd (miss (0 ∷ 2 ∷ 3 ∷ 4 ∷ 5 ∷ 6 ∷ 7 ∷ 9 ∷ []) 1 tt k)
+other-text (Rewritten count) is xs k = absurd (miss (0 ∷ 2 ∷ 3 ∷ 4 ∷ 5 ∷ 6 ∷ 7 ∷ 9 ∷ []) 8 tt k)
+other-text (Typed used kinds) is xs k = sym (nothing-behind (headText (Typed used kinds)))
+other-text (Refused number) is xs k = sym (nothing-behind (headText (Refused number)))
+other-text (Unread number visits) is xs k = sym (nothing-behind (headText (Unread number visits)))
+other-text (Signed x) is xs k = sym (nothing-behind (headText (Signed x)))
+other-text (Unsigned x) is xs k = sym (nothing-behind (headText (Unsigned x)))
+other-text (Single x) is xs k = sym (nothing-behind (headText (Single x)))
+other-text (Double x) is xs k = sym (nothing-behind (headText (Double x)))
+other-text NoQuestion is xs k = refl
+
+-- no text is longer than 66 characters and 63 for each item, or two for each octet and an LF, or `-` and an LF
+tail-most : (reply : Reply) (is : List Item) (xs : List ℕ) (n : ℕ) → length is ≤ n → 0 < n → length xs * 2 < n * 63
+    → length (tailText reply is xs) ≤ n * 63
+tail-most (Read used visits count) is xs n h k l = items-most is n h k
+tail-most (Rewritten count) is xs n h k l = octets-text-most xs (n * 63) l (omega arith)
+tail-most (Typed used kinds) is xs n h k l = omega arith
+tail-most (Refused number) is xs n h k l = omega arith
+tail-most (Unread number visits) is xs n h k l = omega arith
+tail-most (Signed x) is xs n h k l = omega arith
+tail-most (Unsigned x) is xs n h k l = omega arith
+tail-most (Single x) is xs n h k l = omega arith
+tail-most (Double x) is xs n h k l = omega arith
+tail-most NoQuestion is xs n h k l = omega arith
+
+pub text-most : (reply : Reply) (is : List Item) (xs : List ℕ) (n : ℕ) → length is ≤ n → 0 < n → length xs * 2 < n * 63
+    → length (replyText reply is xs) ≤ 66 + n * 63
+unfolding replyText
+text-most reply is xs n h k l = rw length-append (omega (arith, head-most reply, tail-most reply is xs n h k l))

@@ -3,10 +3,11 @@
 --   okText, noText                      `ok` and `no`, and what stands behind them
 --   signedText                          "X is a signed (`-` before the digits) decimal": a number of 64 bits in two's complement
 --   bitsText                            "BITS 8 or 16 upper-case hexadecimal digits": those of so many octets, the most significant first
+--   octetsText                          OCTETS, "output digits are upper case", `-` for none, and the answer's LF
 --   signedWord .. doubleWord            the words before an item
---   headText                            the text of an answer, but for a value's items
---   tailText                            a value's items, and nothing behind other answers
---   replyText                           the text of an answer; the items are a value's
+--   headText                            the text of an answer, but for a value's items and a rewritten value's octets
+--   tailText                            a value's items, a rewritten value's octets, and nothing behind other answers
+--   replyText                           the text of an answer; the items are a value's, the octets a rewritten value's
 use mathlib.Core.List.{List, [], _∷_, _++_}
 use Prim.Native.Nat.{ℕ, _-_, _^_}
 use lib.Dec.{ltb}
@@ -17,7 +18,7 @@ use Rattle.decimals.specs.Decimal.{decimal}
 use Rattle.hexline.specs.Encoding.{octetDigits}
 use Rattle.reading.specs.Sinks.{Item}
 use Rattle.printing.specs.declared.Reply.{Reply}
-use Rattle.printing.specs.declared.Reply.the-variants.{Typed, Read, Refused, Unread, Signed, Unsigned, Single, Double, NoQuestion}
+use Rattle.printing.specs.declared.Reply.the-variants.{Typed, Read, Refused, Unread, Signed, Unsigned, Single, Double, Rewritten, NoQuestion}
 use Rattle.printing.specs.Items.{dash, lf, itemsText}
 
 abbrev pub space : ℕ
@@ -34,6 +35,10 @@ signedText x = choose (ltb x (2 ^ 63)) (λ _. decimal x) (λ _. dash ∷ decimal
 
 abbrev pub bitsText : ℕ → ℕ → List ℕ
 bitsText n x = octetDigits (octetsOf Big n x)
+
+abbrev pub octetsText : List ℕ → List ℕ
+octetsText [] = dash ∷ lf ∷ []
+octetsText (x ∷ xs) = octetDigits (x ∷ xs) ++ (lf ∷ [])
 
 abbrev pub signedWord : List ℕ
 signedWord = 115 ∷ 105 ∷ 103 ∷ 110 ∷ 101 ∷ 100 ∷ []
@@ -56,18 +61,20 @@ headText (Signed x) = okText (signedWord ++ (space ∷ (signedText x ++ (lf ∷ 
 headText (Unsigned x) = okText (unsignedWord ++ (space ∷ (decimal x ++ (lf ∷ []))))
 headText (Single x) = okText (singleWord ++ (space ∷ (bitsText 4 x ++ (lf ∷ []))))
 headText (Double x) = okText (doubleWord ++ (space ∷ (bitsText 8 x ++ (lf ∷ []))))
+headText (Rewritten count) = okText (decimal count ++ (space ∷ []))
 headText NoQuestion = 63 ∷ lf ∷ []
 
-abbrev pub tailText : Reply → List Item → List ℕ
-tailText (Read used visits count) is = itemsText is
-tailText (Typed used kinds) is = []
-tailText (Refused number) is = []
-tailText (Unread number visits) is = []
-tailText (Signed x) is = []
-tailText (Unsigned x) is = []
-tailText (Single x) is = []
-tailText (Double x) is = []
-tailText NoQuestion is = []
+abbrev pub tailText : Reply → List Item → List ℕ → List ℕ
+tailText (Read used visits count) is octets = itemsText is
+tailText (Rewritten count) is octets = octetsText octets
+tailText (Typed used kinds) is octets = []
+tailText (Refused number) is octets = []
+tailText (Unread number visits) is octets = []
+tailText (Signed x) is octets = []
+tailText (Unsigned x) is octets = []
+tailText (Single x) is octets = []
+tailText (Double x) is octets = []
+tailText NoQuestion is octets = []
 
-unfoldable pub replyText : Reply → List Item → List ℕ
-replyText reply is = headText reply ++ tailText reply is
+unfoldable pub replyText : Reply → List Item → List ℕ → List ℕ
+replyText reply is octets = headText reply ++ tailText reply is octets

@@ -1,4 +1,4 @@
-// The text of the answers, but for a value's items, in memory that has room for it.
+// The text of the answers, but for a value's items and a rewritten value's octets, in memory that has room for it.
 ghost use mathlib.Core.List.{[], _∷_, _++_};
 ghost use Prim.Native.Nat.{_+_, _≤_};
 ghost use lib.ListN.{length};
@@ -128,6 +128,15 @@ fn put_double(out: &mut [u8], x: u64) -> usize
     put_bits(out, 10, Size::Eight, x)
 }
 
+// Puts `ok COUNT` and a space.
+fn put_rewritten(out: &mut [u8], count: u64) -> usize
+    requires { ⌜ 66 ≤ length (now out) ⌝ }
+    ensures { λ r. ⌜ Put (now (out .entry)) 0 (okText (decimal count ++ (space ∷ []))) r (now (out .exit)) ⌝ }
+{
+    writing::write_octets(out, 0, b"ok ");
+    put_number(out, 3, count, SPACE)
+}
+
 // Puts an answer from the start of `out`.
 pub(crate) fn put(out: &mut [u8], reply: Reply) -> usize
     requires { ⌜ 66 ≤ length (now out) ⌝ }
@@ -146,6 +155,7 @@ pub(crate) fn put(out: &mut [u8], reply: Reply) -> usize
         Reply::Unsigned(x) => put_unsigned(out, x),
         Reply::Single(x) => put_single(out, x),
         Reply::Double(x) => put_double(out, x),
+        Reply::Rewritten(count) => put_rewritten(out, count as u64),
         Reply::NoQuestion => {
             out[0] = b'?';
             out[1] = LF;

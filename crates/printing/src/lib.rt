@@ -6,8 +6,9 @@ use writing::Written;
 
 mod head;
 mod items;
+mod octets;
 
-// The characters of the longest text but for its items: three numbers of at most 20 digits, `ok` and four spaces.
+// The characters of the longest text but for its items or octets: three numbers of at most 20 digits, `ok` and four spaces.
 const HEAD: usize = 66;
 
 // What a question is answered.
@@ -35,13 +36,16 @@ pub enum Reply {
     Unsigned(u64),
     Single(u64),
     Double(u64),
+    // A rewritten value: the number of its octets.
+    Rewritten(usize),
     // The line is no question.
     NoQuestion,
 }
 
-// Writes the text of an answer from `at` on, with the items of a value, three numbers each; or nothing where it does not fit.
-pub fn write_reply(out: &mut [u8], at: usize, reply: Reply, items: &[u64]) -> Written
-    ensures { λ r. ⌜ Stored (now (out .entry)) at (replyText reply (itemsOf (now (items .entry)))) r (now (out .exit)) ⌝ }
+// Writes the text of an answer from `at` on, with the items of a value, three numbers each, or the octets of a rewritten one; or nothing where
+// it does not fit.
+pub fn write_reply(out: &mut [u8], at: usize, reply: Reply, items: &[u64], octets: &[u8]) -> Written
+    ensures { λ r. ⌜ Stored (now (out .entry)) at (replyText reply (itemsOf (now (items .entry))) (now (octets .entry))) r (now (out .exit)) ⌝ }
 {
     let mut head = [0u8; HEAD];
     let end = head::put(&mut head, reply);
@@ -51,6 +55,7 @@ pub fn write_reply(out: &mut [u8], at: usize, reply: Reply, items: &[u64]) -> Wr
             visits: _,
             count: _,
         } => items::write(out, at, &head[..end], items),
+        Reply::Rewritten(_) => octets::write(out, at, &head[..end], octets),
         Reply::Typed { used: _, kinds: _ }
         | Reply::Refused(_)
         | Reply::Unread {

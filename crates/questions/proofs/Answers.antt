@@ -29,14 +29,14 @@ use Rattle.typecode.proofs.TypeAnswer.{the-type as answer-type}
 use Rattle.words.specs.Words.{space, wordsFrom, words, sameWord, orderWord}
 use Rattle.words.specs.Found.{FirstWord}
 use Rattle.printing.specs.declared.Reply.{Reply}
-use Rattle.printing.specs.declared.Reply.the-variants.{Typed, Read, Refused, Unread, Signed, Unsigned, Single, Double, NoQuestion}
+use Rattle.printing.specs.declared.Reply.the-variants.{Typed, Read, Refused, Unread, Signed, Unsigned, Single, Double, Rewritten, NoQuestion}
 use Rattle.printing.proofs.Reply.{the-type as reply-type}
 use Rattle.questions.specs.declared.octets.Octets.{Octets as OctetsAnswer}
 use Rattle.questions.specs.declared.octets.Octets.the-variants.{Count, NotOctets}
 use Rattle.questions.specs.Octets.{noneWord, octets, octetsWord}
 use Rattle.questions.specs.Questions.{noQuestion, orderedType, namedType, typeQuestion}
 use Rattle.questions.specs.Replies.{typeReply, itemShown, replyTo}
-use Rattle.questions.specs.Inner.{WordRead, numbersOf}
+use Rattle.questions.specs.Inner.{WordRead, numbersOf, octetsOf}
 
 -- a part up to the end of a line
 pub part-all : (v : List ℕ) (b : ℕ) → take (length v - b) (drop b v) ≡ drop b v
@@ -132,9 +132,9 @@ shown-last (suc zero) bits a b c = absurd (b refl)
 shown-last (suc (suc zero)) bits a b c = absurd (c refl)
 shown-last (suc (suc (suc n))) bits a b c = refl
 
--- the numbers of an answer that is no value
-pub numbers-none : (r : Reply) → OneOf (0 ∷ 2 ∷ 3 ∷ 4 ∷ 5 ∷ 6 ∷ 7 ∷ 8 ∷ []) (tagOf reply-type r) → 0 ≡ numbersOf r
-numbers-none (Read used visits count) k = absurd (miss (0 ∷ 2 ∷ 3 ∷ 4 ∷ 5 ∷ 6 ∷ 7 ∷ 8 ∷ []) 1 tt k)
+-- the numbers of an answer that is no value, and the octets of one that is not rewritten
+pub numbers-none : (r : Reply) → OneOf (0 ∷ 2 ∷ 3 ∷ 4 ∷ 5 ∷ 6 ∷ 7 ∷ 8 ∷ 9 ∷ []) (tagOf reply-type r) → 0 ≡ numbersOf r
+numbers-none (Read used visits count) k = absurd (miss (0 ∷ 2 ∷ 3 ∷ 4 ∷ 5 ∷ 6 ∷ 7 ∷ 8 ∷ 9 ∷ []) 1 tt k)
 numbers-none (Typed used kinds) k = refl
 numbers-none (Refused number) k = refl
 numbers-none (Unread number visits) k = refl
@@ -142,4 +142,17 @@ numbers-none (Signed x) k = refl
 numbers-none (Unsigned x) k = refl
 numbers-none (Single x) k = refl
 numbers-none (Double x) k = refl
+numbers-none (Rewritten count) k = refl
 numbers-none NoQuestion k = refl
+
+pub octets-none : (r : Reply) → OneOf (0 ∷ 1 ∷ 2 ∷ 3 ∷ 4 ∷ 5 ∷ 6 ∷ 7 ∷ 9 ∷ []) (tagOf reply-type r) → 0 ≡ octetsOf r
+octets-none (Rewritten count) k = absurd (miss (0 ∷ 1 ∷ 2 ∷ 3 ∷ 4 ∷ 5 ∷ 6 ∷ 7 ∷ 9 ∷ []) 8 tt k)
+octets-none (Typed used kinds) k = refl
+octets-none (Read used visits count) k = refl
+octets-none (Refused number) k = refl
+octets-none (Unread number visits) k = refl
+octets-none (Signed x) k = refl
+octets-none (Unsigned x) k = refl
+octets-none (Single x) k = refl
+octets-none (Double x) k = refl
+octets-none NoQuestion k = refl

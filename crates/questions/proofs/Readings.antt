@@ -1,7 +1,7 @@
 -- Questions about a value: their words read, and the items left in the table.
 use mathlib.Core.Path.{_≡_, refl, sym, ap, _∙_}
 use mathlib.Core.List.{List, [], _∷_, _++_}
-use Prim.Native.Nat.{ℕ, _+_, _*_, _/_, _≤_}
+use Prim.Native.Nat.{ℕ, _*_, _/_, _≤_}
 use native.Mathlib.Omega.{arith}
 use lib.Dec.{eqb}
 use lib.ListN.{length, take, drop, length-append, length-drop, length-take}
@@ -27,67 +27,81 @@ use Rattle.typecode.specs.TypeCode.{checkedType}
 use Rattle.words.specs.declared.Fields.{Fields}
 use Rattle.words.specs.declared.Fields.the-variants.{Are, NotFields}
 use Rattle.words.specs.declared.Asked.{Asked}
+use Rattle.words.specs.declared.Subject.{Subject}
+use Rattle.words.specs.declared.Rewrite.{Rewrite}
+use Rattle.words.specs.declared.Rewrite.the-variants.{Asks, NotRewrite}
+use Rattle.words.specs.declared.Chosen.{Chosen}
 use Rattle.words.specs.Words.{words}
-use Rattle.words.specs.Fields.{fieldsOf}
-use Rattle.words.specs.Inner.{part, Within, FieldsRead}
+use Rattle.words.specs.Fields.{fieldsOf, rewriteFieldsOf}
+use Rattle.words.specs.Inner.{part, subjectWords, WithinSubject, FieldsRead, RewriteRead}
+use Rattle.written.specs.Written.{target}
 use Rattle.questions.specs.declared.octets.Octets.{Octets}
 use Rattle.questions.specs.declared.octets.Octets.the-variants.{Count, NotOctets}
 use Rattle.questions.specs.declared.about.About.{About}
 use Rattle.questions.specs.declared.about.About.the-variants.{Is, NotAbout}
-use Rattle.questions.specs.Questions.{Question, valueIn, noQuestion, aboutOf, aboutQuestion}
+use Rattle.questions.specs.Questions.{Question, valueIn, rewriteIn, noQuestion, aboutOf, onAbout, aboutQuestion, rewriteQuestion}
 use Rattle.questions.specs.Replies.{roomOf}
 use Rattle.questions.specs.Inner.{WordRead, AboutRead, Replied}
 
--- the words of a question, and the octets of two of them
+-- the words of a value are within the line,
 module _ (rest : List ℕ) (f : Fields) (p : FieldsRead rest f) where
-  pub about-none : (t v : List ℕ) → f ≡ NotFields → AboutRead rest NotAbout t v
+  pub fields-within : (a : Asked) → f ≡ Are a → WithinSubject (a .subject) rest
+  fields-within a e = rw e at (p .within)
+
+  -- and behind `value` or `item` they are the question
+  pub fields-none : (ask : Order → List ℕ → Source → ℕ → Question) → f ≡ NotFields → aboutQuestion ask (fieldsOf (words rest)) ≡ noQuestion
+  fields-none ask e = rw (← p .read, e)
+
+  pub fields-about : (ask : Order → List ℕ → Source → ℕ → Question) (a : Asked) → f ≡ Are a
+      → aboutQuestion ask (fieldsOf (words rest)) ≡ onAbout (aboutOf (subjectWords (a .subject) rest)) (λ order t x. ask order t x (a .number))
+  fields-about ask a e = rw (← p .read, e)
+
+-- the same behind `rewrite`
+module _ (rest : List ℕ) (f : Rewrite) (p : RewriteRead rest f) where
+  pub rewrite-within : (c : Chosen) → f ≡ Asks c → WithinSubject (c .subject) rest
+  rewrite-within c e = rw e at (p .within)
+
+  pub rewrite-none : f ≡ NotRewrite → rewriteQuestion (rewriteFieldsOf (words rest)) ≡ noQuestion
+  rewrite-none e = rw (← p .read, e)
+
+  pub rewrite-about : (c : Chosen) → f ≡ Asks c → rewriteQuestion (rewriteFieldsOf (words rest))
+      ≡ onAbout (aboutOf (subjectWords (c .subject) rest)) (λ order t x. rewriteIn order t x (target (c .order) (indexOf (c .index))) (c .room))
+  rewrite-about c e = rw (← p .read, e)
+
+-- the octets of two of the words
+module _ (rest : List ℕ) (a : Subject) (o : Octets) (t : List ℕ) (q : WordRead (part rest (a .typed .from) (a .typed .end)) o t) where
+  pub about-no-type : (v : List ℕ) → o ≡ NotOctets → AboutRead rest a NotAbout t v
   unfolding aboutOf
-  about-none t v e = record { stands = rw (← p .read, e); typed = omega arith; valued = omega arith }
+  about-no-type v g = record { stands = rw (← q .stands, g); typed = omega arith; valued = omega arith }
 
-  module _ (a : Asked) (e : f ≡ Are a) where
-    pub type-within : Within rest (a .typed .from) (a .typed .end)
-    type-within = (rw e at (p .within)) .0
+  module _ (types : ℕ) (g : o ≡ Count types) (w : Octets) (v : List ℕ) (s : WordRead (part rest (a .value .from) (a .value .end)) w v) where
+    pub about-no-value : w ≡ NotOctets → AboutRead rest a NotAbout t v
+    unfolding aboutOf
+    about-no-value h = record { stands = rw (← q .stands, g, ← s .stands, h); typed = omega arith; valued = omega arith }
 
-    pub value-within : Within rest (a .value .from) (a .value .end)
-    value-within = (rw e at (p .within)) .1
-
-    module _ (o : Octets) (t : List ℕ) (q : WordRead (part rest (a .typed .from) (a .typed .end)) o t) where
-      pub about-no-type : (v : List ℕ) → o ≡ NotOctets → AboutRead rest NotAbout t v
-      unfolding aboutOf
-      about-no-type v g = record { stands = rw (← p .read, e, ← q .stands, g); typed = omega arith; valued = omega arith }
-
-      module _ (types : ℕ) (g : o ≡ Count types) (w : Octets) (v : List ℕ) (s : WordRead (part rest (a .value .from) (a .value .end)) w v) where
-        pub about-no-value : w ≡ NotOctets → AboutRead rest NotAbout t v
-        unfolding aboutOf
-        about-no-value h = record { stands = rw (← p .read, e, ← q .stands, g, ← s .stands, h); typed = omega arith; valued = omega arith }
-
-        pub about-is : (values : ℕ) → w ≡ Count values → AboutRead rest (Is (a .typed .order) types (a .value .order) values (a .start) (a .number)) t v
-        unfolding aboutOf
-        about-is values h =
-            record {
-              stands = rw (← p .read, e, ← q .stands, g, ← s .stands, h);
-              typed = rw g at (q .within);
-              valued = rw h at (s .within);
-            }
+    pub about-is : (values : ℕ) → w ≡ Count values → AboutRead rest a (Is (a .typed .order) types (a .value .order) values (a .start)) t v
+    unfolding aboutOf
+    about-is values h =
+        record { stands = rw (← q .stands, g, ← s .stands, h); typed = rw g at (q .within); valued = rw h at (s .within) }
 
 -- a word has no more characters than the line
 pub part-most : (rest : List ℕ) (from end : ℕ) → length (part rest from end) ≤ length rest
 part-most rest from end = rw length-take (omega (arith, length-drop from rest))
 
--- what is read of a question about a value is within the memory, and is the question
-module _ {rest : List ℕ} {r : About} {t v : List ℕ} (p : AboutRead rest r t v) where
-  pub about-nothing : (ask : Order → List ℕ → Source → ℕ → Question) → r ≡ NotAbout → aboutQuestion ask (aboutOf (fieldsOf (words rest))) ≡ noQuestion
+-- what is read of a value is within the memory, and is what is asked about
+module _ {rest : List ℕ} {a : Subject} {r : About} {t v : List ℕ} (p : AboutRead rest a r t v) where
+  pub about-nothing : (ask : Order → List ℕ → Source → Question) → r ≡ NotAbout → onAbout (aboutOf (subjectWords a rest)) ask ≡ noQuestion
   about-nothing ask e = rw (← p .stands, e)
 
-  module _ (typed : Order) (types : ℕ) (order : Order) (values start number : ℕ) (e : r ≡ Is typed types order values start number) where
+  module _ (typed : Order) (types : ℕ) (order : Order) (values start : ℕ) (e : r ≡ Is typed types order values start) where
     pub types-within : types ≤ length t
     types-within = rw e at (p .typed)
 
     pub values-within : values ≤ length v
     values-within = rw e at (p .valued)
 
-    pub about-asks : (ask : Order → List ℕ → Source → ℕ → Question)
-        → ask typed (take types t) (source (take values v) order (indexOf start)) number ≡ aboutQuestion ask (aboutOf (fieldsOf (words rest)))
+    pub about-asks : (ask : Order → List ℕ → Source → Question)
+        → ask typed (take types t) (source (take values v) order (indexOf start)) ≡ onAbout (aboutOf (subjectWords a rest)) ask
     about-asks ask = rw (← p .stands, e)
 
 -- an accepted value has as many items as it says

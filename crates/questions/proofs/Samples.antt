@@ -10,9 +10,10 @@ use Rattle.hexline.specs.Decoding.{octetOf, allDigits, lineOctets}
 use Rattle.cdr.specs.Align.{indexOf}
 use Rattle.reading.specs.Sinks.{source}
 use Rattle.words.specs.Words.{wordsFrom, sameWord, orderWord}
-use Rattle.words.specs.Fields.{codedFirst, fieldsOf}
+use Rattle.words.specs.Fields.{codedFirst, subjectFirst, fieldsOf, rewriteFieldsOf}
+use Rattle.written.specs.Written.{target}
 use Rattle.questions.specs.Octets.{octetsWord}
-use Rattle.questions.specs.Questions.{valueWord, itemWord, typeIn, valueIn, itemIn, noQuestion, aboutOf, questionOf}
+use Rattle.questions.specs.Questions.{valueWord, itemWord, rewriteWord, typeIn, valueIn, itemIn, rewriteIn, noQuestion, aboutOf, questionOf}
 
 -- `type ` and `type big `
 abbrev behindType : List ℕ → List ℕ
@@ -61,5 +62,18 @@ pub asked-values :
     × (questionOf (behindValue []) ≡ noQuestion)
     × (questionOf (behindValue (45 ∷ 55 ∷ [])) ≡ noQuestion)
     × (questionOf (behindValue (55 ∷ 32 ∷ 55 ∷ [])) ≡ noQuestion)
-unfolding choose isDigit digitValue octetOf allDigits lineOctets wordsFrom sameWord orderWord octetsWord codedFirst fieldsOf aboutOf allNumerals numberUpto numberFrom numberWord questionOf
+unfolding choose isDigit digitValue octetOf allDigits lineOctets wordsFrom sameWord orderWord octetsWord codedFirst subjectFirst fieldsOf aboutOf allNumerals numberUpto numberFrom numberWord questionOf
 asked-values = (refl, refl, refl, refl, refl, refl)
+
+-- `rewrite` and the same words, with `big 3 ROOM`; without ROOM, with another order, and with a word behind it
+abbrev behindRewrite : List ℕ → List ℕ
+behindRewrite rest = behindWord rewriteWord rest
+
+pub asked-rewrites :
+    (questionOf (behindRewrite (98 ∷ 105 ∷ 103 ∷ 32 ∷ 51 ∷ 32 ∷ 49 ∷ 56 ∷ 52 ∷ 52 ∷ 54 ∷ 55 ∷ 52 ∷ 52 ∷ 48 ∷ 55 ∷ 51 ∷ 55 ∷ 48 ∷ 57 ∷ 53 ∷ 53 ∷ 49 ∷ 54 ∷ 49 ∷ 53 ∷ []))
+    ≡ rewriteIn Big (0 ∷ []) (source (10 ∷ []) Little (indexOf 7)) (target Big (indexOf 3)) 18446744073709551615)
+    × (questionOf (behindRewrite (98 ∷ 105 ∷ 103 ∷ 32 ∷ 51 ∷ [])) ≡ noQuestion)
+    × (questionOf (behindRewrite (98 ∷ 105 ∷ 32 ∷ 51 ∷ 32 ∷ 49 ∷ [])) ≡ noQuestion)
+    × (questionOf (behindRewrite (98 ∷ 105 ∷ 103 ∷ 32 ∷ 51 ∷ 32 ∷ 49 ∷ 32 ∷ [])) ≡ noQuestion)
+unfolding choose isDigit digitValue octetOf allDigits lineOctets wordsFrom sameWord orderWord octetsWord codedFirst subjectFirst rewriteFieldsOf aboutOf allNumerals numberUpto numberFrom numberWord questionOf
+asked-rewrites = (refl, refl, refl, refl)

@@ -2,22 +2,25 @@
 --   octetsRead    what a word is as octets, by the answer and the memory that they were written into
 --   countOf       how many octets are written
 --   WordRead      what a word stands for was read, and is within the memory
---   aboutRead     the words of a question about a value, by the answer and the memory that the octets were written into
+--   aboutRead     the value that is asked about, by the answer and the memory that the octets were written into
 --   typesOf       how many octets of the type are written
 --   valuesOf      how many octets of the value are written
---   AboutRead     the words were read, and the octets are within the memory
+--   AboutRead     the words of a value were read, and the octets are within the memory
 --   numbersOf     how many numbers of the table an answer has
 --   Replied       a question's answer was found, and its items are in the table
+--   octetsMost    the most octets of a rewritten value, twice as many as a value may have
+--   octetsOf      how many octets of the memory an answer has
+--   Held          a question's answer was found, and its octets are in the memory
 use mathlib.Core.Path.{_≡_}
 use mathlib.Core.List.{List}
 use Prim.Native.Nat.{ℕ, _*_, _≤_}
 use lib.ListN.{length, take}
 use Rattle.cdr.specs.Align.{indexOf}
 use Rattle.reading.specs.Sinks.{source}
-use Rattle.words.specs.Words.{words}
-use Rattle.words.specs.Fields.{fieldsOf}
+use Rattle.words.specs.declared.Subject.{Subject}
+use Rattle.words.specs.Inner.{subjectWords}
 use Rattle.printing.specs.declared.Reply.{Reply}
-use Rattle.printing.specs.declared.Reply.the-variants.{Typed, Read, Refused, Unread, Signed, Unsigned, Single, Double, NoQuestion}
+use Rattle.printing.specs.declared.Reply.the-variants.{Typed, Read, Refused, Unread, Signed, Unsigned, Single, Double, Rewritten, NoQuestion}
 use Rattle.printing.specs.Items.{itemsOf}
 use Rattle.questions.specs.declared.octets.Octets.{Octets}
 use Rattle.questions.specs.declared.octets.Octets.the-variants.{Count, NotOctets}
@@ -25,7 +28,7 @@ use Rattle.questions.specs.declared.about.About.{About}
 use Rattle.questions.specs.declared.about.About.the-variants.{Is, NotAbout}
 use Rattle.questions.specs.Octets.{Octets as OctetsOf, octets, notOctets, octetsWord}
 use Rattle.questions.specs.Questions.{Question, About as AboutOf, about, notAbout, aboutOf}
-use Rattle.questions.specs.Replies.{replyTo, itemsIn}
+use Rattle.questions.specs.Replies.{replyTo, itemsIn, octetsIn}
 
 abbrev pub octetsRead : Octets → List ℕ → OctetsOf
 octetsRead (Count n) memory = octets (take n memory)
@@ -40,20 +43,19 @@ pub record WordRead (word : List ℕ) (r : Octets) (memory : List ℕ) : Type 0 
   pub within : countOf r ≤ length memory
 
 abbrev pub aboutRead : About → List ℕ → List ℕ → AboutOf
-aboutRead (Is typed types order values start number) t v =
-    about typed (take types t) (source (take values v) order (indexOf start)) number
+aboutRead (Is typed types order values start) t v = about typed (take types t) (source (take values v) order (indexOf start))
 aboutRead NotAbout t v = notAbout
 
 abbrev pub typesOf : About → ℕ
-typesOf (Is typed types order values start number) = types
+typesOf (Is typed types order values start) = types
 typesOf NotAbout = 0
 
 abbrev pub valuesOf : About → ℕ
-valuesOf (Is typed types order values start number) = values
+valuesOf (Is typed types order values start) = values
 valuesOf NotAbout = 0
 
-pub record AboutRead (rest : List ℕ) (r : About) (t v : List ℕ) : Type 0 where
-  pub stands : aboutRead r t v ≡ aboutOf (fieldsOf (words rest))
+pub record AboutRead (rest : List ℕ) (s : Subject) (r : About) (t v : List ℕ) : Type 0 where
+  pub stands : aboutRead r t v ≡ aboutOf (subjectWords s rest)
   pub typed : typesOf r ≤ length t
   pub valued : valuesOf r ≤ length v
 
@@ -66,9 +68,30 @@ numbersOf (Signed x) = 0
 numbersOf (Unsigned x) = 0
 numbersOf (Single x) = 0
 numbersOf (Double x) = 0
+numbersOf (Rewritten count) = 0
 numbersOf NoQuestion = 0
 
 pub record Replied (q : Question) (r : Reply) (table : List ℕ) : Type 0 where
   pub reply : r ≡ replyTo q
   pub items : itemsOf (take (numbersOf r) table) ≡ itemsIn q
   pub within : numbersOf r ≤ length table
+
+abbrev pub octetsMost : ℕ
+octetsMost = 32768
+
+abbrev pub octetsOf : Reply → ℕ
+octetsOf (Rewritten count) = count
+octetsOf (Typed used kinds) = 0
+octetsOf (Read used visits count) = 0
+octetsOf (Refused number) = 0
+octetsOf (Unread number visits) = 0
+octetsOf (Signed x) = 0
+octetsOf (Unsigned x) = 0
+octetsOf (Single x) = 0
+octetsOf (Double x) = 0
+octetsOf NoQuestion = 0
+
+pub record Held (q : Question) (r : Reply) (memory : List ℕ) : Type 0 where
+  pub reply : r ≡ replyTo q
+  pub octets : take (octetsOf r) memory ≡ octetsIn q
+  pub within : octetsOf r ≤ length memory

@@ -1,18 +1,21 @@
 -- What a line asks: "each input line is a question".
---   lineMost                         the most characters of a line
---   typeWord, valueWord, itemWord    the words `type`, `value` and `item`
---   Question                         the check of octets as a type in a byte order; the reading of a value under a type, with room for so many
---                                    items; an item of it by number; or no question
---   typeOctets                       the question by the octets that TYPE stands for
---   orderedType                      by the words behind ORDER: TYPE, and no more
---   namedType                        by the order that ORDER names
---   typeQuestion                     by the words behind `type`: ORDER and those behind it
---   About                            a type's order and octets, a value, and ROOM or NUMBER; or that the words are others
---   onOctets                         what follows octets that a word stands for
---   aboutOf                          by the words behind `value` or `item`: what TYPE and VALUE stand for, START the index of the value's first octet
---   aboutQuestion                    the question about a value
---   questionFrom                     by the words of a line: the first says what is asked
---   questionOf                       by a line; one of more characters than a line may have is no question
+--   lineMost                   the most characters of a line
+--   typeWord .. rewriteWord    the words `type`, `value`, `item` and `rewrite`
+--   Question                   the check of octets as a type in a byte order; the reading of a value under a type, with room for so many items;
+--                              an item of it by number; the value rewritten in a chosen order and index, with room for so many octets; or no
+--                              question
+--   typeOctets                 the question by the octets that TYPE stands for
+--   orderedType                by the words behind ORDER: TYPE, and no more
+--   namedType                  by the order that ORDER names
+--   typeQuestion               by the words behind `type`: ORDER and those behind it
+--   About                      a type's order and octets, and a value; or that TYPE or VALUE stands for no octets
+--   onOctets                   what follows octets that a word stands for
+--   aboutOf                    by the words of a value: what TYPE and VALUE stand for, START the index of the value's first octet
+--   onAbout                    the question about a value
+--   aboutQuestion              by the words behind `value` or `item`: about a value, with ROOM or NUMBER
+--   rewriteQuestion            by the words behind `rewrite`: about a value, with the chosen order, START the chosen index, and ROOM
+--   questionFrom               by the words of a line: the first says what is asked
+--   questionOf                 by a line; one of more characters than a line may have is no question
 use mathlib.Core.List.{List, [], _∷_}
 use Prim.Native.Nat.{ℕ}
 use lib.Dec.{ltb}
@@ -24,7 +27,8 @@ use Rattle.cdr.specs.declared.Named.the-variants.{Is, NoOrder}
 use Rattle.cdr.specs.Align.{indexOf}
 use Rattle.reading.specs.Sinks.{Source, source}
 use Rattle.words.specs.Words.{words, sameWord, orderWord}
-use Rattle.words.specs.Fields.{FieldsOf, are, notFields, fieldsOf}
+use Rattle.words.specs.Fields.{SubjectOf, FieldsOf, are, notFields, fieldsOf, RewriteFields, rewrites, notRewrite, rewriteFieldsOf}
+use Rattle.written.specs.Written.{Target, target}
 use Rattle.questions.specs.Octets.{Octets, octets, notOctets, octetsWord}
 
 abbrev pub lineMost : ℕ
@@ -39,10 +43,14 @@ valueWord = 118 ∷ 97 ∷ 108 ∷ 117 ∷ 101 ∷ []
 abbrev pub itemWord : List ℕ
 itemWord = 105 ∷ 116 ∷ 101 ∷ 109 ∷ []
 
+abbrev pub rewriteWord : List ℕ
+rewriteWord = 114 ∷ 101 ∷ 119 ∷ 114 ∷ 105 ∷ 116 ∷ 101 ∷ []
+
 pub data Question : Type 0 where
   typeIn : Order → List ℕ → Question
   valueIn : Order → List ℕ → Source → (room : ℕ) → Question
   itemIn : Order → List ℕ → Source → (number : ℕ) → Question
+  rewriteIn : Order → List ℕ → Source → Target → (room : ℕ) → Question
   noQuestion : Question
 
 abbrev pub typeOctets : Order → Octets → Question
@@ -63,31 +71,40 @@ typeQuestion [] = noQuestion
 typeQuestion (order ∷ rest) = namedType (orderWord order) rest
 
 pub data About : Type 0 where
-  about : Order → List ℕ → Source → ℕ → About
+  about : Order → List ℕ → Source → About
   notAbout : About
 
 abbrev pub onOctets : Octets → (List ℕ → About) → About
 onOctets (octets v) f = f v
 onOctets notOctets f = notAbout
 
-unfoldable pub aboutOf : FieldsOf → About
-aboutOf (are typed value start number) =
-    onOctets (octetsWord (typed .word))
-    (λ t. onOctets (octetsWord (value .word))
-    (λ v. about (typed .order) t (source v (value .order) (indexOf start)) number))
-aboutOf notFields = notAbout
+unfoldable pub aboutOf : SubjectOf → About
+aboutOf s =
+    onOctets (octetsWord (s .typed .word))
+    (λ t. onOctets (octetsWord (s .value .word))
+    (λ v. about (s .typed .order) t (source v (s .value .order) (indexOf (s .start)))))
 
-abbrev pub aboutQuestion : (Order → List ℕ → Source → ℕ → Question) → About → Question
-aboutQuestion ask (about order t x number) = ask order t x number
-aboutQuestion ask notAbout = noQuestion
+abbrev pub onAbout : About → (Order → List ℕ → Source → Question) → Question
+onAbout (about order t x) ask = ask order t x
+onAbout notAbout ask = noQuestion
+
+abbrev pub aboutQuestion : (Order → List ℕ → Source → ℕ → Question) → FieldsOf → Question
+aboutQuestion ask (are subject number) = onAbout (aboutOf subject) (λ order t x. ask order t x number)
+aboutQuestion ask notFields = noQuestion
+
+abbrev pub rewriteQuestion : RewriteFields → Question
+rewriteQuestion (rewrites subject chosen index room) =
+    onAbout (aboutOf subject) (λ order t x. rewriteIn order t x (target chosen (indexOf index)) room)
+rewriteQuestion notRewrite = noQuestion
 
 abbrev pub questionFrom : List (List ℕ) → Question
 questionFrom [] = noQuestion
 questionFrom (word ∷ rest) =
     choose (sameWord word typeWord) (λ _. typeQuestion rest)
-    (λ _. choose (sameWord word valueWord) (λ _. aboutQuestion valueIn (aboutOf (fieldsOf rest)))
-    (λ _. choose (sameWord word itemWord) (λ _. aboutQuestion itemIn (aboutOf (fieldsOf rest)))
-    (λ _. noQuestion)))
+    (λ _. choose (sameWord word valueWord) (λ _. aboutQuestion valueIn (fieldsOf rest))
+    (λ _. choose (sameWord word itemWord) (λ _. aboutQuestion itemIn (fieldsOf rest))
+    (λ _. choose (sameWord word rewriteWord) (λ _. rewriteQuestion (rewriteFieldsOf rest))
+    (λ _. noQuestion))))
 
 unfoldable pub questionOf : List ℕ → Question
 questionOf line = choose (ltb lineMost (length line)) (λ _. noQuestion) (λ _. questionFrom (words line))

@@ -1,13 +1,14 @@
-// The words of a question about a value, and the octets of its type and value.
+// The octets of the type and the value that a question is about.
 ghost use Prim.Native.Nat.{_*_, _≤_};
 ghost use lib.ListN.{length};
+ghost use Rattle.words.specs.Inner.{WithinSubject};
 ghost use Rattle.questions.specs.Inner.{AboutRead};
 use crate::octets;
 use cdr::Order;
 use octets::Octets;
-use words::Fields;
+use words::Subject;
 
-// The order and the number of octets of the type, the same of the value, the index of its first octet, and ROOM or NUMBER.
+// The order and the number of octets of the type, the same of the value, and the index of its first octet.
 pub(crate) enum About {
     Is {
         typed: Order,
@@ -15,21 +16,17 @@ pub(crate) enum About {
         order: Order,
         values: usize,
         start: u64,
-        number: u64,
     },
     NotAbout,
 }
 
-// Reads the words behind `value` or `item`, and writes the type's and the value's octets from the start of the lent memory.
-pub(crate) fn read(rest: &[u8], t: &mut [u8], v: &mut [u8]) -> About
-    requires { ⌜ (length (now rest) ≤ length (now t) * 2) × (length (now rest) ≤ length (now v) * 2) ⌝ }
-    ensures { λ r. ⌜ AboutRead (now (rest .entry)) r (now (t .exit)) (now (v .exit)) ⌝ }
+// Writes the octets that TYPE and VALUE stand for from the start of the lent memory.
+pub(crate) fn read(rest: &[u8], subject: Subject, t: &mut [u8], v: &mut [u8]) -> About
+    requires { ⌜ (WithinSubject subject (now rest)) × (length (now rest) ≤ length (now t) * 2) × (length (now rest) ≤ length (now v) * 2) ⌝ }
+    ensures { λ r. ⌜ AboutRead (now (rest .entry)) subject r (now (t .exit)) (now (v .exit)) ⌝ }
 {
-    let Fields::Are(asked) = words::read_fields(rest) else {
-        return About::NotAbout;
-    };
-    let typed = asked.typed;
-    let value = asked.value;
+    let typed = subject.typed;
+    let value = subject.value;
     let from = typed.from;
     let end = typed.end;
     let Octets::Count(types) = octets::read(&rest[from..end], t) else {
@@ -47,7 +44,6 @@ pub(crate) fn read(rest: &[u8], t: &mut [u8], v: &mut [u8]) -> About
         types,
         order,
         values,
-        start: asked.start,
-        number: asked.number,
+        start: subject.start,
     }
 }

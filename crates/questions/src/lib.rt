@@ -1,11 +1,12 @@
-// Questions, one a line, and the text of their answers: the check of a TypeCode, the reading of a value, and one of its items.
+// Questions, one a line, and the text of their answers: the check of a TypeCode, the reading of a value, one of its items, and a value
+// rewritten.
 ghost use mathlib.Core.Path.{_≡_};
 ghost use Prim.Native.Nat.{_^_, _<_, _≤_};
 ghost use lib.ListN.{length};
 ghost use Rattle.writing.specs.Write.{Stored};
 ghost use Rattle.questions.specs.Questions.{questionOf};
 ghost use Rattle.questions.specs.Replies.{answerLine};
-ghost use Rattle.questions.specs.Inner.{numbersOf, Replied};
+ghost use Rattle.questions.specs.Inner.{numbersOf, Replied, octetsMost, octetsOf, Held};
 ghost use Rattle.questions.specs.Blocks.{tableRoom, BlockAnswered};
 use printing::Reply;
 use writing::Written;
@@ -13,6 +14,7 @@ use writing::Written;
 mod about;
 mod block;
 mod octets;
+mod rewrites;
 mod types;
 mod values;
 
@@ -26,7 +28,7 @@ pub const LINE_ROOM: usize = 131073;
 pub const TABLE_ROOM: usize = 49152;
 
 // The characters of the longest answer: three numbers of at most 20 digits, `ok` and four spaces; and 16,384 items of three such numbers,
-// two colons and a comma or an LF.
+// two colons and a comma or an LF, which are more than the digits of 32,768 octets.
 pub const LONGEST: usize = 1032258;
 
 // Where a call stands: the characters kept of the line begun, the next character of the block, and the characters of output filled.
@@ -65,9 +67,11 @@ fn answer_line(line: &[u8], out: &mut [u8], table: &mut [u64], at: usize) -> Wri
     requires { ⌜ tableRoom ≤ length (now table) ⌝ }
     ensures { λ r. ⌜ Stored (now (out .entry)) at (answerLine (now (line .entry))) r (now (out .exit)) ⌝ }
 {
-    let reply = reply_to(line, table);
+    let mut memory = [0u8; rewrites::MOST];
+    let reply = reply_to(line, table, &mut memory);
     let n = numbers_of(reply);
-    printing::write_reply(out, at, reply, &table[..n])
+    let m = octets_of(reply);
+    printing::write_reply(out, at, reply, &table[..n], &memory[..m])
 }
 
 // The numbers of the table that an answer has.
@@ -91,14 +95,40 @@ fn numbers_of(reply: Reply) -> usize
         | Reply::Unsigned(_)
         | Reply::Single(_)
         | Reply::Double(_)
+        | Reply::Rewritten(_)
         | Reply::NoQuestion => 0,
     }
 }
 
-// What a line is answered, by its first word; a value's items are left in `table`.
-fn reply_to(line: &[u8], table: &mut [u64]) -> Reply
-    requires { ⌜ tableRoom ≤ length (now table) ⌝ }
-    ensures { λ r. ⌜ Replied (questionOf (now (line .entry))) r (now (table .exit)) ⌝ }
+// The octets of the memory that an answer has.
+fn octets_of(reply: Reply) -> usize
+    ensures { λ r. ⌜ r ≡ octetsOf reply ⌝ }
+{
+    match reply {
+        Reply::Rewritten(count) => count,
+        Reply::Typed { used: _, kinds: _ }
+        | Reply::Read {
+            used: _,
+            visits: _,
+            count: _,
+        }
+        | Reply::Refused(_)
+        | Reply::Unread {
+            number: _,
+            visits: _,
+        }
+        | Reply::Signed(_)
+        | Reply::Unsigned(_)
+        | Reply::Single(_)
+        | Reply::Double(_)
+        | Reply::NoQuestion => 0,
+    }
+}
+
+// What a line is answered, by its first word; a value's items are left in `table`, a rewritten value's octets in `memory`.
+fn reply_to(line: &[u8], table: &mut [u64], memory: &mut [u8]) -> Reply
+    requires { ⌜ (tableRoom ≤ length (now table)) × (octetsMost ≤ length (now memory)) ⌝ }
+    ensures { λ r. ⌜ (Replied (questionOf (now (line .entry))) r (now (table .exit))) × Held (questionOf (now (line .entry))) r (now (memory .exit)) ⌝ }
 {
     if LINE_LIMIT < line.len() {
         return Reply::NoQuestion;
@@ -115,6 +145,9 @@ fn reply_to(line: &[u8], table: &mut [u64]) -> Reply
     }
     if words::same(&line[..end], b"item") {
         return values::reply_item(&line[end + 1..]);
+    }
+    if words::same(&line[..end], b"rewrite") {
+        return rewrites::reply_rewrite(&line[end + 1..], memory);
     }
     Reply::NoQuestion
 }

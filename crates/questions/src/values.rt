@@ -6,7 +6,7 @@ ghost use Rattle.cdr.specs.Align.{indexOf};
 ghost use Rattle.reading.specs.Sinks.{source};
 ghost use Rattle.words.specs.Words.{words};
 ghost use Rattle.words.specs.Fields.{fieldsOf};
-ghost use Rattle.questions.specs.Questions.{lineMost, valueIn, itemIn, aboutOf, aboutQuestion};
+ghost use Rattle.questions.specs.Questions.{lineMost, valueIn, itemIn, aboutQuestion};
 ghost use Rattle.questions.specs.Replies.{itemShown, roomOf, replyTo};
 ghost use Rattle.questions.specs.Blocks.{tableRoom};
 ghost use Rattle.questions.specs.Inner.{Replied};
@@ -18,6 +18,7 @@ use cdr::Order;
 use printing::Reply;
 use reading::ValueAnswer;
 use value::ItemAnswer;
+use words::Fields;
 
 // The most items of an answer.
 const ITEMS: u64 = 16384;
@@ -36,8 +37,12 @@ fn room_of(room: u64) -> usize
 // Answers the words behind `value`, and leaves the items in `table`, three numbers each.
 pub(crate) fn reply_value(rest: &[u8], table: &mut [u64]) -> Reply
     requires { ⌜ (length (now rest) ≤ lineMost) × (tableRoom ≤ length (now table)) ⌝ }
-    ensures { λ r. ⌜ Replied (aboutQuestion valueIn (aboutOf (fieldsOf (words (now (rest .entry)))))) r (now (table .exit)) ⌝ }
+    ensures { λ r. ⌜ Replied (aboutQuestion valueIn (fieldsOf (words (now (rest .entry))))) r (now (table .exit)) ⌝ }
 {
+    let Fields::Are(asked) = words::read_fields(rest) else {
+        return Reply::NoQuestion;
+    };
+    let subject = asked.subject;
     let mut t = [0u8; octets::MOST];
     let mut v = [0u8; octets::MOST];
     let About::Is {
@@ -46,8 +51,7 @@ pub(crate) fn reply_value(rest: &[u8], table: &mut [u64]) -> Reply
         order,
         values,
         start,
-        number,
-    } = about::read(rest, &mut t, &mut v)
+    } = about::read(rest, subject, &mut t, &mut v)
     else {
         return Reply::NoQuestion;
     };
@@ -57,7 +61,7 @@ pub(crate) fn reply_value(rest: &[u8], table: &mut [u64]) -> Reply
         &v[..values],
         order,
         start,
-        number,
+        asked.number,
         table,
     )
 }
@@ -94,8 +98,12 @@ fn read_value(
 // Answers the words behind `item`.
 pub(crate) fn reply_item(rest: &[u8]) -> Reply
     requires { ⌜ length (now rest) ≤ lineMost ⌝ }
-    ensures { λ r. ⌜ r ≡ replyTo (aboutQuestion itemIn (aboutOf (fieldsOf (words (now (rest .entry)))))) ⌝ }
+    ensures { λ r. ⌜ r ≡ replyTo (aboutQuestion itemIn (fieldsOf (words (now (rest .entry))))) ⌝ }
 {
+    let Fields::Are(asked) = words::read_fields(rest) else {
+        return Reply::NoQuestion;
+    };
+    let subject = asked.subject;
     let mut t = [0u8; octets::MOST];
     let mut v = [0u8; octets::MOST];
     let About::Is {
@@ -104,12 +112,11 @@ pub(crate) fn reply_item(rest: &[u8]) -> Reply
         order,
         values,
         start,
-        number,
-    } = about::read(rest, &mut t, &mut v)
+    } = about::read(rest, subject, &mut t, &mut v)
     else {
         return Reply::NoQuestion;
     };
-    read_item(&t[..types], typed, &v[..values], order, start, number)
+    read_item(&t[..types], typed, &v[..values], order, start, asked.number)
 }
 
 // Answers with an item of a value.

@@ -14,17 +14,16 @@ use Rattle.cdr.specs.declared.Named.the-variants.{Is, NoOrder}
 use Rattle.decimals.specs.declared.Number.the-variants.{Is as IsNumber, NotNumber}
 use Rattle.decimals.specs.Numerals.{numberWord}
 use Rattle.words.specs.declared.Coded.{Coded}
-use Rattle.words.specs.declared.Fields.the-variants.{Are, NotFields}
 use Rattle.words.specs.declared.places.Word.{Word}
 use Rattle.words.specs.declared.places.Word.the-variants.{Upto, NoWord}
+use Rattle.words.specs.declared.places.Ordered.{Ordered}
+use Rattle.words.specs.declared.places.Ordered.the-variants.{Is as IsOrder, NotOrder}
 use Rattle.words.specs.declared.places.Pair.{Pair}
 use Rattle.words.specs.declared.places.Pair.the-variants.{Is as IsPair, NotCoded}
-use Rattle.words.specs.declared.places.Count.{Count}
-use Rattle.words.specs.declared.places.Count.the-variants.{Is as IsCount, NotNumber as NoCount}
 use Rattle.words.specs.Words.{space, wordsFrom, words, orderWord}
 use Rattle.words.specs.Found.{FirstWord}
-use Rattle.words.specs.Fields.{first, none, numberFirst, codedFirst, FieldsOf, notFields, noMore, fieldsOf}
-use Rattle.words.specs.Inner.{left, part, Within, WordAt, CodedRead, numberAt, FieldsRead}
+use Rattle.words.specs.Fields.{first, none, orderFirst, numberFirst, codedFirst, noMore}
+use Rattle.words.specs.Inner.{left, part, Within, WordAt, orderAt, CodedRead}
 
 -- a part up to the end of a line
 part-all : (v : List ℕ) (b : ℕ) → take (length v - b) (drop b v) ≡ drop b v
@@ -76,78 +75,50 @@ module _ (line : List ℕ) (from : ℕ) where
 pub word-within : {line : List ℕ} {from : ℕ} {r : Word} → WordAt line from r → (end : ℕ) → r ≡ Upto end → Within line from end
 word-within a end e = rw e at (a .within)
 
--- ORDER and the word behind it
+-- an order, a number
 module _ (line : List ℕ) (from : ℕ) (w : Word) (a : WordAt line from w) where
-  pub coded-none : w ≡ NoWord → CodedRead line from NotCoded
-  unfolding codedFirst
-  coded-none e = record { read = rw (a .found, e); within = tt }
+  pub order-none : w ≡ NoWord → none ≡ orderFirst (left line from)
+  order-none e = rw (a .found, e)
 
   pub number-none : w ≡ NoWord → none ≡ numberFirst (left line from)
   number-none e = rw (a .found, e)
 
   module _ (end : ℕ) (e : w ≡ Upto end) where
+    pub order-other : NoOrder ≡ orderWord (part line from end) → none ≡ orderFirst (left line from)
+    order-other n = rw (a .found, e, ← n)
+
+    pub order-is : (order : Order) → Is order ≡ orderWord (part line from end) → first order (left line (end + 1)) ≡ orderFirst (left line from)
+    order-is order n = rw (a .found, e, ← n)
+
     pub number-other : NotNumber ≡ numberWord (part line from end) → none ≡ numberFirst (left line from)
     number-other n = rw (a .found, e, ← n)
 
     pub number-is : (x : ℕ) → IsNumber x ≡ numberWord (part line from end) → first x (left line (end + 1)) ≡ numberFirst (left line from)
     number-is x n = rw (a .found, e, ← n)
 
-    pub coded-other : NoOrder ≡ orderWord (part line from end) → CodedRead line from NotCoded
+-- ORDER and the word behind it
+module _ (line : List ℕ) (from : ℕ) (o : Ordered) (a : orderAt o line ≡ orderFirst (left line from)) where
+  pub coded-none : o ≡ NotOrder → CodedRead line from NotCoded
+  unfolding codedFirst
+  coded-none e = record { read = rw (← a, e); within = tt }
+
+  module _ (order : Order) (next : ℕ) (e : o ≡ IsOrder order next) (w : Word) (b : WordAt line next w) where
+    pub coded-alone : w ≡ NoWord → CodedRead line from NotCoded
     unfolding codedFirst
-    coded-other n = record { read = rw (a .found, e, ← n); within = tt }
+    coded-alone f = record { read = rw (← a, e, b .found, f); within = tt }
 
-    module _ (order : Order) (n : Is order ≡ orderWord (part line from end)) (v : Word) (b : WordAt line (end + 1) v) where
-      pub coded-alone : v ≡ NoWord → CodedRead line from NotCoded
-      unfolding codedFirst
-      coded-alone f = record { read = rw (a .found, e, ← n, b .found, f); within = tt }
-
-      pub coded-is : (last : ℕ) → v ≡ Upto last → CodedRead line from (IsPair (record { order = order; from = end + 1; end = last }))
-      unfolding codedFirst
-      coded-is last f = record { read = rw (a .found, e, ← n, b .found, f); within = word-within b last f }
+    pub coded-is : (end : ℕ) → w ≡ Upto end → CodedRead line from (IsPair (record { order = order; from = next; end = end }))
+    unfolding codedFirst
+    coded-is end f = record { read = rw (← a, e, b .found, f); within = word-within b end f }
 
 pub coded-within : {line : List ℕ} {from : ℕ} {r : Pair} → CodedRead line from r → (c : Coded) → r ≡ IsPair c → Within line (c .from) (c .end)
 coded-within a c e = rw e at (a .within)
 
 -- within the line there is a word more
-some-more : (begun s : List ℕ) (fields : FieldsOf) → noMore (wordsFrom begun s) fields ≡ notFields
+some-more : {A : Type 0} (begun s : List ℕ) (ended more : A) → noMore (wordsFrom begun s) ended more ≡ more
 unfolding wordsFrom choose
-some-more begun [] fields = refl
-some-more begun (c ∷ s) fields = by-test (eqb c space) (λ e. rw e) (λ e. rw e (some-more (begun ++ (c ∷ [])) s fields))
+some-more begun [] ended more = refl
+some-more begun (c ∷ s) ended more = by-test (eqb c space) (λ e. rw e) (λ e. rw e (some-more (begun ++ (c ∷ [])) s ended more))
 
--- the words of a question, one after the other
-module _ (line : List ℕ) (a : Pair) (p : CodedRead line 0 a) where
-  pub no-type : a ≡ NotCoded → FieldsRead line NotFields
-  unfolding fieldsOf
-  no-type e = record { read = rw (← all-left line, ← p .read, e); within = tt }
-
-  module _ (t : Coded) (e : a ≡ IsPair t) (b : Pair) (q : CodedRead line (t .end + 1) b) where
-    pub no-value : b ≡ NotCoded → FieldsRead line NotFields
-    unfolding fieldsOf
-    no-value f = record { read = rw (← all-left line, ← p .read, e, ← q .read, f); within = tt }
-
-    module _ (v : Coded) (f : b ≡ IsPair v) (n : Count) (r : numberAt n line ≡ numberFirst (left line (v .end + 1))) where
-      pub no-start : n ≡ NoCount → FieldsRead line NotFields
-      unfolding fieldsOf
-      no-start g = record { read = rw (← all-left line, ← p .read, e, ← q .read, f, ← r, g); within = tt }
-
-      module _ (start next : ℕ) (g : n ≡ IsCount start next) (m : Count) (s : numberAt m line ≡ numberFirst (left line next)) where
-        pub no-number : m ≡ NoCount → FieldsRead line NotFields
-        unfolding fieldsOf
-        no-number h = record { read = rw (← all-left line, ← p .read, e, ← q .read, f, ← r, g, ← s, h); within = tt }
-
-        module _ (number last : ℕ) (h : m ≡ IsCount number last) where
-          pub fields-more : last ≤ length line → FieldsRead line NotFields
-          unfolding fieldsOf
-          fields-more k =
-              record {
-                read = rw (← all-left line, ← p .read, e, ← q .read, f, ← r, g, ← s, h, some-left line last k) (sym (some-more [] (drop last line) _));
-                within = tt;
-              }
-
-          pub fields-are : length line < last → FieldsRead line (Are (record { typed = t; value = v; start = start; number = number }))
-          unfolding fieldsOf
-          fields-are k =
-              record {
-                read = rw (← all-left line, ← p .read, e, ← q .read, f, ← r, g, ← s, h, none-left line last k);
-                within = (coded-within p t e, coded-within q v f);
-              }
+pub more-left : {A : Type 0} (line : List ℕ) (from : ℕ) (ended more : A) → from ≤ length line → more ≡ noMore (left line from) ended more
+more-left line from ended more h = rw (some-left line from h) (sym (some-more [] (drop from line) ended more))

@@ -1,3 +1,4 @@
--- Words found and compared, and words by their places.
+-- Words found and compared, words by their places, and the words of the questions.
 pub mod Found
 pub mod Left
+pub mod Subjects

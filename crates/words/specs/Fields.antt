@@ -1,17 +1,22 @@
--- The words of a question about a value: "ORDER TYPE ORDER VALUE START ROOM", or NUMBER in the place of ROOM.
---   First          what the first words stand for, and the words behind them; or that they do not stand for it
---   onFirst        what follows where they do
---   wordFirst      any word
---   orderIs        the order that a word names
---   orderFirst     a word that names an order
---   numberIs       the number that a word is
---   numberFirst    a word that is a decimal number of 64 bits
---   WordIn         an order, and a word whose octets are in that order
---   wordIn         the same, by the two
---   codedFirst     ORDER, and the word behind it
---   FieldsOf       the two with their words, START, and ROOM or NUMBER; or that the words are others
---   noMore         the words end
---   fieldsOf       by the words behind `value` or `item`
+-- The words of a question about a value: "ORDER TYPE ORDER VALUE START" and ROOM, NUMBER, or "ORDER START ROOM".
+--   First             what the first words stand for, and the words behind them; or that they do not stand for it
+--   onFirst           what follows where they do
+--   wordFirst         any word
+--   orderIs           the order that a word names
+--   orderFirst        a word that names an order
+--   numberIs          the number that a word is
+--   numberFirst       a word that is a decimal number of 64 bits
+--   WordIn            an order, and a word whose octets are in that order
+--   wordIn            the same, by the two
+--   codedFirst        ORDER, and the word behind it
+--   SubjectOf         the value that is asked about: its type's order and word, its own, and START
+--   subjectOf         the same, by the three
+--   subjectFirst      ORDER TYPE ORDER VALUE START
+--   noMore            what the words are where they end, and where more follow
+--   FieldsOf          a value, and ROOM or NUMBER; or that the words are others
+--   fieldsOf          by the words behind `value` or `item`
+--   RewriteFields     a value, the chosen order and index, and ROOM; or that the words are others
+--   rewriteFieldsOf   by the words behind `rewrite`
 use mathlib.Core.List.{List, [], _∷_}
 use Prim.Native.Nat.{ℕ}
 use Rattle.cdr.specs.declared.Order.{Order}
@@ -58,18 +63,43 @@ wordIn order word = record { order = order; word = word }
 unfoldable pub codedFirst : List (List ℕ) → First WordIn
 codedFirst ws = onFirst (orderFirst ws) none (λ order rest. onFirst (wordFirst rest) none (λ word more. first (wordIn order word) more))
 
-pub data FieldsOf : Type 0 where
-  are : (typed value : WordIn) (start number : ℕ) → FieldsOf
-  notFields : FieldsOf
+pub record SubjectOf : Type 0 where
+  pub typed : WordIn
+  pub value : WordIn
+  pub start : ℕ
 
-abbrev pub noMore : List (List ℕ) → FieldsOf → FieldsOf
-noMore [] fields = fields
-noMore (word ∷ rest) fields = notFields
+abbrev pub subjectOf : WordIn → WordIn → ℕ → SubjectOf
+subjectOf typed value start = record { typed = typed; value = value; start = start }
+
+unfoldable pub subjectFirst : List (List ℕ) → First SubjectOf
+subjectFirst ws =
+    onFirst (codedFirst ws) none
+    (λ typed behindType. onFirst (codedFirst behindType) none
+    (λ value behindValue. onFirst (numberFirst behindValue) none
+    (λ start behindStart. first (subjectOf typed value start) behindStart)))
+
+abbrev pub noMore : {A : Type 0} → List (List ℕ) → A → A → A
+noMore [] ended more = ended
+noMore (word ∷ rest) ended more = more
+
+pub data FieldsOf : Type 0 where
+  are : SubjectOf → (number : ℕ) → FieldsOf
+  notFields : FieldsOf
 
 unfoldable pub fieldsOf : List (List ℕ) → FieldsOf
 fieldsOf ws =
-    onFirst (codedFirst ws) notFields
-    (λ typed behindType. onFirst (codedFirst behindType) notFields
-    (λ value behindValue. onFirst (numberFirst behindValue) notFields
-    (λ start behindStart. onFirst (numberFirst behindStart) notFields
-    (λ number behindNumber. noMore behindNumber (are typed value start number)))))
+    onFirst (subjectFirst ws) notFields
+    (λ subject behindSubject. onFirst (numberFirst behindSubject) notFields
+    (λ number behindNumber. noMore behindNumber (are subject number) notFields))
+
+pub data RewriteFields : Type 0 where
+  rewrites : SubjectOf → Order → (index room : ℕ) → RewriteFields
+  notRewrite : RewriteFields
+
+unfoldable pub rewriteFieldsOf : List (List ℕ) → RewriteFields
+rewriteFieldsOf ws =
+    onFirst (subjectFirst ws) notRewrite
+    (λ subject behindSubject. onFirst (orderFirst behindSubject) notRewrite
+    (λ order behindOrder. onFirst (numberFirst behindOrder) notRewrite
+    (λ index behindIndex. onFirst (numberFirst behindIndex) notRewrite
+    (λ room behindRoom. noMore behindRoom (rewrites subject order index room) notRewrite))))

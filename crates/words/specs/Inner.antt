@@ -1,35 +1,52 @@
 -- Words by their places in a line, as the functions of the crate promise each other, and what the words of a question are read as.
---   left          the words from a place on; behind the last word there is a place more than the line has characters, and none are left
---   part          the characters from a place up to another
---   wordsAt       the words from a place on, by the end of the first
---   Within        a word's place and end are within the line
---   WithinWord    the same of the word that an answer has
---   WordAt        the word at a place was found, and is within the line
---   codedWord     an order and a word, by the word's place and end
---   pairAt        what the words at a place are, by the answer
---   WithinPair    the word that the answer has is within the line
---   CodedRead     ORDER and the word behind it were read
---   numberAt      a number that was read, and the words behind it
---   fieldsAt      the words of a question, by the answer
---   WithinFields  the two words that the answer has are within the line
---   FieldsRead    the words of a question were read
+--   left           the words from a place on; behind the last word there is a place more than the line has characters, and none are left
+--   part           the characters from a place up to another
+--   wordsAt        the words from a place on, by the end of the first
+--   Within         a word's place and end are within the line
+--   WithinWord     the same of the word that an answer has
+--   WordAt         the word at a place was found, and is within the line
+--   orderAt        an order that was read, and the words behind it
+--   codedWord      an order and a word, by the word's place and end
+--   pairAt         what the words at a place are, by the answer
+--   WithinPair     the word that the answer has is within the line
+--   CodedRead      ORDER and the word behind it were read
+--   numberAt       a number that was read, and the words behind it
+--   subjectWords   the value that is asked about, by the places of its words
+--   WithinSubject  its two words are within the line
+--   subjectAt      the first words of a question, by the answer, and those behind them
+--   WithinAbout    the two words that the answer has are within the line
+--   SubjectRead    the first words of a question were read
+--   fieldsAt       the words of a question, by the answer
+--   WithinFields   the two words that the answer has are within the line
+--   FieldsRead     the words behind `value` or `item` were read
+--   rewriteAt      the words behind `rewrite`, by the answer
+--   WithinRewrite  the two words that the answer has are within the line
+--   RewriteRead    they were read
 use mathlib.Core.Path.{_≡_}
 use mathlib.Core.List.{List, [], _∷_}
 use Prim.Native.Nat.{ℕ, _+_, _-_, _≤_}
 use lib.Dec.{ltb}
 use lib.ListN.{length, take, drop}
 use Rattle.choices.specs.Branch.{choose}
+use Rattle.cdr.specs.declared.Order.{Order}
 use Rattle.words.specs.declared.Coded.{Coded}
+use Rattle.words.specs.declared.Subject.{Subject}
 use Rattle.words.specs.declared.Fields.{Fields}
 use Rattle.words.specs.declared.Fields.the-variants.{Are, NotFields}
+use Rattle.words.specs.declared.Rewrite.{Rewrite}
+use Rattle.words.specs.declared.Rewrite.the-variants.{Asks, NotRewrite}
 use Rattle.words.specs.declared.places.Word.{Word}
 use Rattle.words.specs.declared.places.Word.the-variants.{Upto, NoWord}
+use Rattle.words.specs.declared.places.Ordered.{Ordered}
+use Rattle.words.specs.declared.places.Ordered.the-variants.{Is as IsOrder, NotOrder}
 use Rattle.words.specs.declared.places.Pair.{Pair}
 use Rattle.words.specs.declared.places.Pair.the-variants.{Is as IsPair, NotCoded}
 use Rattle.words.specs.declared.places.Count.{Count}
 use Rattle.words.specs.declared.places.Count.the-variants.{Is as IsCount, NotNumber}
+use Rattle.words.specs.declared.places.About.{About}
+use Rattle.words.specs.declared.places.About.the-variants.{Is as IsAbout, NotAbout}
 use Rattle.words.specs.Words.{words}
-use Rattle.words.specs.Fields.{First, first, none, WordIn, wordIn, codedFirst, FieldsOf, are, notFields, fieldsOf}
+use Rattle.words.specs.Fields.{First, first, none, WordIn, wordIn, codedFirst, SubjectOf, subjectOf, subjectFirst, FieldsOf, are, notFields, fieldsOf, RewriteFields, rewrites, notRewrite, rewriteFieldsOf}
 
 unfoldable pub left : List ℕ → ℕ → List (List ℕ)
 left line from = choose (ltb (length line) from) (λ _. []) (λ _. words (drop from line))
@@ -53,6 +70,10 @@ pub record WordAt (line : List ℕ) (from : ℕ) (r : Word) : Type 0 where
   pub found : left line from ≡ wordsAt r line from
   pub within : WithinWord r line from
 
+abbrev pub orderAt : Ordered → List ℕ → First Order
+orderAt (IsOrder order next) line = first order (left line next)
+orderAt NotOrder line = none
+
 abbrev pub codedWord : Coded → List ℕ → WordIn
 codedWord c line = wordIn (c .order) (part line (c .from) (c .end))
 
@@ -72,14 +93,44 @@ abbrev pub numberAt : Count → List ℕ → First ℕ
 numberAt (IsCount number next) line = first number (left line next)
 numberAt NotNumber line = none
 
+abbrev pub subjectWords : Subject → List ℕ → SubjectOf
+subjectWords s line = subjectOf (codedWord (s .typed) line) (codedWord (s .value) line) (s .start)
+
+abbrev pub WithinSubject : Subject → List ℕ → Type 0
+WithinSubject s line = Within line (s .typed .from) (s .typed .end) × Within line (s .value .from) (s .value .end)
+
+abbrev pub subjectAt : About → List ℕ → First SubjectOf
+subjectAt (IsAbout s next) line = first (subjectWords s line) (left line next)
+subjectAt NotAbout line = none
+
+abbrev pub WithinAbout : About → List ℕ → Type 0
+WithinAbout (IsAbout s next) line = WithinSubject s line
+WithinAbout NotAbout line = Unit {0}
+
+pub record SubjectRead (line : List ℕ) (r : About) : Type 0 where
+  pub read : subjectAt r line ≡ subjectFirst (words line)
+  pub within : WithinAbout r line
+
 abbrev pub fieldsAt : Fields → List ℕ → FieldsOf
-fieldsAt (Are a) line = are (codedWord (a .typed) line) (codedWord (a .value) line) (a .start) (a .number)
+fieldsAt (Are a) line = are (subjectWords (a .subject) line) (a .number)
 fieldsAt NotFields line = notFields
 
 abbrev pub WithinFields : Fields → List ℕ → Type 0
-WithinFields (Are a) line = Within line (a .typed .from) (a .typed .end) × Within line (a .value .from) (a .value .end)
+WithinFields (Are a) line = WithinSubject (a .subject) line
 WithinFields NotFields line = Unit {0}
 
 pub record FieldsRead (line : List ℕ) (r : Fields) : Type 0 where
   pub read : fieldsAt r line ≡ fieldsOf (words line)
   pub within : WithinFields r line
+
+abbrev pub rewriteAt : Rewrite → List ℕ → RewriteFields
+rewriteAt (Asks c) line = rewrites (subjectWords (c .subject) line) (c .order) (c .index) (c .room)
+rewriteAt NotRewrite line = notRewrite
+
+abbrev pub WithinRewrite : Rewrite → List ℕ → Type 0
+WithinRewrite (Asks c) line = WithinSubject (c .subject) line
+WithinRewrite NotRewrite line = Unit {0}
+
+pub record RewriteRead (line : List ℕ) (r : Rewrite) : Type 0 where
+  pub read : rewriteAt r line ≡ rewriteFieldsOf (words line)
+  pub within : WithinRewrite r line

@@ -1,13 +1,14 @@
-// The words of a line: where they end, whether two are the same, the orders and numbers that they name, and the words of a question about a
-// value.
+// The words of a line: where they end, whether two are the same, the orders and numbers that they name, and the words of the questions about
+// a value.
 ghost use mathlib.Core.Path.{_≡_};
 ghost use Rattle.words.specs.Words.{sameWord, orderWord};
 ghost use Rattle.words.specs.Found.{FirstWord};
-ghost use Rattle.words.specs.Inner.{FieldsRead};
+ghost use Rattle.words.specs.Inner.{FieldsRead, RewriteRead};
 use cdr::Named;
 use cdr::Order;
+use places::About;
 use places::Count;
-use places::Pair;
+use places::Ordered;
 
 mod places;
 
@@ -20,18 +21,37 @@ pub struct Coded {
     pub end: usize,
 }
 
-// The words behind `value` or `item`: ORDER TYPE, ORDER VALUE, START, and ROOM or NUMBER.
-pub struct Asked {
+// The value that is asked about: ORDER TYPE, ORDER VALUE, and START.
+pub struct Subject {
     pub typed: Coded,
     pub value: Coded,
     pub start: u64,
+}
+
+// The words behind `value` or `item`: those of a value, and ROOM or NUMBER.
+pub struct Asked {
+    pub subject: Subject,
     pub number: u64,
 }
 
-// What a line's words are as those of a question about a value.
+// What a line's words are as those behind `value` or `item`.
 pub enum Fields {
     Are(Asked),
     NotFields,
+}
+
+// The words behind `rewrite`: those of a value, and ORDER START ROOM.
+pub struct Chosen {
+    pub subject: Subject,
+    pub order: Order,
+    pub index: u64,
+    pub room: u64,
+}
+
+// What a line's words are as those behind `rewrite`.
+pub enum Rewrite {
+    Asks(Chosen),
+    NotRewrite,
 }
 
 // Where the first word ends: at the first space, or the end.
@@ -78,21 +98,11 @@ pub fn read_order(word: &[u8]) -> Named
     Named::NoOrder
 }
 
-// The words of a question about a value, where a line has these and no more.
+// The words behind `value` or `item`, where a line has these and no more.
 pub fn read_fields(line: &[u8]) -> Fields
     ensures { λ r. ⌜ FieldsRead (now (line .entry)) r ⌝ }
 {
-    let Pair::Is(typed) = places::coded_at(line, 0) else {
-        return Fields::NotFields;
-    };
-    let Pair::Is(value) = places::coded_at(line, typed.end + 1) else {
-        return Fields::NotFields;
-    };
-    let Count::Is {
-        number: start,
-        next,
-    } = places::number_at(line, value.end + 1)
-    else {
+    let About::Is { subject, next } = places::subject_first(line) else {
         return Fields::NotFields;
     };
     let Count::Is { number, next: last } = places::number_at(line, next) else {
@@ -101,10 +111,44 @@ pub fn read_fields(line: &[u8]) -> Fields
     if last <= line.len() {
         return Fields::NotFields;
     }
-    Fields::Are(Asked {
-        typed,
-        value,
-        start,
-        number,
+    Fields::Are(Asked { subject, number })
+}
+
+// The words behind `rewrite`, where a line has these and no more.
+pub fn read_rewrite(line: &[u8]) -> Rewrite
+    ensures { λ r. ⌜ RewriteRead (now (line .entry)) r ⌝ }
+{
+    let About::Is { subject, next } = places::subject_first(line) else {
+        return Rewrite::NotRewrite;
+    };
+    let Ordered::Is {
+        order,
+        next: behind,
+    } = places::order_at(line, next)
+    else {
+        return Rewrite::NotRewrite;
+    };
+    let Count::Is {
+        number: index,
+        next: later,
+    } = places::number_at(line, behind)
+    else {
+        return Rewrite::NotRewrite;
+    };
+    let Count::Is {
+        number: room,
+        next: end,
+    } = places::number_at(line, later)
+    else {
+        return Rewrite::NotRewrite;
+    };
+    if end <= line.len() {
+        return Rewrite::NotRewrite;
+    }
+    Rewrite::Asks(Chosen {
+        subject,
+        order,
+        index,
+        room,
     })
 }

@@ -1,4 +1,4 @@
--- What is answered is written, with the items that the table has.
+-- What is answered is written, with the items that the table has and the octets of the memory.
 use mathlib.Core.Path.{sym, ap, subst, _∙_}
 use mathlib.Core.List.{List}
 use Prim.Native.Nat.{ℕ}
@@ -8,10 +8,14 @@ use lib.Seq.{length-take-le}
 use Rattle.writing.specs.Write.{Stored}
 use Rattle.printing.specs.Items.{itemsOf}
 use Rattle.printing.specs.Replies.{replyText}
+use Rattle.questions.specs.Inner.{numbersOf}
 use Rattle.questions.proofs.Firsts.{replied-text}
 use borrow.Author.Needs.{needs}
 use Rattle.questions.proofs.answer_line.Statement.{statement}
 use Rattle.questions.proofs.answer_line.Tie as tie
+
+slice-aggregate-reply-to : tie.Need-slice-aggregate-reply-to
+slice-aggregate-reply-to c = search needs
 
 reply-to-requires : tie.Need-reply-to-requires
 reply-to-requires c κs = search needs
@@ -19,11 +23,20 @@ reply-to-requires c κs = search needs
 numbers-of-requires : tie.Need-numbers-of-requires
 numbers-of-requires c κs = search needs
 
+octets-of-requires : tie.Need-octets-of-requires
+octets-of-requires c κs = search needs
+
 slice-reshare-prefix-write-reply : tie.Need-slice-reshare-prefix-write-reply
 slice-reshare-prefix-write-reply c = search needs
 
 slice-aggregate-write-reply : tie.Need-slice-aggregate-write-reply
-slice-aggregate-write-reply c = sym (length-take-le _ _ (omega (arith, c .before .before .numbers-of .ensures, c .before .before .before .before .before .reply-to .ensures .within)))
+slice-aggregate-write-reply c = sym (length-take-le _ _ (omega (arith, c .before .before .before .numbers-of .ensures, c .before .before .before .before .before .before .before .reply-to .ensures .0 .within)))
+
+array-share-prefix-memory : tie.Need-array-share-prefix-memory
+array-share-prefix-memory c = omega (arith, c .before .before .octets-of .ensures, c .before .before .before .before .before .before .before .reply-to .ensures .1 .within)
+
+slice-aggregate-write-reply-2 : tie.Need-slice-aggregate-write-reply-2
+slice-aggregate-write-reply-2 c = sym (length-take-le _ _ (omega (arith, c .before .before .before .octets-of .ensures, c .before .before .before .before .before .before .before .before .reply-to .ensures .1 .within)))
 
 write-reply-requires : tie.Need-write-reply-requires
 write-reply-requires c κs = search needs
@@ -35,19 +48,24 @@ same-length-2 : tie.Need-same-length-2
 same-length-2 c = search needs
 
 returns : tie.Need-returns
-returns c = subst (λ (xs : List ℕ). Stored (c .before .before .before .before .before .before .before .before .before .before .before .before .before .args .out .now) (c .before .before .before .before .before .before .before .before .before .before .before .before .before .args .at) xs (c .before .before .write-reply .result) (c .before .before .write-reply .last .0))
-    (ap (λ (k : ℕ). replyText (c .before .before .before .before .before .before .before .before .reply-to .result) (itemsOf (take k (c .before .before .before .before .before .before .before .before .reply-to .last .1 .0)))) (c .before .before .before .before .before .numbers-of .ensures)
-    ∙ replied-text (c .before .before .before .before .before .before .before .before .before .before .before .before .before .args .line .now) _ _ (c .before .before .before .before .before .before .before .before .reply-to .ensures))
+returns c = subst (λ (xs : List ℕ). Stored (c .before .before .before .before .before .before .before .before .before .before .before .before .before .before .before .before .before .args .out .now) (c .before .before .before .before .before .before .before .before .before .before .before .before .before .before .before .before .before .args .at) xs (c .before .before .write-reply .result) (c .before .before .write-reply .last .0))
+    (ap (λ (k : ℕ). replyText (c .before .before .before .before .before .before .before .before .before .before .before .reply-to .result) (itemsOf (take k (c .before .before .before .before .before .before .before .before .before .before .before .reply-to .last .1 .0))) (take (c .before .before .before .before .before .before .octets-of .result) (c .before .before .before .before .before .before .before .before .before .before .before .reply-to .last .1 .1 .0))) (c .before .before .before .before .before .before .before .numbers-of .ensures)
+    ∙ ap (λ (k : ℕ). replyText (c .before .before .before .before .before .before .before .before .before .before .before .reply-to .result) (itemsOf (take (numbersOf (c .before .before .before .before .before .before .before .before .before .before .before .reply-to .result)) (c .before .before .before .before .before .before .before .before .before .before .before .reply-to .last .1 .0))) (take k (c .before .before .before .before .before .before .before .before .before .before .before .reply-to .last .1 .1 .0))) (c .before .before .before .before .before .before .octets-of .ensures)
+    ∙ replied-text (c .before .before .before .before .before .before .before .before .before .before .before .before .before .before .before .before .before .args .line .now) _ _ _ (c .before .before .before .before .before .before .before .before .before .before .before .reply-to .ensures .0) (c .before .before .before .before .before .before .before .before .before .before .before .reply-to .ensures .1))
     (c .before .before .write-reply .ensures)
 
 pub answer-line-spec : {M : Type 1} → statement M
 answer-line-spec =
     tie.close
     (tie.spec
+    slice-aggregate-reply-to
     reply-to-requires
     numbers-of-requires
+    octets-of-requires
     slice-reshare-prefix-write-reply
     slice-aggregate-write-reply
+    array-share-prefix-memory
+    slice-aggregate-write-reply-2
     write-reply-requires
     same-length
     same-length-2

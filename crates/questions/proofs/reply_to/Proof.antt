@@ -1,28 +1,23 @@
 -- The first word says what is asked.
-use mathlib.Core.Path.{sym, _∙_}
+use mathlib.Core.Path.{refl, sym, _∙_}
 use native.Mathlib.Omega.{arith}
-use Prim.Native.Nat.{_+_, _-_}
-use lib.ListN.{length, take, drop}
 use lib.Seq.{length-take-le}
-use Rattle.words.specs.Words.{words}
-use Rattle.words.specs.Fields.{fieldsOf}
-use Rattle.questions.specs.Questions.{aboutOf}
-use Rattle.questions.proofs.Firsts.{none-replied, type-replied, item-replied, value-replied, line-over, line-alone, line-type, line-value, line-item, line-other}
+use Rattle.questions.proofs.Firsts.{line-over, line-alone, line-type, line-value, line-item, line-rewrite, line-other}
 use borrow.Author.Needs.{needs}
 use Rattle.questions.proofs.reply_to.Statement.{statement}
 use Rattle.questions.proofs.reply_to.Tie as tie
 
 returns : tie.Need-returns
-returns c = none-replied _ _ (line-over (c .before .before .before .args .line .now) (c .if1 .taken))
+returns c = line-over (c .before .before .before .before .args .line .now) _ _ _ (c .if1 .taken) refl
 
 first-end-requires : tie.Need-first-end-requires
 first-end-requires c κs = search needs
 
 returns-2 : tie.Need-returns-2
-returns-2 c = none-replied _ _ (line-alone (c .before .before .before .before .before .args .line .now) (c .before .before .if1 .left) _ (c .before .first-end .ensures) (omega arith))
+returns-2 c = line-alone (c .before .before .before .before .before .before .args .line .now) _ _ _ (c .before .before .if1 .left) _ (c .before .first-end .ensures) (omega (arith, c .if2 .taken)) refl
 
 slice-aggregate-same : tie.Need-slice-aggregate-same
-slice-aggregate-same c = sym (length-take-le _ _ (omega arith))
+slice-aggregate-same c = sym (length-take-le _ _ (omega (arith, c .before .before .first-end .ensures .within)))
 
 slice-aggregate-same-2 : tie.Need-slice-aggregate-same-2
 slice-aggregate-same-2 c = search needs
@@ -46,7 +41,7 @@ reply-type-requires : tie.Need-reply-type-requires
 reply-type-requires c κs = search needs
 
 returns-3 : tie.Need-returns-3
-returns-3 c = type-replied _ _ _ (words (take (length (c .before .before .before .before .before .before .before .before .before .before .before .args .line .now) - (c .before .before .before .before .before .before .before .first-end .result + 1)) (drop (c .before .before .before .before .before .before .before .first-end .result + 1) (c .before .before .before .before .before .before .before .before .before .before .before .args .line .now)))) (line-type (c .before .before .before .before .before .before .before .before .before .before .before .args .line .now) (c .before .before .before .before .before .before .before .before .if1 .left) _ (c .before .before .before .before .before .before .before .first-end .ensures) (omega (arith, c .before .before .before .before .before .before .before .first-end .ensures .within)) (sym (c .before .before .if3 .taken) ∙ c .before .before .before .same .ensures)) (c .reply-type .ensures)
+returns-3 c = line-type (c .before .before .before .before .before .before .before .before .before .before .before .before .args .line .now) _ _ _ (c .before .before .before .before .before .before .before .before .if1 .left) _ (c .before .before .before .before .before .before .before .first-end .ensures) (omega (arith, c .before .before .before .before .before .before .if2 .left, c .before .before .before .before .before .before .before .first-end .ensures .within)) (sym (c .before .before .if3 .taken) ∙ c .before .before .before .same .ensures) (c .reply-type .ensures)
 
 slice-aggregate-same-3 : tie.Need-slice-aggregate-same-3
 slice-aggregate-same-3 c = sym (length-take-le _ _ (omega (arith, c .before .before .before .before .before .before .first-end .ensures .within)))
@@ -76,7 +71,7 @@ same-length : tie.Need-same-length
 same-length c = search needs
 
 returns-4 : tie.Need-returns-4
-returns-4 c = value-replied _ _ _ _ (line-value (c .before .before .before .before .before .before .before .before .before .before .before .before .before .before .before .before .before .before .args .line .now) (c .before .before .before .before .before .before .before .before .before .before .before .before .before .before .before .if1 .left) _ (c .before .before .before .before .before .before .before .before .before .before .before .before .before .before .first-end .ensures) (omega (arith, c .before .before .before .before .before .before .before .before .before .before .before .before .before .before .first-end .ensures .within)) (sym (c .before .before .before .before .before .before .before .before .before .if3 .left) ∙ c .before .before .before .before .before .before .before .before .before .before .same .ensures) (sym (c .before .before .before .before .before .if4 .taken) ∙ c .before .before .before .before .before .before .same2 .ensures)) (c .before .before .reply-value .ensures)
+returns-4 c = line-value (c .before .before .before .before .before .before .before .before .before .before .before .before .before .before .before .before .before .before .before .args .line .now) _ _ _ (c .before .before .before .before .before .before .before .before .before .before .before .before .before .before .before .if1 .left) _ (c .before .before .before .before .before .before .before .before .before .before .before .before .before .before .first-end .ensures) (omega (arith, c .before .before .before .before .before .before .before .before .before .before .before .before .before .if2 .left, c .before .before .before .before .before .before .before .before .before .before .before .before .before .before .first-end .ensures .within)) (sym (c .before .before .before .before .before .before .before .before .before .if3 .left) ∙ c .before .before .before .before .before .before .before .before .before .before .same .ensures) (sym (c .before .before .before .before .before .if4 .taken) ∙ c .before .before .before .before .before .before .same2 .ensures) (c .before .before .reply-value .ensures)
 
 slice-aggregate-same-5 : tie.Need-slice-aggregate-same-5
 slice-aggregate-same-5 c = sym (length-take-le _ _ (omega (arith, c .before .before .before .before .before .before .before .before .before .before .first-end .ensures .within)))
@@ -103,10 +98,40 @@ reply-item-requires : tie.Need-reply-item-requires
 reply-item-requires c κs = search needs
 
 returns-5 : tie.Need-returns-5
-returns-5 c = item-replied _ _ _ (aboutOf (fieldsOf (words (take (length (c .before .before .before .before .before .before .before .before .before .before .before .before .before .before .before .before .before .before .before .args .line .now) - (c .before .before .before .before .before .before .before .before .before .before .before .before .before .before .before .first-end .result + 1)) (drop (c .before .before .before .before .before .before .before .before .before .before .before .before .before .before .before .first-end .result + 1) (c .before .before .before .before .before .before .before .before .before .before .before .before .before .before .before .before .before .before .before .args .line .now)))))) (line-item (c .before .before .before .before .before .before .before .before .before .before .before .before .before .before .before .before .before .before .before .args .line .now) (c .before .before .before .before .before .before .before .before .before .before .before .before .before .before .before .before .if1 .left) _ (c .before .before .before .before .before .before .before .before .before .before .before .before .before .before .before .first-end .ensures) (omega (arith, c .before .before .before .before .before .before .before .before .before .before .before .before .before .before .before .first-end .ensures .within)) (sym (c .before .before .before .before .before .before .before .before .before .before .if3 .left) ∙ c .before .before .before .before .before .before .before .before .before .before .before .same .ensures) (sym (c .before .before .before .before .before .before .if4 .left) ∙ c .before .before .before .before .before .before .before .same2 .ensures) (sym (c .before .before .if5 .taken) ∙ c .before .before .before .same3 .ensures)) (c .reply-item .ensures)
+returns-5 c = line-item (c .before .before .before .before .before .before .before .before .before .before .before .before .before .before .before .before .before .before .before .before .args .line .now) _ _ _ (c .before .before .before .before .before .before .before .before .before .before .before .before .before .before .before .before .if1 .left) _ (c .before .before .before .before .before .before .before .before .before .before .before .before .before .before .before .first-end .ensures) (omega (arith, c .before .before .before .before .before .before .before .before .before .before .before .before .before .before .if2 .left, c .before .before .before .before .before .before .before .before .before .before .before .before .before .before .before .first-end .ensures .within)) (sym (c .before .before .before .before .before .before .before .before .before .before .if3 .left) ∙ c .before .before .before .before .before .before .before .before .before .before .before .same .ensures) (sym (c .before .before .before .before .before .before .if4 .left) ∙ c .before .before .before .before .before .before .before .same2 .ensures) (sym (c .before .before .if5 .taken) ∙ c .before .before .before .same3 .ensures) (c .reply-item .ensures)
+
+slice-aggregate-same-7 : tie.Need-slice-aggregate-same-7
+slice-aggregate-same-7 c = sym (length-take-le _ _ (omega (arith, c .before .before .before .before .before .before .before .before .before .before .before .before .before .before .first-end .ensures .within)))
+
+slice-aggregate-same-8 : tie.Need-slice-aggregate-same-8
+slice-aggregate-same-8 c = search needs
+
+same-requires-4 : tie.Need-same-requires-4
+same-requires-4 c κs = search needs
+
+add-reply-rewrite : tie.Need-add-reply-rewrite
+add-reply-rewrite c = search needs
+
+sub-reply-rewrite : tie.Need-sub-reply-rewrite
+sub-reply-rewrite c = search needs
+
+part-reply-rewrite-start : tie.Need-part-reply-rewrite-start
+part-reply-rewrite-start c = search needs
+
+part-reply-rewrite-end : tie.Need-part-reply-rewrite-end
+part-reply-rewrite-end c = search needs
+
+reply-rewrite-requires : tie.Need-reply-rewrite-requires
+reply-rewrite-requires c κs = search needs
+
+same-length-2 : tie.Need-same-length-2
+same-length-2 c = search needs
 
 returns-6 : tie.Need-returns-6
-returns-6 c = none-replied _ _ (line-other (c .before .before .before .before .before .before .before .before .before .before .before .before .before .before .before .before .before .args .line .now) (c .before .before .before .before .before .before .before .before .before .before .before .before .before .before .if1 .left) _ (c .before .before .before .before .before .before .before .before .before .before .before .before .before .first-end .ensures) (omega (arith, c .before .before .before .before .before .before .before .before .before .before .before .before .before .first-end .ensures .within)) (sym (c .before .before .before .before .before .before .before .before .if3 .left) ∙ c .before .before .before .before .before .before .before .before .before .same .ensures) (sym (c .before .before .before .before .if4 .left) ∙ c .before .before .before .before .before .same2 .ensures) (sym (c .if5 .left) ∙ c .before .same3 .ensures))
+returns-6 c = line-rewrite (c .before .before .before .before .before .before .before .before .before .before .before .before .before .before .before .before .before .before .before .before .before .before .before .before .before .before .before .args .line .now) _ _ _ (c .before .before .before .before .before .before .before .before .before .before .before .before .before .before .before .before .before .before .before .before .before .before .before .if1 .left) _ (c .before .before .before .before .before .before .before .before .before .before .before .before .before .before .before .before .before .before .before .before .before .before .first-end .ensures) (omega (arith, c .before .before .before .before .before .before .before .before .before .before .before .before .before .before .before .before .before .before .before .before .before .if2 .left, c .before .before .before .before .before .before .before .before .before .before .before .before .before .before .before .before .before .before .before .before .before .before .first-end .ensures .within)) (sym (c .before .before .before .before .before .before .before .before .before .before .before .before .before .before .before .before .before .if3 .left) ∙ c .before .before .before .before .before .before .before .before .before .before .before .before .before .before .before .before .before .before .same .ensures) (sym (c .before .before .before .before .before .before .before .before .before .before .before .before .before .if4 .left) ∙ c .before .before .before .before .before .before .before .before .before .before .before .before .before .before .same2 .ensures) (sym (c .before .before .before .before .before .before .before .before .before .if5 .left) ∙ c .before .before .before .before .before .before .before .before .before .before .same3 .ensures) (sym (c .before .before .before .before .before .if6 .taken) ∙ c .before .before .before .before .before .before .same4 .ensures) (c .before .before .reply-rewrite .ensures)
+
+returns-7 : tie.Need-returns-7
+returns-7 c = line-other (c .before .before .before .before .before .before .before .before .before .before .before .before .before .before .before .before .before .before .before .before .before .before .args .line .now) _ _ _ (c .before .before .before .before .before .before .before .before .before .before .before .before .before .before .before .before .before .before .if1 .left) _ (c .before .before .before .before .before .before .before .before .before .before .before .before .before .before .before .before .before .first-end .ensures) (omega (arith, c .before .before .before .before .before .before .before .before .before .before .before .before .before .before .before .before .if2 .left, c .before .before .before .before .before .before .before .before .before .before .before .before .before .before .before .before .before .first-end .ensures .within)) (sym (c .before .before .before .before .before .before .before .before .before .before .before .before .if3 .left) ∙ c .before .before .before .before .before .before .before .before .before .before .before .before .before .same .ensures) (sym (c .before .before .before .before .before .before .before .before .if4 .left) ∙ c .before .before .before .before .before .before .before .before .before .same2 .ensures) (sym (c .before .before .before .before .if5 .left) ∙ c .before .before .before .before .before .same3 .ensures) (sym (c .if6 .left) ∙ c .before .same4 .ensures) refl
 
 pub reply-to-spec : {M : Type 1} → statement M
 reply-to-spec =
@@ -143,4 +168,14 @@ reply-to-spec =
     part-reply-item-end
     reply-item-requires
     returns-5
-    returns-6)
+    slice-aggregate-same-7
+    slice-aggregate-same-8
+    same-requires-4
+    add-reply-rewrite
+    sub-reply-rewrite
+    part-reply-rewrite-start
+    part-reply-rewrite-end
+    reply-rewrite-requires
+    same-length-2
+    returns-6
+    returns-7)

@@ -60,6 +60,12 @@ enum-known-reply-8 c = search needs
 put-double-requires : tie.Need-put-double-requires
 put-double-requires c κs = search needs
 
+enum-known-reply-9 : tie.Need-enum-known-reply-9
+enum-known-reply-9 c = search needs
+
+put-rewritten-requires : tie.Need-put-rewritten-requires
+put-rewritten-requires c κs = search needs
+
 enum-told : tie.Need-enum-told
 enum-told c = search needs
 
@@ -121,7 +127,13 @@ same-length-9 : tie.Need-same-length-9
 same-length-9 c = search needs
 
 returns-9 : tie.Need-returns-9
-returns-9 c = rw (c .enum-told .given .1) (put-two (c .before .before .before .args .out .now) 0 63 10)
+returns-9 c = rw (c .before .before .before .before .before .reply9 .given .1) (c .before .before .put-rewritten .ensures)
+
+same-length-10 : tie.Need-same-length-10
+same-length-10 c = search needs
+
+returns-10 : tie.Need-returns-10
+returns-10 c = rw (c .enum-told .given .1) (put-two (c .before .before .before .args .out .now) 0 63 10)
 
 pub put-spec : {M : Type 1} → statement M
 put-spec =
@@ -145,6 +157,8 @@ put-spec =
     put-single-requires
     enum-known-reply-8
     put-double-requires
+    enum-known-reply-9
+    put-rewritten-requires
     enum-told
     slice-write-out
     slice-write-out-2
@@ -165,4 +179,6 @@ put-spec =
     same-length-8
     returns-8
     same-length-9
-    returns-9)
+    returns-9
+    same-length-10
+    returns-10)

@@ -3,10 +3,22 @@ use mathlib.Core.Path.{sym, ap, _∙_}
 use lib.Seq.{length-take-le}
 use Rattle.questions.specs.Questions.{itemIn}
 use Rattle.questions.specs.Replies.{replyTo}
-use Rattle.questions.proofs.Readings.{types-within, values-within, about-nothing, about-asks}
+use Rattle.questions.proofs.Readings.{fields-within, fields-none, fields-about, types-within, values-within, about-nothing, about-asks}
 use borrow.Author.Needs.{needs}
 use Rattle.questions.proofs.values.reply_item.Statement.{statement}
 use Rattle.questions.proofs.values.reply_item.Tie as tie
+
+read-fields-requires : tie.Need-read-fields-requires
+read-fields-requires c κs = search needs
+
+enum-known-asked : tie.Need-enum-known-asked
+enum-known-asked c = search needs
+
+enum-told : tie.Need-enum-told
+enum-told c = search needs
+
+returns : tie.Need-returns
+returns c = sym (ap replyTo (fields-none (c .before .before .before .before .args .rest .now) _ (c .before .before .read-fields .ensures) itemIn (c .enum-told .given .1)))
 
 slice-aggregate-read : tie.Need-slice-aggregate-read
 slice-aggregate-read c = search needs
@@ -15,48 +27,52 @@ slice-aggregate-read-2 : tie.Need-slice-aggregate-read-2
 slice-aggregate-read-2 c = search needs
 
 read-requires : tie.Need-read-requires
-read-requires c κs = search needs
+read-requires c κs = (fields-within (c .before .before .before .before .before .before .before .before .args .rest .now) _ (c .before .before .before .before .before .before .read-fields .ensures) _ (c .before .before .before .before .asked .given .1), c .before .before .before .before .before .before .before .before .pre, c .before .before .before .before .before .before .before .before .pre)
 
 enum-known-typed : tie.Need-enum-known-typed
 enum-known-typed c = search needs
 
-enum-told : tie.Need-enum-told
-enum-told c = search needs
+enum-told-2 : tie.Need-enum-told-2
+enum-told-2 c = search needs
 
-returns : tie.Need-returns
-returns c = sym (ap replyTo (about-nothing (c .before .before .before .before .read .ensures) itemIn (c .enum-told .given .1)))
+returns-2 : tie.Need-returns-2
+returns-2 c = sym (ap replyTo (fields-about (c .before .before .before .before .before .before .before .before .before .before .before .before .before .args .rest .now) _ (c .before .before .before .before .before .before .before .before .before .before .before .read-fields .ensures) itemIn _ (c .before .before .before .before .before .before .before .before .before .asked .given .1) ∙ about-nothing (c .before .before .before .before .read .ensures) (λ order t x. itemIn order t x (c .before .before .before .before .before .before .before .before .before .asked .given .0 .0 .number)) (c .enum-told2 .given .1)))
 
 array-share-prefix-t : tie.Need-array-share-prefix-t
-array-share-prefix-t c = types-within (c .before .before .before .before .before .read .ensures) _ _ _ _ _ _ (c .before .typed .given .1)
+array-share-prefix-t c = types-within (c .before .before .before .before .before .read .ensures) _ _ _ _ _ (c .before .typed .given .1)
 
 slice-aggregate-read-item : tie.Need-slice-aggregate-read-item
-slice-aggregate-read-item c = sym (length-take-le _ _ (types-within (c .before .before .before .before .before .before .read .ensures) _ _ _ _ _ _ (c .before .before .typed .given .1)))
+slice-aggregate-read-item c = sym (length-take-le _ _ (types-within (c .before .before .before .before .before .before .read .ensures) _ _ _ _ _ (c .before .before .typed .given .1)))
 
 array-share-prefix-v : tie.Need-array-share-prefix-v
-array-share-prefix-v c = values-within (c .before .before .before .before .before .before .read .ensures) _ _ _ _ _ _ (c .before .before .typed .given .1)
+array-share-prefix-v c = values-within (c .before .before .before .before .before .before .read .ensures) _ _ _ _ _ (c .before .before .typed .given .1)
 
 slice-aggregate-read-item-2 : tie.Need-slice-aggregate-read-item-2
-slice-aggregate-read-item-2 c = sym (length-take-le _ _ (values-within (c .before .before .before .before .before .before .before .read .ensures) _ _ _ _ _ _ (c .before .before .before .typed .given .1)))
+slice-aggregate-read-item-2 c = sym (length-take-le _ _ (values-within (c .before .before .before .before .before .before .before .read .ensures) _ _ _ _ _ (c .before .before .before .typed .given .1)))
 
 read-item-requires : tie.Need-read-item-requires
 read-item-requires c κs = search needs
 
-returns-2 : tie.Need-returns-2
-returns-2 c = c .read-item .ensures ∙ ap replyTo (about-asks (c .before .before .before .before .before .before .before .before .read .ensures) _ _ _ _ _ _ (c .before .before .before .before .typed .given .1) itemIn)
+returns-3 : tie.Need-returns-3
+returns-3 c = c .read-item .ensures ∙ ap replyTo (about-asks (c .before .before .before .before .before .before .before .before .read .ensures) _ _ _ _ _ (c .before .before .before .before .typed .given .1) (λ order t x. itemIn order t x (c .before .before .before .before .before .before .before .before .before .before .before .before .before .asked .given .0 .0 .number)) ∙ sym (fields-about (c .before .before .before .before .before .before .before .before .before .before .before .before .before .before .before .before .before .args .rest .now) _ (c .before .before .before .before .before .before .before .before .before .before .before .before .before .before .before .read-fields .ensures) itemIn _ (c .before .before .before .before .before .before .before .before .before .before .before .before .before .asked .given .1)))
 
 pub reply-item-spec : {M : Type 1} → statement M
 reply-item-spec =
     tie.close
     (tie.spec
+    read-fields-requires
+    enum-known-asked
+    enum-told
+    returns
     slice-aggregate-read
     slice-aggregate-read-2
     read-requires
     enum-known-typed
-    enum-told
-    returns
+    enum-told-2
+    returns-2
     array-share-prefix-t
     slice-aggregate-read-item
     array-share-prefix-v
     slice-aggregate-read-item-2
     read-item-requires
-    returns-2)
+    returns-3)

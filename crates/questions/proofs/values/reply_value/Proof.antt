@@ -1,12 +1,24 @@
 -- The words are read, and the value.
-use mathlib.Core.Path.{sym}
+use mathlib.Core.Path.{sym, _∙_}
 use lib.Seq.{length-take-le}
 use Rattle.questions.specs.Questions.{valueIn}
-use Rattle.questions.proofs.Readings.{types-within, values-within, about-nothing, about-asks}
-use Rattle.questions.proofs.Firsts.{none-replied, value-replied}
+use Rattle.questions.proofs.Readings.{fields-within, fields-none, fields-about, types-within, values-within, about-nothing, about-asks}
+use Rattle.questions.proofs.Without.{none-replied}
 use borrow.Author.Needs.{needs}
 use Rattle.questions.proofs.values.reply_value.Statement.{statement}
 use Rattle.questions.proofs.values.reply_value.Tie as tie
+
+read-fields-requires : tie.Need-read-fields-requires
+read-fields-requires c κs = search needs
+
+enum-known-asked : tie.Need-enum-known-asked
+enum-known-asked c = search needs
+
+enum-told : tie.Need-enum-told
+enum-told c = search needs
+
+returns : tie.Need-returns
+returns c = none-replied _ _ (fields-none (c .before .before .before .before .before .args .rest .now) _ (c .before .before .read-fields .ensures) valueIn (c .enum-told .given .1))
 
 slice-aggregate-read : tie.Need-slice-aggregate-read
 slice-aggregate-read c = search needs
@@ -15,28 +27,28 @@ slice-aggregate-read-2 : tie.Need-slice-aggregate-read-2
 slice-aggregate-read-2 c = search needs
 
 read-requires : tie.Need-read-requires
-read-requires c κs = search needs
+read-requires c κs = (fields-within (c .before .before .before .before .before .before .before .before .before .args .rest .now) _ (c .before .before .before .before .before .before .read-fields .ensures) _ (c .before .before .before .before .asked .given .1), c .before .before .before .before .before .before .before .before .before .pre .0, c .before .before .before .before .before .before .before .before .before .pre .0)
 
 enum-known-typed : tie.Need-enum-known-typed
 enum-known-typed c = search needs
 
-enum-told : tie.Need-enum-told
-enum-told c = search needs
+enum-told-2 : tie.Need-enum-told-2
+enum-told-2 c = search needs
 
-returns : tie.Need-returns
-returns c = none-replied _ _ (about-nothing (c .before .before .before .before .read .ensures) valueIn (c .enum-told .given .1))
+returns-2 : tie.Need-returns-2
+returns-2 c = none-replied _ _ (fields-about (c .before .before .before .before .before .before .before .before .before .before .before .before .before .before .args .rest .now) _ (c .before .before .before .before .before .before .before .before .before .before .before .read-fields .ensures) valueIn _ (c .before .before .before .before .before .before .before .before .before .asked .given .1) ∙ about-nothing (c .before .before .before .before .read .ensures) (λ order t x. valueIn order t x (c .before .before .before .before .before .before .before .before .before .asked .given .0 .0 .number)) (c .enum-told2 .given .1))
 
 array-share-prefix-t : tie.Need-array-share-prefix-t
-array-share-prefix-t c = types-within (c .before .before .before .before .before .read .ensures) _ _ _ _ _ _ (c .before .typed .given .1)
+array-share-prefix-t c = types-within (c .before .before .before .before .before .read .ensures) _ _ _ _ _ (c .before .typed .given .1)
 
 slice-aggregate-read-value : tie.Need-slice-aggregate-read-value
-slice-aggregate-read-value c = sym (length-take-le _ _ (types-within (c .before .before .before .before .before .before .read .ensures) _ _ _ _ _ _ (c .before .before .typed .given .1)))
+slice-aggregate-read-value c = sym (length-take-le _ _ (types-within (c .before .before .before .before .before .before .read .ensures) _ _ _ _ _ (c .before .before .typed .given .1)))
 
 array-share-prefix-v : tie.Need-array-share-prefix-v
-array-share-prefix-v c = values-within (c .before .before .before .before .before .before .read .ensures) _ _ _ _ _ _ (c .before .before .typed .given .1)
+array-share-prefix-v c = values-within (c .before .before .before .before .before .before .read .ensures) _ _ _ _ _ (c .before .before .typed .given .1)
 
 slice-aggregate-read-value-2 : tie.Need-slice-aggregate-read-value-2
-slice-aggregate-read-value-2 c = sym (length-take-le _ _ (values-within (c .before .before .before .before .before .before .before .read .ensures) _ _ _ _ _ _ (c .before .before .before .typed .given .1)))
+slice-aggregate-read-value-2 c = sym (length-take-le _ _ (values-within (c .before .before .before .before .before .before .before .read .ensures) _ _ _ _ _ (c .before .before .before .typed .given .1)))
 
 read-value-requires : tie.Need-read-value-requires
 read-value-requires c κs = search needs
@@ -44,23 +56,27 @@ read-value-requires c κs = search needs
 same-length : tie.Need-same-length
 same-length c = search needs
 
-returns-2 : tie.Need-returns-2
-returns-2 c = value-replied _ _ _ _ (sym (about-asks (c .before .before .before .before .before .before .before .before .before .before .before .read .ensures) _ _ _ _ _ _ (c .before .before .before .before .before .before .before .typed .given .1) valueIn)) (c .before .before .read-value .ensures)
+returns-3 : tie.Need-returns-3
+returns-3 c = rw (fields-about (c .before .before .before .before .before .before .before .before .before .before .before .before .before .before .before .before .before .before .before .before .before .args .rest .now) _ (c .before .before .before .before .before .before .before .before .before .before .before .before .before .before .before .before .before .before .read-fields .ensures) valueIn _ (c .before .before .before .before .before .before .before .before .before .before .before .before .before .before .before .before .asked .given .1) ∙ sym (about-asks (c .before .before .before .before .before .before .before .before .before .before .before .read .ensures) _ _ _ _ _ (c .before .before .before .before .before .before .before .typed .given .1) (λ order t x. valueIn order t x (c .before .before .before .before .before .before .before .before .before .before .before .before .before .before .before .before .asked .given .0 .0 .number)))) (c .before .before .read-value .ensures)
 
 pub reply-value-spec : {M : Type 1} → statement M
 reply-value-spec =
     tie.close
     (tie.spec
+    read-fields-requires
+    enum-known-asked
+    enum-told
+    returns
     slice-aggregate-read
     slice-aggregate-read-2
     read-requires
     enum-known-typed
-    enum-told
-    returns
+    enum-told-2
+    returns-2
     array-share-prefix-t
     slice-aggregate-read-value
     array-share-prefix-v
     slice-aggregate-read-value-2
     read-value-requires
     same-length
-    returns-2)
+    returns-3)

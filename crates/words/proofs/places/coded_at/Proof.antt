@@ -1,10 +1,20 @@
--- A word that names an order, and a word behind it.
-use mathlib.Core.Path.{sym, _∙_}
-use native.Mathlib.Omega.{arith}
-use Rattle.words.proofs.Left.{word-within, coded-none, coded-other, coded-alone, coded-is}
+-- An order, and a word behind it.
+use Rattle.words.proofs.Left.{coded-none, coded-alone, coded-is}
 use borrow.Author.Needs.{needs}
 use Rattle.words.proofs.places.coded_at.Statement.{statement}
 use Rattle.words.proofs.places.coded_at.Tie as tie
+
+order-at-requires : tie.Need-order-at-requires
+order-at-requires c κs = search needs
+
+enum-known-order : tie.Need-enum-known-order
+enum-known-order c = search needs
+
+enum-told : tie.Need-enum-told
+enum-told c = search needs
+
+returns : tie.Need-returns
+returns c = coded-none (c .before .before .before .before .args .line .now) (c .before .before .before .before .args .from) _ (c .before .before .order-at .ensures) (c .enum-told .given .1)
 
 word-at-requires : tie.Need-word-at-requires
 word-at-requires c κs = search needs
@@ -12,73 +22,25 @@ word-at-requires c κs = search needs
 enum-known-end : tie.Need-enum-known-end
 enum-known-end c = search needs
 
-enum-told : tie.Need-enum-told
-enum-told c = search needs
-
-returns : tie.Need-returns
-returns c = coded-none (c .before .before .before .before .args .line .now) (c .before .before .before .before .args .from) _ (c .before .before .word-at .ensures) (c .enum-told .given .1)
-
-sub-read-order : tie.Need-sub-read-order
-sub-read-order c = omega (arith, word-within (c .before .before .before .word-at .ensures) _ (c .before .end .given .1))
-
-part-read-order-start : tie.Need-part-read-order-start
-part-read-order-start c = omega (arith, word-within (c .before .before .before .word-at .ensures) _ (c .before .end .given .1))
-
-part-read-order-end : tie.Need-part-read-order-end
-part-read-order-end c = omega (arith, word-within (c .before .before .before .word-at .ensures) _ (c .before .end .given .1))
-
-read-order-requires : tie.Need-read-order-requires
-read-order-requires c κs = search needs
-
-enum-known-order : tie.Need-enum-known-order
-enum-known-order c = search needs
-
 enum-told-2 : tie.Need-enum-told-2
 enum-told-2 c = search needs
 
 returns-2 : tie.Need-returns-2
-returns-2 c = coded-other (c .before .before .before .before .before .before .before .before .before .args .line .now) (c .before .before .before .before .before .before .before .before .before .args .from) _ (c .before .before .before .before .before .before .before .word-at .ensures) _ (c .before .before .before .before .before .end .given .1) (sym (c .enum-told2 .given .1) ∙ c .before .before .read-order .ensures)
-
-add-word-at : tie.Need-add-word-at
-add-word-at c = omega (arith, word-within (c .before .before .before .before .before .before .before .before .word-at .ensures) _ (c .before .before .before .before .before .before .end .given .1))
-
-word-at-requires-2 : tie.Need-word-at-requires-2
-word-at-requires-2 c κs = search needs
-
-enum-known-last : tie.Need-enum-known-last
-enum-known-last c = search needs
-
-enum-told-3 : tie.Need-enum-told-3
-enum-told-3 c = search needs
+returns-2 c = coded-alone (c .before .before .before .before .before .before .before .before .args .line .now) (c .before .before .before .before .before .before .before .before .args .from) _ (c .before .before .before .before .before .before .order-at .ensures) _ _ (c .before .before .before .before .order .given .1) _ (c .before .before .word-at .ensures) (c .enum-told2 .given .1)
 
 returns-3 : tie.Need-returns-3
-returns-3 c = coded-alone (c .before .before .before .before .before .before .before .before .before .before .before .before .before .args .line .now) (c .before .before .before .before .before .before .before .before .before .before .before .before .before .args .from) _ (c .before .before .before .before .before .before .before .before .before .before .before .word-at .ensures) _ (c .before .before .before .before .before .before .before .before .before .end .given .1) _ (sym (c .before .before .before .before .order .given .1) ∙ c .before .before .before .before .before .before .read-order .ensures) _ (c .before .before .word-at2 .ensures) (c .enum-told3 .given .1)
-
-add-t9 : tie.Need-add-t9
-add-t9 c = omega (arith, word-within (c .before .before .before .before .before .before .before .before .before .before .before .before .word-at .ensures) _ (c .before .before .before .before .before .before .before .before .before .before .end .given .1))
-
-returns-4 : tie.Need-returns-4
-returns-4 c = coded-is (c .before .before .before .before .before .before .before .before .before .before .before .before .before .before .args .line .now) (c .before .before .before .before .before .before .before .before .before .before .before .before .before .before .args .from) _ (c .before .before .before .before .before .before .before .before .before .before .before .before .word-at .ensures) _ (c .before .before .before .before .before .before .before .before .before .before .end .given .1) _ (sym (c .before .before .before .before .before .order .given .1) ∙ c .before .before .before .before .before .before .before .read-order .ensures) _ (c .before .before .before .word-at2 .ensures) _ (c .before .last .given .1)
+returns-3 c = coded-is (c .before .before .before .before .before .before .before .before .before .args .line .now) (c .before .before .before .before .before .before .before .before .before .args .from) _ (c .before .before .before .before .before .before .before .order-at .ensures) _ _ (c .before .before .before .before .before .order .given .1) _ (c .before .before .before .word-at .ensures) _ (c .before .end .given .1)
 
 pub coded-at-spec : {M : Type 1} → statement M
 coded-at-spec =
     tie.close
     (tie.spec
-    word-at-requires
-    enum-known-end
+    order-at-requires
+    enum-known-order
     enum-told
     returns
-    sub-read-order
-    part-read-order-start
-    part-read-order-end
-    read-order-requires
-    enum-known-order
+    word-at-requires
+    enum-known-end
     enum-told-2
     returns-2
-    add-word-at
-    word-at-requires-2
-    enum-known-last
-    enum-told-3
-    returns-3
-    add-t9
-    returns-4)
+    returns-3)

@@ -1,0 +1,84 @@
+-- The words are read, and the value is rewritten.
+use mathlib.Core.Path.{sym, _∙_}
+use lib.Seq.{length-take-le}
+use Rattle.cdr.specs.Align.{indexOf}
+use Rattle.written.specs.Written.{target}
+use Rattle.questions.specs.Questions.{rewriteIn}
+use Rattle.questions.proofs.Readings.{rewrite-within, rewrite-none, rewrite-about, types-within, values-within, about-nothing, about-asks}
+use Rattle.questions.proofs.Without.{none-held}
+use borrow.Author.Needs.{needs}
+use Rattle.questions.proofs.rewrites.reply_rewrite.Statement.{statement}
+use Rattle.questions.proofs.rewrites.reply_rewrite.Tie as tie
+
+read-rewrite-requires : tie.Need-read-rewrite-requires
+read-rewrite-requires c κs = search needs
+
+enum-known-asked : tie.Need-enum-known-asked
+enum-known-asked c = search needs
+
+enum-told : tie.Need-enum-told
+enum-told c = search needs
+
+returns : tie.Need-returns
+returns c = none-held _ _ (rewrite-none (c .before .before .before .before .before .args .rest .now) _ (c .before .before .read-rewrite .ensures) (c .enum-told .given .1))
+
+slice-aggregate-read : tie.Need-slice-aggregate-read
+slice-aggregate-read c = search needs
+
+slice-aggregate-read-2 : tie.Need-slice-aggregate-read-2
+slice-aggregate-read-2 c = search needs
+
+read-requires : tie.Need-read-requires
+read-requires c κs = (rewrite-within (c .before .before .before .before .before .before .before .before .before .args .rest .now) _ (c .before .before .before .before .before .before .read-rewrite .ensures) _ (c .before .before .before .before .asked .given .1), c .before .before .before .before .before .before .before .before .before .pre .0, c .before .before .before .before .before .before .before .before .before .pre .0)
+
+enum-known-typed : tie.Need-enum-known-typed
+enum-known-typed c = search needs
+
+enum-told-2 : tie.Need-enum-told-2
+enum-told-2 c = search needs
+
+returns-2 : tie.Need-returns-2
+returns-2 c = none-held _ _ (rewrite-about (c .before .before .before .before .before .before .before .before .before .before .before .before .before .before .args .rest .now) _ (c .before .before .before .before .before .before .before .before .before .before .before .read-rewrite .ensures) _ (c .before .before .before .before .before .before .before .before .before .asked .given .1) ∙ about-nothing (c .before .before .before .before .read .ensures) (λ order t x. rewriteIn order t x (target (c .before .before .before .before .before .before .before .before .before .asked .given .0 .0 .order) (indexOf (c .before .before .before .before .before .before .before .before .before .asked .given .0 .0 .index))) (c .before .before .before .before .before .before .before .before .before .asked .given .0 .0 .room)) (c .enum-told2 .given .1))
+
+array-share-prefix-t : tie.Need-array-share-prefix-t
+array-share-prefix-t c = types-within (c .before .before .before .before .before .read .ensures) _ _ _ _ _ (c .before .typed .given .1)
+
+slice-aggregate-rewrite : tie.Need-slice-aggregate-rewrite
+slice-aggregate-rewrite c = sym (length-take-le _ _ (types-within (c .before .before .before .before .before .before .read .ensures) _ _ _ _ _ (c .before .before .typed .given .1)))
+
+array-share-prefix-v : tie.Need-array-share-prefix-v
+array-share-prefix-v c = values-within (c .before .before .before .before .before .before .read .ensures) _ _ _ _ _ (c .before .before .typed .given .1)
+
+slice-aggregate-rewrite-2 : tie.Need-slice-aggregate-rewrite-2
+slice-aggregate-rewrite-2 c = sym (length-take-le _ _ (values-within (c .before .before .before .before .before .before .before .read .ensures) _ _ _ _ _ (c .before .before .before .typed .given .1)))
+
+rewrite-requires : tie.Need-rewrite-requires
+rewrite-requires c κs = search needs
+
+same-length : tie.Need-same-length
+same-length c = search needs
+
+returns-3 : tie.Need-returns-3
+returns-3 c = rw (rewrite-about (c .before .before .before .before .before .before .before .before .before .before .before .before .before .before .before .before .before .before .before .before .before .args .rest .now) _ (c .before .before .before .before .before .before .before .before .before .before .before .before .before .before .before .before .before .before .read-rewrite .ensures) _ (c .before .before .before .before .before .before .before .before .before .before .before .before .before .before .before .before .asked .given .1) ∙ sym (about-asks (c .before .before .before .before .before .before .before .before .before .before .before .read .ensures) _ _ _ _ _ (c .before .before .before .before .before .before .before .typed .given .1) (λ order t x. rewriteIn order t x (target (c .before .before .before .before .before .before .before .before .before .before .before .before .before .before .before .before .asked .given .0 .0 .order) (indexOf (c .before .before .before .before .before .before .before .before .before .before .before .before .before .before .before .before .asked .given .0 .0 .index))) (c .before .before .before .before .before .before .before .before .before .before .before .before .before .before .before .before .asked .given .0 .0 .room)))) (c .before .before .rewrite .ensures)
+
+pub reply-rewrite-spec : {M : Type 1} → statement M
+reply-rewrite-spec =
+    tie.close
+    (tie.spec
+    read-rewrite-requires
+    enum-known-asked
+    enum-told
+    returns
+    slice-aggregate-read
+    slice-aggregate-read-2
+    read-requires
+    enum-known-typed
+    enum-told-2
+    returns-2
+    array-share-prefix-t
+    slice-aggregate-rewrite
+    array-share-prefix-v
+    slice-aggregate-rewrite-2
+    rewrite-requires
+    same-length
+    returns-3)

@@ -1,0 +1,82 @@
+// The question `rewrite ORDER TYPE ORDER VALUE START ORDER START ROOM`.
+ghost use Prim.Native.Nat.{_≤_};
+ghost use lib.ListN.{length};
+ghost use Rattle.cdr.specs.Align.{indexOf};
+ghost use Rattle.reading.specs.Sinks.{source};
+ghost use Rattle.written.specs.Written.{target};
+ghost use Rattle.words.specs.Words.{words};
+ghost use Rattle.words.specs.Fields.{rewriteFieldsOf};
+ghost use Rattle.questions.specs.Questions.{lineMost, rewriteIn, rewriteQuestion};
+ghost use Rattle.questions.specs.Inner.{octetsMost, Held};
+use crate::about;
+use crate::block;
+use crate::octets;
+use about::About;
+use cdr::Index;
+use cdr::Order;
+use printing::Reply;
+use words::Rewrite;
+use written::RewriteAnswer;
+
+// The most octets of a rewritten value: twice as many as a value may have.
+pub(crate) const MOST: usize = 32768;
+
+// Answers the words behind `rewrite`, and leaves the octets in the lent memory.
+pub(crate) fn reply_rewrite(rest: &[u8], memory: &mut [u8]) -> Reply
+    requires { ⌜ (length (now rest) ≤ lineMost) × (octetsMost ≤ length (now memory)) ⌝ }
+    ensures { λ r. ⌜ Held (rewriteQuestion (rewriteFieldsOf (words (now (rest .entry))))) r (now (memory .exit)) ⌝ }
+{
+    let Rewrite::Asks(asked) = words::read_rewrite(rest) else {
+        return Reply::NoQuestion;
+    };
+    let subject = asked.subject;
+    let chosen = asked.order;
+    let mut t = [0u8; octets::MOST];
+    let mut v = [0u8; octets::MOST];
+    let About::Is {
+        typed,
+        types,
+        order,
+        values,
+        start,
+    } = about::read(rest, subject, &mut t, &mut v)
+    else {
+        return Reply::NoQuestion;
+    };
+    rewrite(
+        &t[..types],
+        typed,
+        &v[..values],
+        order,
+        start,
+        chosen,
+        asked.index,
+        asked.room,
+        memory,
+    )
+}
+
+// Answers with a value rewritten. No value has more octets then than MOST, so that more room is no difference.
+fn rewrite(
+    t: &[u8],
+    typed: Order,
+    v: &[u8],
+    order: Order,
+    start: u64,
+    chosen: Order,
+    index: u64,
+    room: u64,
+    memory: &mut [u8],
+) -> Reply
+    requires { ⌜ octetsMost ≤ length (now memory) ⌝ }
+    ensures { λ r. ⌜ Held (rewriteIn typed (now (t .entry)) (source (now (v .entry)) order (indexOf start)) (target chosen (indexOf index)) room) r (now (memory .exit)) ⌝ }
+{
+    let n = block::least(room as usize, MOST);
+    let first = Index(start as usize);
+    let to = Index(index as usize);
+    let answer = rewriting::rewrite(t, typed, v, order, first, chosen, to, &mut memory[..n]);
+    match answer {
+        RewriteAnswer::Accepted(count) => Reply::Rewritten(count),
+        RewriteAnswer::Refused(number) => Reply::Refused(number),
+    }
+}

@@ -1,0 +1,98 @@
+-- The words of the questions about a value, one after the other.
+use mathlib.Core.Path.{_≡_}
+use mathlib.Core.List.{List}
+use Prim.Native.Nat.{ℕ, _+_, _<_, _≤_}
+use lib.ListN.{length}
+use Rattle.cdr.specs.declared.Order.{Order}
+use Rattle.words.specs.declared.Coded.{Coded}
+use Rattle.words.specs.declared.Subject.{Subject}
+use Rattle.words.specs.declared.Fields.the-variants.{Are, NotFields}
+use Rattle.words.specs.declared.Rewrite.the-variants.{Asks, NotRewrite}
+use Rattle.words.specs.declared.places.Ordered.{Ordered}
+use Rattle.words.specs.declared.places.Ordered.the-variants.{Is as IsOrder, NotOrder}
+use Rattle.words.specs.declared.places.Pair.{Pair}
+use Rattle.words.specs.declared.places.Pair.the-variants.{Is as IsPair, NotCoded}
+use Rattle.words.specs.declared.places.Count.{Count}
+use Rattle.words.specs.declared.places.Count.the-variants.{Is as IsCount, NotNumber}
+use Rattle.words.specs.declared.places.About.{About}
+use Rattle.words.specs.declared.places.About.the-variants.{Is as IsAbout, NotAbout}
+use Rattle.words.specs.Fields.{orderFirst, numberFirst, subjectFirst, fieldsOf, rewriteFieldsOf}
+use Rattle.words.specs.Inner.{left, orderAt, CodedRead, numberAt, WithinSubject, SubjectRead, FieldsRead, RewriteRead}
+use Rattle.words.proofs.Left.{none-left, all-left, coded-within, more-left}
+
+-- the words of a value
+module _ (line : List ℕ) (a : Pair) (p : CodedRead line 0 a) where
+  pub no-type : a ≡ NotCoded → SubjectRead line NotAbout
+  unfolding subjectFirst
+  no-type e = record { read = rw (← all-left line, ← p .read, e); within = tt }
+
+  module _ (t : Coded) (e : a ≡ IsPair t) (b : Pair) (q : CodedRead line (t .end + 1) b) where
+    pub no-value : b ≡ NotCoded → SubjectRead line NotAbout
+    unfolding subjectFirst
+    no-value f = record { read = rw (← all-left line, ← p .read, e, ← q .read, f); within = tt }
+
+    module _ (v : Coded) (f : b ≡ IsPair v) (n : Count) (r : numberAt n line ≡ numberFirst (left line (v .end + 1))) where
+      pub no-start : n ≡ NotNumber → SubjectRead line NotAbout
+      unfolding subjectFirst
+      no-start g = record { read = rw (← all-left line, ← p .read, e, ← q .read, f, ← r, g); within = tt }
+
+      pub subject-is : (start next : ℕ) → n ≡ IsCount start next → SubjectRead line (IsAbout (record { typed = t; value = v; start = start }) next)
+      unfolding subjectFirst
+      subject-is start next g =
+          record {
+            read = rw (← all-left line, ← p .read, e, ← q .read, f, ← r, g);
+            within = (coded-within p t e, coded-within q v f);
+          }
+
+-- and those behind them: of `value` and `item`
+module _ (line : List ℕ) (a : About) (p : SubjectRead line a) where
+  pub fields-none : a ≡ NotAbout → FieldsRead line NotFields
+  unfolding fieldsOf
+  fields-none e = record { read = rw (← p .read, e); within = tt }
+
+  pub rewrite-none : a ≡ NotAbout → RewriteRead line NotRewrite
+  unfolding rewriteFieldsOf
+  rewrite-none e = record { read = rw (← p .read, e); within = tt }
+
+  module _ (s : Subject) (next : ℕ) (e : a ≡ IsAbout s next) where
+    subject-within : WithinSubject s line
+    subject-within = rw e at (p .within)
+
+    module _ (n : Count) (q : numberAt n line ≡ numberFirst (left line next)) where
+      pub no-number : n ≡ NotNumber → FieldsRead line NotFields
+      unfolding fieldsOf
+      no-number f = record { read = rw (← p .read, e, ← q, f); within = tt }
+
+      module _ (number last : ℕ) (f : n ≡ IsCount number last) where
+        pub fields-more : last ≤ length line → FieldsRead line NotFields
+        unfolding fieldsOf
+        fields-more k = record { read = rw (← p .read, e, ← q, f) (more-left line last _ _ k); within = tt }
+
+        pub fields-are : length line < last → FieldsRead line (Are (record { subject = s; number = number }))
+        unfolding fieldsOf
+        fields-are k = record { read = rw (← p .read, e, ← q, f, none-left line last k); within = subject-within }
+
+    -- of `rewrite`
+    module _ (o : Ordered) (q : orderAt o line ≡ orderFirst (left line next)) where
+      pub no-order : o ≡ NotOrder → RewriteRead line NotRewrite
+      unfolding rewriteFieldsOf
+      no-order f = record { read = rw (← p .read, e, ← q, f); within = tt }
+
+      module _ (order : Order) (behind : ℕ) (f : o ≡ IsOrder order behind) (n : Count) (r : numberAt n line ≡ numberFirst (left line behind)) where
+        pub no-index : n ≡ NotNumber → RewriteRead line NotRewrite
+        unfolding rewriteFieldsOf
+        no-index g = record { read = rw (← p .read, e, ← q, f, ← r, g); within = tt }
+
+        module _ (index later : ℕ) (g : n ≡ IsCount index later) (m : Count) (t : numberAt m line ≡ numberFirst (left line later)) where
+          pub no-room : m ≡ NotNumber → RewriteRead line NotRewrite
+          unfolding rewriteFieldsOf
+          no-room h = record { read = rw (← p .read, e, ← q, f, ← r, g, ← t, h); within = tt }
+
+          module _ (room end : ℕ) (h : m ≡ IsCount room end) where
+            pub rewrite-more : end ≤ length line → RewriteRead line NotRewrite
+            unfolding rewriteFieldsOf
+            rewrite-more k = record { read = rw (← p .read, e, ← q, f, ← r, g, ← t, h) (more-left line end _ _ k); within = tt }
+
+            pub rewrite-asks : length line < end → RewriteRead line (Asks (record { subject = s; order = order; index = index; room = room }))
+            unfolding rewriteFieldsOf
+            rewrite-asks k = record { read = rw (← p .read, e, ← q, f, ← r, g, ← t, h, none-left line end k); within = subject-within }
