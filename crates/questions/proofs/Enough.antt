@@ -1,4 +1,4 @@
--- A rewritten value has at most 32,768 octets, so that more room is no difference; and its octets stand at the start of the memory.
+-- A rewritten value has at most 16,391 octets, so that more room is no difference; and its octets stand at the start of the memory.
 use mathlib.Core.Path.{_≡_, refl, sym, ap, _∙_}
 use mathlib.Core.Bool.{Bool, true, false}
 use mathlib.Core.List.{List, _++_}
@@ -26,7 +26,7 @@ use Rattle.written.specs.declared.RewriteAnswer.{RewriteAnswer}
 use Rattle.written.specs.declared.RewriteAnswer.the-variants.{Accepted, Refused}
 use Rattle.written.specs.Written.{Target, written}
 use Rattle.written.specs.Rewriting.{rewriteOf, rewriteAnswer, rewritten, outputAfter}
-use Rattle.written.proofs.Pieces.{written-bound}
+use Rattle.written.proofs.Near.{written-near}
 use Rattle.printing.specs.declared.Reply.the-variants.{Rewritten, Refused as NotRewritten}
 use Rattle.questions.specs.Questions.{rewriteIn}
 use Rattle.questions.specs.Replies.{octetsGiven}
@@ -67,7 +67,7 @@ module _ (t : List ℕ) (order : Order) (x : Source) (to : Target) where
       let l = ltb-false octetsLimit (length (x .octets)) (neither (ltb octetsLimit (length t)) (ltb octetsLimit (length (x .octets))) h .1) in
       omega (
         arith,
-        written-bound anyRoom x (checked t (checkedType t order .met)) to,
+        written-near anyRoom x (checked t (checkedType t order .met)) to,
         used-bound anyRoom x t order kinds (checkedType t order .met) (accepted-as t order used kinds q),
       )
 

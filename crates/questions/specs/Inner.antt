@@ -8,7 +8,7 @@
 --   AboutRead     the words of a value were read, and the octets are within the memory
 --   numbersOf     how many numbers of the table an answer has
 --   Replied       a question's answer was found, and its items are in the table
---   octetsMost    the most octets of a rewritten value, twice as many as a value may have
+--   octetsMost    the most octets of a rewritten value, seven more than a value may have
 --   octetsOf      how many octets of the memory an answer has
 --   Held          a question's answer was found, and its octets are in the memory
 use mathlib.Core.Path.{_≡_}
@@ -77,7 +77,7 @@ pub record Replied (q : Question) (r : Reply) (table : List ℕ) : Type 0 where
   pub within : numbersOf r ≤ length table
 
 abbrev pub octetsMost : ℕ
-octetsMost = 32768
+octetsMost = 16391
 
 abbrev pub octetsOf : Reply → ℕ
 octetsOf (Rewritten count) = count

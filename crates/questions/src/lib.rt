@@ -28,7 +28,7 @@ pub const LINE_ROOM: usize = 131073;
 pub const TABLE_ROOM: usize = 49152;
 
 // The characters of the longest answer: three numbers of at most 20 digits, `ok` and four spaces; and 16,384 items of three such numbers,
-// two colons and a comma or an LF, which are more than the digits of 32,768 octets.
+// two colons and a comma or an LF, which are more than the digits of 16,391 octets.
 pub const LONGEST: usize = 1032258;
 
 // Where a call stands: the characters kept of the line begun, the next character of the block, and the characters of output filled.

@@ -18,8 +18,8 @@ use printing::Reply;
 use words::Rewrite;
 use written::RewriteAnswer;
 
-// The most octets of a rewritten value: twice as many as a value may have.
-pub(crate) const MOST: usize = 32768;
+// The most octets of a rewritten value: seven more than a value may have.
+pub(crate) const MOST: usize = 16391;
 
 // Answers the words behind `rewrite`, and leaves the octets in the lent memory.
 pub(crate) fn reply_rewrite(rest: &[u8], memory: &mut [u8]) -> Reply

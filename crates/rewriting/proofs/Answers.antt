@@ -11,12 +11,11 @@ use Rattle.choices.proofs.Choices.{clash}
 use Rattle.cdr.specs.declared.Order.{Order}
 use Rattle.cdr.specs.declared.Place.{Place}
 use Rattle.kinds.specs.declared.Form.the-variants.{Plain}
-use Rattle.kinds.specs.declared.Parameters.{Parameters}
-use Rattle.kinds.specs.declared.Parameters.the-variants.{Fault, Leaf}
+use Rattle.kinds.specs.declared.Parameters.the-variants.{Leaf}
 use Rattle.kinds.specs.Forms.{formOf}
 use Rattle.met.specs.declared.Met.{Met}
 use Rattle.met.specs.declared.Position.the-variants.{Is, NoPosition}
-use Rattle.met.specs.Met.{findPlace, positionOf, parametersOf}
+use Rattle.met.specs.Met.{findPlace, positionOf}
 use Rattle.accepted.specs.Accepted.{AcceptedAs}
 use Rattle.accepted.specs.Sound.{Sound}
 use Rattle.reading.specs.Sinks.{Source}

@@ -4,27 +4,24 @@ use mathlib.Core.List.{List, [], _∷_, _++_}
 use mathlib.Core.Bool.{true, false}
 use Prim.Native.Nat.{ℕ, zero, suc, _+_, _*_, _<_, _≤_}
 use native.Mathlib.Omega.{arith}
-use native.Mathlib.Nat.{zero-add}
-use lib.Dec.{eqb, ltb}
-use lib.ListN.{getD, length, take, drop, length-append, List·getD-append}
+use lib.ListN.{length, drop, List·getD-append}
 use lib.Seq.{sets, sets-eq, length-sets}
 use borrow.Author.Tests.{eq-eqb, ne-eqb, lt-ltb, le-ltb}
 use Rattle.choices.specs.Branch.{choose}
 use Rattle.cdr.specs.Number.{Octets}
-use Rattle.checking.specs.Types.{octetsLimit}
 use Rattle.reading.specs.Sinks.{Source, Item, St}
 use Rattle.reading.specs.Visit.{Checked}
 use Rattle.reading.specs.Reading.{Log, anyRoom, reads, levels, topOf, reading}
 use Rattle.reading.specs.Value.{flat, itemNo}
 use Rattle.leaves.specs.declared.Cursor.{Cursor}
-use Rattle.leaves.specs.Lent.{rowsIn, lent}
+use Rattle.leaves.specs.Lent.{lent}
 use Rattle.leaves.specs.Walk.{stateOf, startOf}
 use Rattle.leaves.proofs.Filling.{filled}
 use Rattle.value.proofs.Walks.{After, after-walk}
 use Rattle.written.specs.declared.RewriteAnswer.the-variants.{Accepted, Refused}
 use Rattle.written.specs.Written.{Target, written}
 use Rattle.written.specs.Rewriting.{rewriteOf}
-use Rattle.rewriting.specs.Inner.{tailOf, upTo, reach, rowOf, Sized, Rows, Readable, Holds, Rewrites}
+use Rattle.rewriting.specs.Inner.{tailOf, upTo, reach, rowOf, Rows, Readable, Holds, Rewrites}
 use Rattle.rewriting.proofs.Items.{up-length}
 use Rattle.rewriting.proofs.Told.{up-same, Told, reading-told}
 

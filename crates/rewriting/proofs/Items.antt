@@ -16,7 +16,7 @@ use Rattle.cdr.specs.declared.Size.the-variants.{One}
 use Rattle.reading.specs.Visit.{sizeOf}
 use Rattle.cdr.specs.Align.{octets, gap, behindGap}
 use Rattle.cdr.specs.Number.{octetsOf}
-use Rattle.cdr.proofs.Alignment.{octets-small, gap-small, gap-modulo-8}
+use Rattle.cdr.proofs.Alignment.{octets-small, gap-small}
 use Rattle.cdr.proofs.Numbers.{octets-length}
 use Rattle.checking.specs.Types.{octetsLimit}
 use Rattle.reading.specs.Sinks.{Item, item}

@@ -4,11 +4,9 @@ use mathlib.Core.List.{List, [], _∷_, _++_, append-assoc, append-nil}
 use mathlib.Core.Bool.{Bool, true, false, cond}
 use Prim.Native.Nat.{ℕ, zero, suc, _+_, _-_, _^_, _<_, _≤_}
 use native.Mathlib.Omega.{arith}
-use native.Mathlib.Numerals.{add-one}
 use lib.Dec.{eqb, ltb, leb}
 use lib.ListN.{length, take, drop, replicate, length-append}
-use borrow.Author.Tests.{eqb-true, eqb-false, ne-eqb, ltb-true, ltb-false}
-use Rattle.choices.specs.Branch.{choose}
+use borrow.Author.Tests.{eqb-false, ne-eqb, ltb-true, ltb-false}
 use Rattle.choices.proofs.Choices.{by-test, clash}
 use Rattle.cdr.specs.declared.Order.{Order}
 use Rattle.cdr.specs.declared.Place.{Place}
@@ -26,13 +24,13 @@ use Rattle.kinds.specs.declared.Parameters.{Parameters}
 use Rattle.kinds.specs.declared.Parameters.the-variants.{Leaf}
 use Rattle.kinds.specs.Forms.{formOf}
 use Rattle.texts.specs.Text.{overBound, endsText}
-use Rattle.reading.specs.Sinks.{Source, Item, item, Piece, number, run, St, failed, onRead, begun, taken, putIn, done, readAt, tookNumber, numberStep, octetsAt, tookOctets, octetsStep}
+use Rattle.reading.specs.Sinks.{Source, Item, item, Piece, number, run, St, failed, onRead, taken, putIn, done, readAt, tookNumber, numberStep, octetsAt, tookOctets, octetsStep}
 use Rattle.reading.specs.Visit.{Checked, inside, sizeOf, contentOf, leafDone, leafAt, enumDone, enumAt, textDone, textGot, textAt, countDone, countAt, tagDone, tagAt, runDone, runGot, runAt}
-use Rattle.reading.specs.Reading.{Log, logging, reads, levels, atStart, topOf, reading}
+use Rattle.reading.specs.Reading.{Log, logging, levels, atStart, topOf, reading}
 use Rattle.reading.specs.Value.{itemNo}
 use Rattle.reading.proofs.Cases.{by-choice}
 use Rattle.reading.proofs.Keeping.{Wholes, reads-wholes}
-use Rattle.written.specs.Written.{Target, wrote, writes, written}
+use Rattle.written.specs.Written.{Target, wrote, written}
 use Rattle.written.proofs.Pieces.{writes-none, writes-more}
 use Rattle.rewriting.specs.Inner.{widthOf, headOf, tailOf, itemOctets, upTo}
 use Rattle.rewriting.proofs.Items.{up-next}

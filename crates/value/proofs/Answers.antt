@@ -20,10 +20,10 @@ use Rattle.accepted.proofs.Exact.{accepted-as}
 use Rattle.reading.specs.declared.ValueAnswer.{ValueAnswer}
 use Rattle.reading.specs.declared.ValueAnswer.the-variants.{Refused}
 use Rattle.reading.specs.Sinks.{Source}
-use Rattle.reading.specs.Visit.{Checked, checked}
+use Rattle.reading.specs.Visit.{checked}
 use Rattle.reading.specs.Reading.{anyRoom, roomFor, reading}
 use Rattle.checking.specs.Types.{octetsLimit}
-use Rattle.reading.specs.Value.{roomIn, overlong, onType, answerOf, readingOf, valueAnswer, filledBy, tableAfter}
+use Rattle.reading.specs.Value.{roomIn, onType, answerOf, readingOf, valueAnswer, filledBy, tableAfter}
 use Rattle.reading.proofs.Bound.{visits-bound, items-bound}
 use Rattle.met.specs.Met.{noKinds}
 use Rattle.value.specs.declared.Judged.{Judged}

@@ -4,13 +4,12 @@ use mathlib.Core.List.{List, [], _∷_, _++_, map}
 use mathlib.Core.Bool.{Bool}
 use Prim.Native.Nat.{ℕ, _+_, _-_, _*_, _≤_, _%_}
 use native.Mathlib.Omega.{arith}
-use lib.ListN.{length, take, drop, replicate, length-append, length-replicate, length-drop}
+use lib.ListN.{length, take, drop, length-append, length-replicate, length-drop}
 use lib.Seq.{length-take-le}
 use Rattle.cdr.specs.declared.Order.{Order}
 use Rattle.cdr.specs.declared.Size.{Size}
 use Rattle.cdr.specs.Align.{octets, gap, indexOf}
-use Rattle.cdr.specs.Number.{octetsOf}
-use Rattle.cdr.proofs.Alignment.{gap-small, gap-modulo-8}
+use Rattle.cdr.proofs.Alignment.{gap-modulo-8}
 use Rattle.cdr.proofs.Numbers.{octets-length}
 use Rattle.reading.specs.Sinks.{Source, Piece, number, run, St}
 use Rattle.reading.specs.Visit.{Checked}
@@ -64,32 +63,6 @@ run-length to out place these = length-append out these
 
 pub part-length : (v : List ℕ) (at n : ℕ) → at + n ≤ length v → length (take n (drop at v)) ≡ n
 part-length v at n h = length-take-le n (drop at v) (simp length-drop (omega arith))
-
--- a gap is smaller than its number, so at most twice the used octets are written
-module _ (x : Source) (to : Target) where
-  abbrev Bounded : ℕ → List Piece → Type 0
-  Bounded at ps = length (writes to [] ps) ≤ 2 * at
-
-  bound-kept : EachKeeps x Bounded
-  bound-kept = record {
-    number-keeps = λ size at p n ps r h.
-        let out : List ℕ = writes to [] ps in
-        let a = ap length (writes-more to [] ps (number (p - at) p (octets size) n)) in
-        let b = number-length to out (p - at) p (octets size) n in
-        let c = gap-small size (to .start .0 + length out) in
-        let d = r .place in
-        omega arith;
-    run-keeps = λ at n ps l h.
-        let out : List ℕ = writes to [] ps in
-        let these : List ℕ = take n (drop at (x .octets)) in
-        let a = ap length (writes-more to [] ps (run at these)) in
-        let b = run-length to out at these in
-        let c = part-length (x .octets) at n l in
-        omega arith;
-  }
-
-pub written-bound : (full : ℕ → Bool) (x : Source) (t : Checked) (to : Target) → length (written to (reading full x t)) ≤ 2 * reading full x t .at
-written-bound full x t to = reading-keeps full x (Bounded x to) (bound-kept x to) (let a = ap length (writes-none to) in omega arith) t
 
 -- the writing index too is taken modulo 8
 module _ (order : Order) (i j : ℕ) (alike : i % 8 ≡ j % 8) where

@@ -2,7 +2,7 @@
 use borrow.Author.Needs.{needs}
 use Rattle.capi.proofs.haulspar_rewrite.Statement.{statement}
 use Rattle.capi.proofs.haulspar_rewrite.Tie as tie
-use mathlib.Core.Path.{refl, ap}
+use mathlib.Core.Path.{ap}
 use Rattle.cdr.specs.declared.Order.{Order}
 use Rattle.cdr.specs.Align.{indexOf}
 use Rattle.written.specs.Written.{target}

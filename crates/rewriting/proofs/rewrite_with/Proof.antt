@@ -2,8 +2,8 @@
 use borrow.Author.Needs.{needs}
 use Rattle.rewriting.proofs.rewrite_with.Statement.{statement}
 use Rattle.rewriting.proofs.rewrite_with.Tie as tie
-use mathlib.Core.Path.{_≡_, subst, sym}
-use Prim.Native.Nat.{ℕ, _<_, _≤_}
+use mathlib.Core.Path.{_≡_}
+use Prim.Native.Nat.{_<_, _≤_}
 use native.Mathlib.Omega.{arith}
 use Rattle.reading.specs.Sinks.{source}
 use Rattle.reading.specs.Visit.{checked}

@@ -3,10 +3,7 @@ use borrow.Author.Needs.{needs}
 use Rattle.value.proofs.check.Statement.{statement}
 use Rattle.value.proofs.check.Tie as tie
 use mathlib.Core.Path.{_≡_, sym, ap, _∙_}
-use lib.ListN.{length}
-use Rattle.met.specs.declared.Met.{Met}
 use Rattle.typecode.specs.declared.CheckedType.{CheckedType}
-use Rattle.typecode.specs.TypeCode.{checkedType}
 use Rattle.value.specs.declared.Judged.{Judged}
 use Rattle.value.specs.declared.Judged.the-variants.{Refused}
 use Rattle.value.specs.Typed.{typed, judgedBy}

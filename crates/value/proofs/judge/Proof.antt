@@ -3,7 +3,6 @@ use borrow.Author.Needs.{needs}
 use Rattle.value.proofs.judge.Statement.{statement}
 use Rattle.value.proofs.judge.Tie as tie
 use mathlib.Core.Path.{ap, _∙_, sym}
-use Rattle.typecode.specs.declared.TypeAnswer.{TypeAnswer}
 use Rattle.value.specs.declared.Judged.the-variants.{Refused}
 use Rattle.value.specs.Typed.{judgedBy}
 

@@ -2,7 +2,7 @@
 use borrow.Author.Needs.{needs}
 use Rattle.value.proofs.read_item.Statement.{statement}
 use Rattle.value.proofs.read_item.Tie as tie
-use mathlib.Core.Path.{_≡_, sym, ap, _∙_}
+use mathlib.Core.Path.{_≡_, _∙_}
 use lib.ListN.{length}
 use Rattle.reading.specs.Sinks.{source}
 use Rattle.value.proofs.Answers as answers

@@ -2,11 +2,9 @@
 use borrow.Author.Needs.{needs}
 use Rattle.rewriting.proofs.rows.count.Statement.{statement}
 use Rattle.rewriting.proofs.rows.count.Tie as tie
-use mathlib.Core.Path.{_≡_, refl, sym, ap, subst, _∙_}
-use mathlib.Core.List.{List}
+use mathlib.Core.Path.{_≡_, sym, ap, _∙_}
 use Prim.Native.Nat.{ℕ, _+_, _-_, _*_, _<_, _≤_, _^_}
 use native.Mathlib.Omega.{arith}
-use lib.ListN.{length}
 use Rattle.rewriting.specs.Inner.{endOf, reach, rowOf}
 use Rattle.rewriting.proofs.Items.{reach-none, reach-next, reach-small}
 

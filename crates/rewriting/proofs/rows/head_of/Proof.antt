@@ -1,14 +1,12 @@
 -- The number that stands for an item.
-use borrow.Author.Needs.{needs}
 use Rattle.rewriting.proofs.rows.head_of.Statement.{statement}
 use Rattle.rewriting.proofs.rows.head_of.Tie as tie
-use mathlib.Core.Path.{_≡_, refl, sym, subst}
-use Prim.Native.Nat.{ℕ, _+_, _≤_}
+use mathlib.Core.Path.{_≡_}
+use Prim.Native.Nat.{_+_, _≤_}
 use native.Mathlib.Omega.{arith}
 use borrow.Author.Tests.{eq-eqb, ne-eqb}
-use Rattle.checking.specs.Types.{octetsLimit}
 use Rattle.rewriting.proofs.Items.{tail-text}
-use Rattle.rewriting.specs.Inner.{headOf, tailOf}
+use Rattle.rewriting.specs.Inner.{headOf}
 
 add-result : tie.Need-add-result
 add-result c = let e = tail-text (c .before .args .kind) (c .before .args .content) (c .if1 .taken) in omega (arith, c .before .pre)

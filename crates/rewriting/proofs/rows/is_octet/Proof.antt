@@ -1,5 +1,4 @@
 -- Kinds of one octet.
-use borrow.Author.Needs.{needs}
 use Rattle.rewriting.proofs.rows.is_octet.Statement.{statement}
 use Rattle.rewriting.proofs.rows.is_octet.Tie as tie
 use mathlib.Core.Bool.{false≢true}

@@ -8,7 +8,7 @@ use native.Mathlib.Omega.{arith}
 use Rattle.cdr.specs.declared.Size.{Size}
 use Rattle.cdr.specs.Align.{octets, behindGap}
 use Rattle.cdr.proofs.Alignment.{octets-small, gap-small}
-use Rattle.rewriting.specs.Inner.{widthOf, tailOf}
+use Rattle.rewriting.specs.Inner.{widthOf}
 use Rattle.rewriting.proofs.Items.{octet-ends}
 
 is-octet-requires : tie.Need-is-octet-requires

@@ -1,12 +1,10 @@
 -- How many octets stand behind an item's number.
-use borrow.Author.Needs.{needs}
 use Rattle.rewriting.proofs.rows.tail_of.Statement.{statement}
 use Rattle.rewriting.proofs.rows.tail_of.Tie as tie
-use mathlib.Core.Path.{_≡_, refl, sym, subst}
-use Prim.Native.Nat.{ℕ, _+_, _≤_}
+use mathlib.Core.Path.{_≡_}
+use Prim.Native.Nat.{_+_, _≤_}
 use native.Mathlib.Omega.{arith}
 use borrow.Author.Tests.{eq-eqb, ne-eqb}
-use Rattle.checking.specs.Types.{octetsLimit}
 use Rattle.rewriting.proofs.Items.{tail-text}
 use Rattle.rewriting.specs.Inner.{tailOf}
 

@@ -2,10 +2,10 @@
 use borrow.Author.Needs.{needs}
 use borrow.Author.Tests.{eq-eqb, ne-eqb}
 use Rattle.rewriting.specs.Inner.{widthOf}
-use mathlib.Core.Path.{_∙_, sym}
+use mathlib.Core.Path.{_∙_}
 use Rattle.rewriting.proofs.rows.width_of.Statement.{statement}
 use Rattle.rewriting.proofs.rows.width_of.Tie as tie
-use mathlib.Core.Path.{_∙_, sym}
+use mathlib.Core.Path.{_∙_}
 use borrow.Author.Tests.{eq-eqb, ne-eqb}
 use Rattle.rewriting.specs.Inner.{widthOf}
 

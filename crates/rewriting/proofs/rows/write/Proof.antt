@@ -3,7 +3,6 @@ use borrow.Author.Needs.{needs}
 use Rattle.rewriting.proofs.rows.write.Statement.{statement}
 use Rattle.rewriting.proofs.rows.write.Tie as tie
 use mathlib.Core.Path.{_≡_, refl, sym, ap, subst, _∙_}
-use mathlib.Core.List.{List}
 use Prim.Native.Nat.{ℕ, _+_, _-_, _*_, _<_, _≤_, _^_}
 use native.Mathlib.Omega.{arith}
 use lib.ListN.{length}

@@ -2,7 +2,6 @@
 use borrow.Author.Needs.{needs}
 use Rattle.rewriting.proofs.rows.write_item.Statement.{statement}
 use Rattle.rewriting.proofs.rows.write_item.Tie as tie
-use mathlib.Core.Path.{sym}
 use native.Mathlib.Omega.{arith}
 use Rattle.written.specs.Written.{target}
 use Rattle.rewriting.proofs.Items.{octet-ends, octet-octets}

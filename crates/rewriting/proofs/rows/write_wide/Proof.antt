@@ -2,22 +2,13 @@
 use borrow.Author.Needs.{needs}
 use Rattle.rewriting.proofs.rows.write_wide.Statement.{statement}
 use Rattle.rewriting.proofs.rows.write_wide.Tie as tie
-use mathlib.Core.Path.{_≡_, refl, sym, ap, subst, _∙_}
-use mathlib.Core.List.{List, []}
-use Prim.Native.Nat.{ℕ, _+_, _-_, _<_, _≤_}
+use mathlib.Core.Path.{_≡_, refl, _∙_}
+use mathlib.Core.List.{[]}
+use Prim.Native.Nat.{_+_, _<_, _≤_}
 use native.Mathlib.Omega.{arith}
-use lib.ListN.{length, take, drop, replicate, length-replicate}
-use lib.Seq.{sets}
-use Rattle.cdr.specs.declared.Size.{Size}
-use Rattle.cdr.specs.Align.{octets, behindGap, gap}
-use Rattle.cdr.specs.Number.{octetsOf}
-use Rattle.cdr.proofs.Alignment.{octets-small, gap-small}
-use Rattle.cdr.proofs.Numbers.{octets-length}
-use Rattle.checking.specs.Types.{octetsLimit}
-use Rattle.reading.specs.Sinks.{item}
-use Rattle.writing.proofs.Stores.{stored-fits}
+use Rattle.cdr.specs.Align.{octets, gap}
 use Rattle.written.specs.Written.{target}
-use Rattle.rewriting.specs.Inner.{widthOf, headOf, tailOf, endOf, itemOctets}
+use Rattle.rewriting.specs.Inner.{headOf}
 use Rattle.rewriting.proofs.Items as items
 
 width-of-requires : tie.Need-width-of-requires
