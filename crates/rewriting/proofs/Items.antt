@@ -8,8 +8,8 @@ use native.Mathlib.Nat.{zero-add}
 use lib.Dec.{eqb, leb}
 use borrow.Author.Tests.{eq-eqb, eqb-true, eqb-false, leb-true, leb-false}
 use Rattle.choices.proofs.Choices.{by-test}
-use lib.ListN.{length, take, drop, set, replicate, length-append, length-replicate, length-drop}
-use lib.Seq.{sets, length-sets, length-take-le}
+use lib.ListN.{length, take, drop, set, replicate, length-append, length-replicate}
+use lib.Seq.{sets, length-sets}
 use Rattle.cdr.specs.declared.Index.{Index}
 use Rattle.cdr.specs.declared.Size.{Size}
 use Rattle.cdr.specs.declared.Size.the-variants.{One}
@@ -24,6 +24,7 @@ use Rattle.writing.specs.declared.Written.{Written}
 use Rattle.writing.specs.Write.{Stored}
 use Rattle.writing.proofs.Stores.{sets-append, one-octet, stored-fits}
 use Rattle.written.specs.Written.{Target}
+use Rattle.written.proofs.Pieces.{part-length}
 use Rattle.rewriting.specs.Inner.{widthOf, Octet, headOf, tailOf, endOf, itemOctets, upTo, reach, rowOf, Sized, Rows}
 
 -- the next item, and how far it reaches
@@ -80,7 +81,7 @@ item-length to v at i h =
     let b = length-append head tail in
     let c : length zeros ≡ g = length-replicate g 0 in
     let d = octets-length (to .order) (octets (widthOf (i .kind))) (headOf (i .kind) (i .content)) in
-    let e : length tail ≡ tailOf (i .kind) (i .content) = length-take-le (tailOf (i .kind) (i .content)) (drop (i .place) v) (simp length-drop (omega arith)) in
+    let e : length tail ≡ tailOf (i .kind) (i .content) = part-length v (i .place) (tailOf (i .kind) (i .content)) h in
     omega arith
 
 pub up-length : (to : Target) (v rows : List ℕ) (n : ℕ) → Rows v rows n → (k : ℕ) → k ≤ n
@@ -160,7 +161,7 @@ module _ (to : Target) (v out : List ℕ) (at kind place content : ℕ) (z : Siz
   tail-written room inside tail end t e r b c same h =
       let n : place + tail - place ≡ tail = omega arith in
       let k : length (take (place + tail - place) (drop place v)) ≡ place + tail - place =
-      length-take-le (place + tail - place) (drop place v) (simp length-drop (omega arith)) in
+      part-length v place (place + tail - place) (omega arith) in
       let fits = item-fits (length out) room in
       stored-fits b (p + end) (take (place + tail - place) (drop place v)) r c (omega arith) h
       ∙ ap (λ (m : ℕ). sets b (p + end) (take m (drop place v))) n

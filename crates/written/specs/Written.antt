@@ -6,8 +6,8 @@
 --   wrote          a piece behind what is written: a number behind the smallest gap, all zero, in the chosen order; a run as it is
 --   writes         pieces behind what is written, one after the other
 --   written        the octets of a reading
---   gapZeroed        octets of a value with the gap before a piece zero
---   gapsZeroed         the same for the gaps before pieces, one after the other
+--   gapZeroed      octets of a value with the gap before a piece zeroed
+--   gapsZeroed     the same for the gaps before pieces, one after the other
 --   usedZeroed     "the used octets with gaps zeroed"
 --   unplaced       an item without its place: "the same items except places"
 --   bare           a piece without its place and the gap before it
