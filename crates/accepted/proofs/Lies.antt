@@ -36,7 +36,7 @@ use Rattle.kinds.specs.Parts.{onField, fieldIn, skipField, skipFrom, skipCounte
 use Rattle.kinds.specs.Parameters.{countIn}
 use Rattle.met.specs.Discriminants.{outOfKind, labelAmong}
 use Rattle.fields.specs.Fields.{stepFrom, textStep, thenStep, namesStep, numberStep, countStep, anyCount, thenCount, headStep, exceptionStep, onCount, lengthStep, textsStep, enumStep, badDefault, judged, switchStep, labelStep}
-use Rattle.fields.proofs.Strings.{string-facts}
+use Rattle.encapsulation.proofs.Found.{string-facts}
 use Rattle.checking.specs.Types.{nameStep}
 
 -- the same number is read at its own place

@@ -1,3 +1,2 @@
 -- Laws that other crates cite.
-pub mod Strings
 pub mod Turns

@@ -1,28 +1,22 @@
 -- What is read in an encapsulation lies in the octets of the whole.
-use mathlib.Core.Path.{_≡_, refl, subst}
+use mathlib.Core.Path.{_≡_}
 use mathlib.Core.List.{List}
 use Prim.Native.Nat.{ℕ, _+_, _-_, _≤_, _<_, _^_}
 use native.Mathlib.Omega.{arith}
 use borrow.Author.Tests.{lt-ltb, le-ltb}
 use lib.ListN.{length, take, drop, length-drop}
 use lib.Seq.{take-all}
-use Rattle.choices.proofs.Choices.{clash}
 use Rattle.cdr.specs.declared.Index.{Index}
 use Rattle.cdr.specs.declared.Place.{Place}
 use Rattle.cdr.specs.declared.Order.{Order}
 use Rattle.cdr.specs.declared.Size.{Size}
 use Rattle.cdr.specs.declared.Size.the-variants.{One, Two, Four, Eight}
-use Rattle.encapsulation.specs.declared.Field.{Field}
 use Rattle.encapsulation.specs.declared.Field.the-variants.{Value, NoField}
-use Rattle.encapsulation.specs.declared.Counted.the-variants.{Octets, NoOctets}
-use Rattle.texts.specs.declared.Run.{Run}
-use Rattle.texts.specs.declared.Run.the-variants.{To as Upto, Past as Beyond}
-use Rattle.texts.specs.Text.{runOf}
+use Rattle.encapsulation.specs.declared.Counted.the-variants.{NoOctets}
 use Rattle.cdr.specs.Align.{octets}
-use Rattle.encapsulation.specs.Encapsulation.{start, fieldOf, countedOf, countedAfter, countedFrom}
+use Rattle.encapsulation.specs.Encapsulation.{start, fieldOf, countedOf}
 use Rattle.encapsulation.proofs.Fields.{field-facts, field-none, counted-none}
 use Rattle.cdr.proofs.Alignment.{read-ends}
-use Rattle.texts.proofs.Texts.{run-facts}
 use Rattle.kinds.specs.declared.Target.the-variants.{To, Outside}
 use Rattle.kinds.specs.Parts.{placeOf, fieldIn, targetOf}
 
@@ -52,25 +46,6 @@ module _ (v : List ℕ) (b : Place) (i : Index) where
   field-inside size order x next e =
       let f = field-facts (drop (b .0) v) i size order x next e in
       (omega (arith, f .ends), omega (arith, f .ends, f .fits, length-drop (b .0) v, some-octet size))
-
--- counted octets that were read end in the octets
-counted-by : (s : List ℕ) (i : Index) (order : Order) (f : Field) → fieldOf s i Four order ≡ f → (from : Index) (n : ℕ) → countedAfter s f ≡ Octets from n
-    → (fieldOf s i Four order ≡ Value n from) × (from .0 + n ≤ length s)
-counted-by s i order NoField e from n q = clash cc
-counted-by s i order (Value m next) e from n q = by-run (runOf s (next .0) m) refl q
-  where
-    by-run : (t : Run) → runOf s (next .0) m ≡ t → countedFrom t next m ≡ Octets from n → (fieldOf s i Four order ≡ Value n from) × (from .0 + n ≤ length s)
-    by-run (Upto k) r q =
-        let a : next ≡ from = cc in
-        let c : m ≡ n = cc in
-        let f = run-facts s (next .0) m k r in
-        (rw (e, a, c), subst (λ (x : Index). x .0 + n ≤ length s) a (subst (λ (x : ℕ). next .0 + x ≤ length s) c (omega (arith, f .0, f .1))))
-    by-run Beyond r q = clash cc
-
-pub counted-facts : (s : List ℕ) (i : Index) (order : Order) (from : Index) (n : ℕ) → countedOf s i order ≡ Octets from n
-    → (fieldOf s i Four order ≡ Value n from) × (from .0 + n ≤ length s)
-unfolding countedOf
-counted-facts s i order from n e = counted-by s i order (fieldOf s i Four order) refl from n e
 
 -- where an offset leads
 module _ (p : Place) (x : ℕ) where

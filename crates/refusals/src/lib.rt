@@ -119,3 +119,21 @@ pub const NO_ITEM_ROOM: u32 = 56;
 
 // The output has no room for a value's octets.
 pub const NO_OUTPUT_ROOM: u32 = 57;
+
+// A profile body's octets end.
+pub const PROFILE_ENDS: u32 = 60;
+
+// A profile body's order octet is above 1.
+pub const NO_SUCH_ORDER: u32 = 61;
+
+// A profile body has a version that is not read.
+pub const NO_SUCH_PROFILE: u32 = 62;
+
+// A profile's host has length 0, no last zero octet, or an earlier one.
+pub const BAD_HOST: u32 = 63;
+
+// A 1.0 profile body has octets after the key.
+pub const AFTER_KEY: u32 = 64;
+
+// A component is asked for by a number that is not below their count.
+pub const NO_SUCH_COMPONENT: u32 = 69;

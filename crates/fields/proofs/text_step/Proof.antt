@@ -5,7 +5,7 @@ use Rattle.fields.proofs.text_step.Tie as tie
 use mathlib.Core.Path.{sym, _∙_}
 use native.Mathlib.Omega.{arith}
 use Rattle.fields.specs.Fields.{textStep}
-use Rattle.fields.proofs.Strings.{string-facts}
+use Rattle.encapsulation.proofs.Found.{string-facts}
 
 read-string-requires : tie.Need-read-string-requires
 read-string-requires c κs = search needs

@@ -6,7 +6,8 @@ use mathlib.Core.Path.{_≡_, sym, _∙_, ap}
 use native.Mathlib.Omega.{arith}
 use lib.ListN.{drop, length-drop}
 use Rattle.kinds.specs.Parts.{skipCounted, skipFrom}
-use Rattle.kinds.proofs.Reading.{rest, counted-beyond, counted-facts}
+use Rattle.kinds.proofs.Reading.{rest, counted-beyond}
+use Rattle.encapsulation.proofs.Found.{counted-facts}
 use mathlib.Core.Path.{subst}
 use mathlib.Core.List.{List}
 use Prim.Native.Nat.{ℕ}

@@ -1,4 +1,4 @@
--- A text that was read: its length stands before it, and it ends in the octets.
+-- A text or counted octets that were read: their length stands before them, and they end in the octets.
 use mathlib.Core.Path.{_≡_, refl, subst}
 use mathlib.Core.List.{List}
 use Prim.Native.Nat.{ℕ, _+_, _-_, _≤_}
@@ -10,13 +10,17 @@ use Rattle.choices.proofs.Choices.{by-test, clash}
 use Rattle.cdr.specs.declared.Index.{Index}
 use Rattle.cdr.specs.declared.Order.{Order}
 use Rattle.cdr.specs.declared.Size.the-variants.{Four}
 use Rattle.encapsulation.specs.declared.Field.{Field}
 use Rattle.encapsulation.specs.declared.Field.the-variants.{Value, NoField}
 use Rattle.encapsulation.specs.declared.Str.the-variants.{Characters}
+use Rattle.encapsulation.specs.declared.Counted.the-variants.{Octets}
+use Rattle.texts.specs.declared.Run.{Run}
+use Rattle.texts.specs.declared.Run.the-variants.{To, Past}
 use Rattle.texts.specs.declared.Text.{Text}
 use Rattle.texts.specs.declared.Text.the-variants.{Chars, Empty, Over, Short, Zeros}
-use Rattle.texts.specs.Text.{textOf, overBound, endsText}
-use Rattle.encapsulation.specs.Encapsulation.{fieldOf, stringOf, stringAfter, stringFrom}
+use Rattle.texts.specs.Text.{textOf, overBound, endsText, runOf}
+use Rattle.encapsulation.specs.Encapsulation.{fieldOf, stringOf, stringAfter, stringFrom, countedOf, countedAfter, countedFrom}
+use Rattle.texts.proofs.Texts.{run-facts}
 
 text-chars : (v : List ℕ) (at n bound k : ℕ) → textOf v at n bound ≡ Chars k → (n ≡ k + 1) × (at + n ≤ length v)
 unfolding textOf
@@ -53,3 +57,21 @@ module _ (s : List ℕ) (i : Index) (order : Order) (from : Index) (n : ℕ) whe
   pub string-facts : stringOf s i order ≡ Characters from n → (fieldOf s i Four order ≡ Value (n + 1) from) × (from .0 + (n + 1) ≤ length s)
   unfolding stringOf
   string-facts e = by-length (fieldOf s i Four order) refl e
+
+counted-by : (s : List ℕ) (i : Index) (order : Order) (f : Field) → fieldOf s i Four order ≡ f → (from : Index) (n : ℕ) → countedAfter s f ≡ Octets from n
+    → (fieldOf s i Four order ≡ Value n from) × (from .0 + n ≤ length s)
+counted-by s i order NoField e from n q = clash cc
+counted-by s i order (Value m next) e from n q = by-run (runOf s (next .0) m) refl q
+  where
+    by-run : (t : Run) → runOf s (next .0) m ≡ t → countedFrom t next m ≡ Octets from n → (fieldOf s i Four order ≡ Value n from) × (from .0 + n ≤ length s)
+    by-run (To k) r q =
+        let a : next ≡ from = cc in
+        let c : m ≡ n = cc in
+        let f = run-facts s (next .0) m k r in
+        (rw (e, a, c), subst (λ (x : Index). x .0 + n ≤ length s) a (subst (λ (x : ℕ). next .0 + x ≤ length s) c (omega (arith, f .0, f .1))))
+    by-run Past r q = clash cc
+
+pub counted-facts : (s : List ℕ) (i : Index) (order : Order) (from : Index) (n : ℕ) → countedOf s i order ≡ Octets from n
+    → (fieldOf s i Four order ≡ Value n from) × (from .0 + n ≤ length s)
+unfolding countedOf
+counted-facts s i order from n e = counted-by s i order (fieldOf s i Four order) refl from n e

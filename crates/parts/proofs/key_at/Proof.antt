@@ -1,0 +1,30 @@
+-- The counted octets, which end in the body's.
+use borrow.Author.Needs.{needs}
+use Rattle.parts.proofs.key_at.Statement.{statement}
+use Rattle.parts.proofs.key_at.Tie as tie
+use mathlib.Core.Path.{sym, _∙_}
+use Rattle.parts.proofs.Parts.{key-is}
+use native.Mathlib.Omega.{arith}
+use Rattle.encapsulation.proofs.Found.{counted-facts}
+
+read-counted-requires : tie.Need-read-counted-requires
+read-counted-requires c κs = search needs
+
+enum-known-from : tie.Need-enum-known-from
+enum-known-from c = search needs
+
+add-t8 : tie.Need-add-t8
+add-t8 c = let f = counted-facts (c .before .before .before .before .before .before .args .s .now) (c .before .before .before .before .before .before .args .at) (c .before .before .before .before .before .before .args .order) _ _ (sym (c .before .before .before .before .read-counted .ensures) ∙ c .before .before .from .given .1) .1 in omega (arith, f)
+
+enum-told : tie.Need-enum-told
+enum-told c = search needs
+
+returns : tie.Need-returns
+returns c = sym (key-is (c .before .before .before .before .before .before .args .s .now) (c .before .before .before .before .before .before .args .at) (c .before .before .before .before .before .before .args .order) _ (sym (c .before .before .before .before .read-counted .ensures) ∙ c .before .before .from .given .1))
+
+returns-2 : tie.Need-returns-2
+returns-2 c = sym (key-is (c .before .before .before .before .args .s .now) (c .before .before .before .before .args .at) (c .before .before .before .before .args .order) _ (sym (c .before .before .read-counted .ensures) ∙ c .enum-told .given .1))
+
+pub key-at-spec : {M : Type 1} → statement M
+key-at-spec =
+    tie.close (tie.spec read-counted-requires enum-known-from add-t8 enum-told returns returns-2)

@@ -1,0 +1,49 @@
+-- The octet, whether there is such a major version, and only then the minor.
+use borrow.Author.Needs.{needs}
+use Rattle.parts.proofs.version_at.Statement.{statement}
+use Rattle.parts.proofs.version_at.Tie as tie
+use mathlib.Core.Path.{sym, _∙_}
+use Rattle.parts.proofs.Parts.{version-none, version-is}
+use native.Mathlib.Omega.{arith}
+use Rattle.texts.proofs.Texts.{run-facts}
+
+read-run-requires : tie.Need-read-run-requires
+read-run-requires c κs = search needs
+
+enum-known-end : tie.Need-enum-known-end
+enum-known-end c = search needs
+
+enum-told : tie.Need-enum-told
+enum-told c = search needs
+
+returns : tie.Need-returns
+returns c = sym (version-none (c .before .before .before .before .args .s .now) (c .before .before .before .before .args .at) (sym (c .before .before .read-run .ensures) ∙ c .enum-told .given .1))
+
+shared-slice-read-major : tie.Need-shared-slice-read-major
+shared-slice-read-major c = omega (arith, run-facts (c .before .before .before .before .before .before .args .s .now) (c .before .before .before .before .before .before .args .at .0) 1 _ (sym (c .before .before .before .before .read-run .ensures) ∙ c .before .before .end .given .1) .1)
+
+major-exists-requires : tie.Need-major-exists-requires
+major-exists-requires c κs = search needs
+
+minor-at-requires : tie.Need-minor-at-requires
+minor-at-requires c κs = search needs
+
+returns-2 : tie.Need-returns-2
+returns-2 c = c .minor-at .ensures ∙ sym (version-is (c .before .before .before .before .before .before .before .before .before .args .s .now) (c .before .before .before .before .before .before .before .before .before .args .at) _ (sym (c .before .before .before .before .before .before .before .read-run .ensures) ∙ c .before .before .before .before .before .end .given .1) _ (sym (c .before .before .major-exists .ensures) ∙ c .before .if1 .taken))
+
+returns-3 : tie.Need-returns-3
+returns-3 c = sym (version-is (c .before .before .before .before .before .before .before .before .args .s .now) (c .before .before .before .before .before .before .before .before .args .at) _ (sym (c .before .before .before .before .before .before .read-run .ensures) ∙ c .before .before .before .before .end .given .1) _ (sym (c .before .major-exists .ensures) ∙ c .if1 .left))
+
+pub version-at-spec : {M : Type 1} → statement M
+version-at-spec =
+    tie.close
+    (tie.spec
+    read-run-requires
+    enum-known-end
+    enum-told
+    returns
+    shared-slice-read-major
+    major-exists-requires
+    minor-at-requires
+    returns-2
+    returns-3)

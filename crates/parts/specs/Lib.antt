@@ -1,0 +1,2 @@
+-- The parts of a profile body.
+pub mod Parts
