@@ -52,7 +52,11 @@ pub enum VersionPart {
 
 // Octets of the body, the host's without its final zero or the key's, and the index after them.
 pub enum OctetsPart {
-    Span { from: Index, length: usize, next: Index },
+    Span {
+        from: Index,
+        length: usize,
+        next: Index,
+    },
     Refused(Refusal),
 }
 

@@ -1,0 +1,4 @@
+-- Laws that other crates cite.
+pub mod Skips
+pub mod Stages
+pub mod Extents

@@ -1,0 +1,120 @@
+-- What each stage of the reading of a body comes to, by the part that stands there.
+use mathlib.Core.Path.{_≡_, ap, _∙_}
+use mathlib.Core.List.{List}
+use mathlib.Core.Bool.{Bool, true, false, cond}
+use Prim.Native.Nat.{ℕ, _≤_, _<_}
+use lib.Dec.{ltb, leb}
+use lib.ListN.{length}
+use borrow.Author.Tests.{lt-ltb, le-ltb, le-leb, lt-leb}
+use Rattle.choices.specs.Branch.{choose}
+use Rattle.cdr.specs.declared.Index.{Index}
+use Rattle.cdr.specs.declared.Order.{Order}
+use Rattle.encapsulation.specs.Encapsulation.{start}
+use Rattle.parts.specs.declared.Refusal.the-variants.{TooLong, AfterKey, NoSuchComponent}
+use Rattle.parts.specs.declared.OrderPart.{OrderPart}
+use Rattle.parts.specs.declared.VersionPart.{VersionPart}
+use Rattle.parts.specs.declared.OctetsPart.{OctetsPart}
+use Rattle.parts.specs.declared.NumberPart.{NumberPart}
+use Rattle.parts.specs.declared.ComponentPart.{ComponentPart}
+use Rattle.parts.specs.Parts.{orderAt, versionAt, hostAt, portAt, keyAt, countAt, componentAt}
+use Rattle.version.specs.Versions.{hasComponents}
+use Rattle.profile.specs.declared.list.Skip.{Skip}
+use Rattle.profile.specs.declared.list.Components.{Components}
+use Rattle.profile.specs.declared.list.Components.the-variants.{Listed, Refused as noList}
+use Rattle.profile.specs.declared.Extent.{Extent}
+use Rattle.profile.specs.declared.Head.{Head}
+use Rattle.profile.specs.declared.Profile.{Profile}
+use Rattle.profile.specs.declared.ProfileAnswer.{ProfileAnswer}
+use Rattle.profile.specs.declared.ProfileAnswer.the-variants.{Read, Refused}
+use Rattle.profile.specs.declared.ComponentAnswer.{ComponentAnswer}
+use Rattle.profile.specs.declared.ComponentAnswer.the-variants.{Refused as notFound}
+use Rattle.profile.specs.List.{skipFrom, listed, listFrom, onCount, countedList, listAt, componentAfter, componentFrom}
+use Rattle.profile.specs.Profile.{onOrder, onVersion, onOctets, onNumber, onList, listThen, keyThen, portThen, hostThen, versionThen, profileOf, hostIn, hostOctets, keyIn, keyOctets, foundFrom, componentThen, componentIn, componentOf, foundOctets, componentOctets}
+
+module _ (v : List ℕ) (order : Order) where
+  pub list-is : (first : Index) (count : ℕ) (s : Skip) → skipFrom v order count first ≡ s → listFrom v first count order ≡ listed v count first s
+  unfolding listFrom
+  list-is first count s e = ap (listed v count first) e
+
+  pub counted-is : (i : Index) (p : NumberPart) → countAt v i order ≡ p → countedList v i order ≡ onCount p (λ n next. listFrom v next n order)
+  unfolding countedList
+  counted-is i p e = ap (λ (x : NumberPart). onCount x (λ n next. listFrom v next n order)) e
+
+  pub component-from-is : (first : Index) (n : ℕ) (s : Skip) → skipFrom v order n first ≡ s → componentFrom v first n order ≡ componentAfter v order s
+  unfolding componentFrom
+  component-from-is first n s e = ap (componentAfter v order) e
+
+  module _ (i : Index) (minor : ℕ) where
+    pub list-from-1 : hasComponents minor ≡ true → listAt v i minor order ≡ countedList v i order
+    unfolding listAt
+    list-from-1 h = rw h
+
+    pub list-after-key : hasComponents minor ≡ false → i .0 < length v → listAt v i minor order ≡ noList AfterKey
+    unfolding listAt
+    list-after-key h l = rw (h, lt-ltb (i .0) (length v) l)
+
+    pub list-none : hasComponents minor ≡ false → length v ≤ i .0 → listAt v i minor order ≡ Listed 0 i 0
+    unfolding listAt
+    list-none h l = rw (h, le-ltb (i .0) (length v) l)
+
+module _ (v : List ℕ) where
+  pub list-then-is : (head : Head) (host : Extent) (port : ℕ) (key : Extent) (i : Index) (l : Components) → listAt v i (head .minor) (head .order) ≡ l
+      → listThen v head host port key i ≡ onList l (λ count first extra. Read (record { head = head; host = host; port = port; key = key; components = count; first = first; extra = extra }))
+  unfolding listThen
+  list-then-is head host port key i l e =
+      ap (λ (x : Components). onList x (λ count first extra. Read (record { head = head; host = host; port = port; key = key; components = count; first = first; extra = extra }))) e
+
+  pub key-then-is : (head : Head) (host : Extent) (port : ℕ) (i : Index) (p : OctetsPart) → keyAt v i (head .order) ≡ p
+      → keyThen v head host port i ≡ onOctets p (λ key next. listThen v head host port key next)
+  unfolding keyThen
+  key-then-is head host port i p e = ap (λ (x : OctetsPart). onOctets x (λ key next. listThen v head host port key next)) e
+
+  pub port-then-is : (head : Head) (host : Extent) (i : Index) (p : NumberPart) → portAt v i (head .order) ≡ p
+      → portThen v head host i ≡ onNumber p (λ port next. keyThen v head host port next)
+  unfolding portThen
+  port-then-is head host i p e = ap (λ (x : NumberPart). onNumber x (λ port next. keyThen v head host port next)) e
+
+  pub host-then-is : (head : Head) (i : Index) (p : OctetsPart) → hostAt v i (head .order) ≡ p
+      → hostThen v head i ≡ onOctets p (λ host next. portThen v head host next)
+  unfolding hostThen
+  host-then-is head i p e = ap (λ (x : OctetsPart). onOctets x (λ host next. portThen v head host next)) e
+
+  pub version-then-is : (order : Order) (i : Index) (p : VersionPart) → versionAt v i ≡ p
+      → versionThen v order i ≡ onVersion p (λ major minor next. hostThen v (record { order = order; major = major; minor = minor }) next)
+  unfolding versionThen
+  version-then-is order i p e =
+      ap (λ (x : VersionPart). onVersion x (λ major minor next. hostThen v (record { order = order; major = major; minor = minor }) next)) e
+
+  pub profile-too-long : 16384 < length v → profileOf v ≡ Refused TooLong
+  unfolding profileOf choose
+  profile-too-long h = rw (lt-ltb 16384 (length v) h)
+
+  pub profile-is : length v ≤ 16384 → (p : OrderPart) → orderAt v start ≡ p → profileOf v ≡ onOrder p (λ order next. versionThen v order next)
+  unfolding profileOf choose
+  profile-is h p e = rw (le-ltb 16384 (length v) h, e)
+
+  pub host-octets-are : (a : ProfileAnswer) → profileOf v ≡ a → hostOctets v ≡ hostIn v a
+  unfolding hostOctets
+  host-octets-are a e = ap (hostIn v) e
+
+  pub key-octets-are : (a : ProfileAnswer) → profileOf v ≡ a → keyOctets v ≡ keyIn v a
+  unfolding keyOctets
+  key-octets-are a e = ap (keyIn v) e
+
+  module _ (number : ℕ) where
+    pub component-is : (a : ProfileAnswer) → profileOf v ≡ a → componentOf v number ≡ componentIn v number a
+    unfolding componentOf
+    component-is a e = ap (componentIn v number) e
+
+    pub component-beyond : (p : Profile) → p .components ≤ number → componentThen v p number ≡ notFound NoSuchComponent
+    unfolding componentThen choose
+    component-beyond p h = rw (le-leb (p .components) number h)
+
+    pub component-there : (p : Profile) → number < p .components → (c : ComponentPart) → componentFrom v (p .first) number (p .head .order) ≡ c
+        → componentThen v p number ≡ foundFrom c
+    unfolding componentThen choose
+    component-there p h c e = rw (lt-leb (p .components) number h, e)
+
+    pub component-octets-are : (a : ComponentAnswer) → componentOf v number ≡ a → componentOctets v number ≡ foundOctets v a
+    unfolding componentOctets
+    component-octets-are a e = ap (foundOctets v) e

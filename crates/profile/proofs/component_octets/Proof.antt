@@ -1,0 +1,47 @@
+-- The octets of the part, or none.
+use borrow.Author.Needs.{needs}
+use Rattle.profile.proofs.component_octets.Statement.{statement}
+use Rattle.profile.proofs.component_octets.Tie as tie
+use mathlib.Core.Path.{sym, _∙_}
+use Rattle.profile.proofs.Stages.{component-octets-are}
+
+component-requires : tie.Need-component-requires
+component-requires c κs = search needs
+
+enum-known-octets : tie.Need-enum-known-octets
+enum-known-octets c = search needs
+
+octets-in-requires : tie.Need-octets-in-requires
+octets-in-requires c κs = search needs
+
+enum-told : tie.Need-enum-told
+enum-told c = search needs
+
+sub-result : tie.Need-sub-result
+sub-result c = search needs
+
+part-result-start : tie.Need-part-result-start
+part-result-start c = search needs
+
+part-result-end : tie.Need-part-result-end
+part-result-end c = search needs
+
+returns : tie.Need-returns
+returns c = c .octets-in .ensures ∙ sym (component-octets-are (c .before .before .before .before .before .before .args .s .now) (c .before .before .before .before .before .before .args .number) _ (sym (c .before .before .before .before .component .ensures) ∙ c .before .before .octets .given .1))
+
+returns-2 : tie.Need-returns-2
+returns-2 c = sym (component-octets-are (c .before .before .before .before .before .args .s .now) (c .before .before .before .before .before .args .number) _ (sym (c .before .before .before .component .ensures) ∙ c .before .enum-told .given .1))
+
+pub component-octets-spec : {M : Type 1} → statement M
+component-octets-spec =
+    tie.close
+    (tie.spec
+    component-requires
+    enum-known-octets
+    octets-in-requires
+    enum-told
+    sub-result
+    part-result-start
+    part-result-end
+    returns
+    returns-2)

@@ -1,0 +1,47 @@
+-- The octets of the part, or none.
+use borrow.Author.Needs.{needs}
+use Rattle.profile.proofs.host.Statement.{statement}
+use Rattle.profile.proofs.host.Tie as tie
+use mathlib.Core.Path.{sym, _∙_}
+use Rattle.profile.proofs.Stages.{host-octets-are}
+
+read-requires : tie.Need-read-requires
+read-requires c κs = search needs
+
+enum-known-profile : tie.Need-enum-known-profile
+enum-known-profile c = search needs
+
+octets-in-requires : tie.Need-octets-in-requires
+octets-in-requires c κs = search needs
+
+enum-told : tie.Need-enum-told
+enum-told c = search needs
+
+sub-result : tie.Need-sub-result
+sub-result c = search needs
+
+part-result-start : tie.Need-part-result-start
+part-result-start c = search needs
+
+part-result-end : tie.Need-part-result-end
+part-result-end c = search needs
+
+returns : tie.Need-returns
+returns c = c .octets-in .ensures ∙ sym (host-octets-are (c .before .before .before .before .before .before .args .s .now) _ (sym (c .before .before .before .before .read .ensures) ∙ c .before .before .profile .given .1))
+
+returns-2 : tie.Need-returns-2
+returns-2 c = sym (host-octets-are (c .before .before .before .before .before .args .s .now) _ (sym (c .before .before .before .read .ensures) ∙ c .before .enum-told .given .1))
+
+pub host-spec : {M : Type 1} → statement M
+host-spec =
+    tie.close
+    (tie.spec
+    read-requires
+    enum-known-profile
+    octets-in-requires
+    enum-told
+    sub-result
+    part-result-start
+    part-result-end
+    returns
+    returns-2)

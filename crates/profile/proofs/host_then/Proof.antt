@@ -1,0 +1,35 @@
+-- The host, then the next stage.
+use borrow.Author.Needs.{needs}
+use Rattle.profile.proofs.host_then.Statement.{statement}
+use Rattle.profile.proofs.host_then.Tie as tie
+use mathlib.Core.Path.{sym, _∙_}
+use Rattle.profile.proofs.Stages.{host-then-is}
+
+host-at-requires : tie.Need-host-at-requires
+host-at-requires c κs = search needs
+
+enum-known-from : tie.Need-enum-known-from
+enum-known-from c = search needs
+
+port-then-requires : tie.Need-port-then-requires
+port-then-requires c κs = search needs
+
+enum-known-refusal : tie.Need-enum-known-refusal
+enum-known-refusal c = search needs
+
+returns : tie.Need-returns
+returns c = c .port-then .ensures ∙ sym (host-then-is (c .before .before .before .before .before .before .args .s .now) (c .before .before .before .before .before .before .args .head) (c .before .before .before .before .before .before .args .at) _ (sym (c .before .before .before .before .host-at .ensures) ∙ c .before .before .from .given .1))
+
+returns-2 : tie.Need-returns-2
+returns-2 c = sym (host-then-is (c .before .before .before .before .before .args .s .now) (c .before .before .before .before .before .args .head) (c .before .before .before .before .before .args .at) _ (sym (c .before .before .before .host-at .ensures) ∙ c .before .refusal .given .1))
+
+pub host-then-spec : {M : Type 1} → statement M
+host-then-spec =
+    tie.close
+    (tie.spec
+    host-at-requires
+    enum-known-from
+    port-then-requires
+    enum-known-refusal
+    returns
+    returns-2)

@@ -1,0 +1,35 @@
+-- The key, then the next stage.
+use borrow.Author.Needs.{needs}
+use Rattle.profile.proofs.key_then.Statement.{statement}
+use Rattle.profile.proofs.key_then.Tie as tie
+use mathlib.Core.Path.{sym, _∙_}
+use Rattle.profile.proofs.Stages.{key-then-is}
+
+key-at-requires : tie.Need-key-at-requires
+key-at-requires c κs = search needs
+
+enum-known-from : tie.Need-enum-known-from
+enum-known-from c = search needs
+
+list-then-requires : tie.Need-list-then-requires
+list-then-requires c κs = search needs
+
+enum-known-refusal : tie.Need-enum-known-refusal
+enum-known-refusal c = search needs
+
+returns : tie.Need-returns
+returns c = c .list-then .ensures ∙ sym (key-then-is (c .before .before .before .before .before .before .args .s .now) (c .before .before .before .before .before .before .args .head) (c .before .before .before .before .before .before .args .host) (c .before .before .before .before .before .before .args .port) (c .before .before .before .before .before .before .args .at) _ (sym (c .before .before .before .before .key-at .ensures) ∙ c .before .before .from .given .1))
+
+returns-2 : tie.Need-returns-2
+returns-2 c = sym (key-then-is (c .before .before .before .before .before .args .s .now) (c .before .before .before .before .before .args .head) (c .before .before .before .before .before .args .host) (c .before .before .before .before .before .args .port) (c .before .before .before .before .before .args .at) _ (sym (c .before .before .before .key-at .ensures) ∙ c .before .refusal .given .1))
+
+pub key-then-spec : {M : Type 1} → statement M
+key-then-spec =
+    tie.close
+    (tie.spec
+    key-at-requires
+    enum-known-from
+    list-then-requires
+    enum-known-refusal
+    returns
+    returns-2)

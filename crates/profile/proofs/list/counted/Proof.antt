@@ -1,0 +1,37 @@
+-- The count, which ends in the octets, then the components.
+use borrow.Author.Needs.{needs}
+use Rattle.profile.proofs.list.counted.Statement.{statement}
+use Rattle.profile.proofs.list.counted.Tie as tie
+use mathlib.Core.Path.{sym, _∙_}
+use Rattle.profile.proofs.Stages.{counted-is}
+use Rattle.cdr.specs.declared.Size.the-variants.{Four}
+use Rattle.parts.proofs.Parts.{number-inside}
+
+count-at-requires : tie.Need-count-at-requires
+count-at-requires c κs = search needs
+
+enum-known-value : tie.Need-enum-known-value
+enum-known-value c = search needs
+
+list-from-requires : tie.Need-list-from-requires
+list-from-requires c κs = number-inside (c .before .before .before .before .before .args .s .now) (c .before .before .before .before .before .args .at) (c .before .before .before .before .before .args .order) Four _ _ (sym (c .before .before .before .count-at .ensures) ∙ c .before .value .given .1)
+
+enum-known-refusal : tie.Need-enum-known-refusal
+enum-known-refusal c = search needs
+
+returns : tie.Need-returns
+returns c = c .list-from .ensures ∙ sym (counted-is (c .before .before .before .before .before .before .args .s .now) (c .before .before .before .before .before .before .args .order) (c .before .before .before .before .before .before .args .at) _ (sym (c .before .before .before .before .count-at .ensures) ∙ c .before .before .value .given .1))
+
+returns-2 : tie.Need-returns-2
+returns-2 c = sym (counted-is (c .before .before .before .before .before .args .s .now) (c .before .before .before .before .before .args .order) (c .before .before .before .before .before .args .at) _ (sym (c .before .before .before .count-at .ensures) ∙ c .before .refusal .given .1))
+
+pub counted-spec : {M : Type 1} → statement M
+counted-spec =
+    tie.close
+    (tie.spec
+    count-at-requires
+    enum-known-value
+    list-from-requires
+    enum-known-refusal
+    returns
+    returns-2)

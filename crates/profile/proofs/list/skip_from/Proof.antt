@@ -1,0 +1,59 @@
+-- Components one after the other.
+use borrow.Author.Needs.{needs}
+use Rattle.profile.proofs.list.skip_from.Statement.{statement}
+use Rattle.profile.proofs.list.skip_from.Tie as tie
+use mathlib.Core.Path.{_≡_, sym, _∙_, ap}
+use native.Mathlib.Omega.{arith}
+use Prim.Native.Nat.{ℕ, _-_, _≤_}
+use native.Mathlib.Nat.{sub-zero}
+use Rattle.profile.specs.List.{skipFrom}
+use Rattle.profile.proofs.Skips.{skip-refused, skip-next, skip-end}
+
+abbrev Inv-loop : tie.InvT-loop
+Inv-loop s count order next₀ k₀ next k = (k ≤ count) × (skipFrom s order (count - k) next ≡ skipFrom s order count next₀)
+
+abbrev μ-loop : tie.MeasureT-loop
+μ-loop s count order next₀ k₀ next k = count - k
+
+loop-holds : tie.Need-loop-holds Inv-loop μ-loop
+loop-holds c = (omega arith, ap (λ (x : ℕ). skipFrom (c .before .args .s .now) (c .before .args .order) x (c .before .args .at)) (sub-zero (c .before .args .count)))
+
+component-at-requires : tie.Need-component-at-requires Inv-loop μ-loop
+component-at-requires c κs = search needs
+
+enum-known-refusal : tie.Need-enum-known-refusal Inv-loop μ-loop
+enum-known-refusal c = search needs
+
+returns : tie.Need-returns Inv-loop μ-loop
+returns c = sym (skip-refused (c .before .before .before .before .before .before .before .args .s .now) (c .before .before .before .before .before .before .before .args .order) (c .before .before .before .before .before .before .before .args .count) (c .before .before .before .before .before .loop .k) (c .before .before .before .before .before .loop .next) (c .before .before .before .before .loop-test .taken) _ (sym (c .before .before .before .component-at .ensures) ∙ c .before .refusal .given .1)) ∙ c .before .before .before .before .before .loop .inv .1
+
+enum-known-i : tie.Need-enum-known-i Inv-loop μ-loop
+enum-known-i c = search needs
+
+add-k : tie.Need-add-k Inv-loop μ-loop
+add-k c = search needs
+
+loop-less : tie.Need-loop-less Inv-loop μ-loop
+loop-less c = search needs
+
+loop-again : tie.Need-loop-again Inv-loop μ-loop
+loop-again c = (omega (arith, c .before .before .before .before .loop-test .taken), sym (skip-next (c .before .before .before .before .before .before .before .args .s .now) (c .before .before .before .before .before .before .before .args .order) (c .before .before .before .before .before .before .before .args .count) (c .before .before .before .before .before .loop .k) (c .before .before .before .before .before .loop .next) (c .before .before .before .before .loop-test .taken) _ _ _ _ (sym (c .before .before .before .component-at .ensures) ∙ c .before .i .given .1)) ∙ c .before .before .before .before .before .loop .inv .1)
+
+returns-2 : tie.Need-returns-2 Inv-loop μ-loop
+returns-2 c = sym (skip-end (c .before .before .before .args .s .now) (c .before .before .before .args .order) (c .before .before .before .args .count) (c .before .loop .k) (c .before .loop .next) (c .loop-test .left)) ∙ c .before .loop .inv .1
+
+pub skip-from-spec : {M : Type 1} → statement M
+skip-from-spec =
+    tie.close
+    (tie.spec
+    Inv-loop
+    μ-loop
+    loop-holds
+    component-at-requires
+    enum-known-refusal
+    returns
+    enum-known-i
+    add-k
+    loop-less
+    loop-again
+    returns-2)

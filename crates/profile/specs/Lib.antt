@@ -1,0 +1,3 @@
+-- The IIOP profile body.
+pub mod List
+pub mod Profile

@@ -1,0 +1,249 @@
+// An IIOP profile body: order, version, host, port, key, components and extra octets, or 01's refusal, 42 and 60 to 64; and a component by
+// number, 69. Parts of the body come back as the caller's own octets.
+ghost use mathlib.Core.Path.{_≡_};
+ghost use Rattle.profile.specs.Profile.{octetsIn, profileNumber, componentNumber, profileOf, versionThen, hostThen, portThen, keyThen, listThen, componentOf, componentThen, hostOctets, keyOctets, componentOctets};
+use cdr::Index;
+use cdr::Order;
+use parts::ComponentPart;
+use parts::NumberPart;
+use parts::OctetsPart;
+use parts::OrderPart;
+use parts::Refusal;
+use parts::VersionPart;
+
+mod list;
+
+use list::Components;
+
+// The most octets of a body.
+const LIMIT: usize = 16384;
+
+// Octets of a body: the first one's index, and how many.
+pub struct Extent {
+    pub from: Index,
+    pub length: usize,
+}
+
+// What a body's first octets say.
+pub struct Head {
+    pub order: Order,
+    pub major: u8,
+    pub minor: u8,
+}
+
+// What a body says: the host without its final zero, the first component's index, and the octets after the last component.
+pub struct Profile {
+    pub head: Head,
+    pub host: Extent,
+    pub port: u64,
+    pub key: Extent,
+    pub components: u64,
+    pub first: Index,
+    pub extra: usize,
+}
+
+// What the reading of a body answers.
+pub enum ProfileAnswer {
+    Read(Profile),
+    Refused(Refusal),
+}
+
+impl ProfileAnswer {
+    // The paper's number of the answer, 0 for a body that was read.
+    pub fn number(self) -> u32
+        ensures { λ r. ⌜ r ≡ profileNumber self ⌝ }
+    {
+        match self {
+            ProfileAnswer::Read(_) => 0,
+            ProfileAnswer::Refused(refusal) => refusal.number(),
+        }
+    }
+}
+
+// A component of a body: its tag and octets.
+pub enum ComponentAnswer {
+    Found { tag: u64, octets: Extent },
+    Refused(Refusal),
+}
+
+impl ComponentAnswer {
+    // The paper's number of the answer, 0 for a component that is there.
+    pub fn number(self) -> u32
+        ensures { λ r. ⌜ r ≡ componentNumber self ⌝ }
+    {
+        match self {
+            ComponentAnswer::Found { tag: _, octets: _ } => 0,
+            ComponentAnswer::Refused(refusal) => refusal.number(),
+        }
+    }
+}
+
+// Reads a body.
+pub fn read(s: &[u8]) -> ProfileAnswer
+    ensures { λ r. ⌜ r ≡ profileOf (now (s .entry)) ⌝ }
+{
+    if LIMIT < s.len() {
+        return ProfileAnswer::Refused(Refusal::TooLong);
+    }
+    match parts::order_at(s, Index::START) {
+        OrderPart::InOrder { order, next } => version_then(s, order, next),
+        OrderPart::Refused(refusal) => ProfileAnswer::Refused(refusal),
+    }
+}
+
+// The version, and all behind it.
+fn version_then(s: &[u8], order: Order, at: Index) -> ProfileAnswer
+    ensures { λ r. ⌜ r ≡ versionThen (now (s .entry)) order at ⌝ }
+{
+    match parts::version_at(s, at) {
+        VersionPart::Version { major, minor, next } => host_then(
+            s,
+            Head {
+                order,
+                major,
+                minor,
+            },
+            next,
+        ),
+        VersionPart::Refused(refusal) => ProfileAnswer::Refused(refusal),
+    }
+}
+
+// The host, and all behind it.
+fn host_then(s: &[u8], head: Head, at: Index) -> ProfileAnswer
+    ensures { λ r. ⌜ r ≡ hostThen (now (s .entry)) head at ⌝ }
+{
+    let order = head.order;
+    match parts::host_at(s, at, order) {
+        OctetsPart::Span { from, length, next } => {
+            port_then(s, head, Extent { from, length }, next)
+        }
+        OctetsPart::Refused(refusal) => ProfileAnswer::Refused(refusal),
+    }
+}
+
+// The port, and all behind it.
+fn port_then(s: &[u8], head: Head, host: Extent, at: Index) -> ProfileAnswer
+    ensures { λ r. ⌜ r ≡ portThen (now (s .entry)) head host at ⌝ }
+{
+    let order = head.order;
+    match parts::port_at(s, at, order) {
+        NumberPart::Number { value, next } => key_then(s, head, host, value, next),
+        NumberPart::Refused(refusal) => ProfileAnswer::Refused(refusal),
+    }
+}
+
+// The key, and all behind it.
+fn key_then(s: &[u8], head: Head, host: Extent, port: u64, at: Index) -> ProfileAnswer
+    ensures { λ r. ⌜ r ≡ keyThen (now (s .entry)) head host port at ⌝ }
+{
+    let order = head.order;
+    match parts::key_at(s, at, order) {
+        OctetsPart::Span { from, length, next } => {
+            list_then(s, head, host, port, Extent { from, length }, next)
+        }
+        OctetsPart::Refused(refusal) => ProfileAnswer::Refused(refusal),
+    }
+}
+
+// The components, and the octets after them.
+fn list_then(s: &[u8], head: Head, host: Extent, port: u64, key: Extent, at: Index) -> ProfileAnswer
+    ensures { λ r. ⌜ r ≡ listThen (now (s .entry)) head host port key at ⌝ }
+{
+    let order = head.order;
+    match list::list_at(s, at, head.minor, order) {
+        Components::Listed {
+            count,
+            first,
+            extra,
+        } => ProfileAnswer::Read(Profile {
+            head,
+            host,
+            port,
+            key,
+            components: count,
+            first,
+            extra,
+        }),
+        Components::Refused(refusal) => ProfileAnswer::Refused(refusal),
+    }
+}
+
+// The component of a body that has a number, the first one 0.
+pub fn component(s: &[u8], number: u64) -> ComponentAnswer
+    ensures { λ r. ⌜ r ≡ componentOf (now (s .entry)) number ⌝ }
+{
+    match read(s) {
+        ProfileAnswer::Read(profile) => component_then(s, profile, number),
+        ProfileAnswer::Refused(refusal) => ComponentAnswer::Refused(refusal),
+    }
+}
+
+// The component of a body that was read.
+fn component_then(s: &[u8], profile: Profile, number: u64) -> ComponentAnswer
+    ensures { λ r. ⌜ r ≡ componentThen (now (s .entry)) profile number ⌝ }
+{
+    if profile.components <= number {
+        return ComponentAnswer::Refused(Refusal::NoSuchComponent);
+    }
+    let head = profile.head;
+    let order = head.order;
+    let first = profile.first;
+    match list::component_from(s, first, number, order) {
+        ComponentPart::Component {
+            tag,
+            from,
+            length,
+            next: _,
+        } => ComponentAnswer::Found {
+            tag,
+            octets: Extent { from, length },
+        },
+        ComponentPart::Refused(refusal) => ComponentAnswer::Refused(refusal),
+    }
+}
+
+// The octets of an extent, as far as they are there.
+pub fn octets_in<'a>(s: &'a [u8], part: Extent) -> &'a [u8]
+    ensures { λ r. ⌜ now r ≡ octetsIn (now (s .entry)) part ⌝ }
+{
+    let from = part.from.0;
+    let length = part.length;
+    if s.len() <= from {
+        return &s[0..0];
+    }
+    if s.len() - from <= length {
+        return &s[from..];
+    }
+    &s[from..from + length]
+}
+
+// The host of a body, without its final zero; no octets of a refused body.
+pub fn host<'a>(s: &'a [u8]) -> &'a [u8]
+    ensures { λ r. ⌜ now r ≡ hostOctets (now (s .entry)) ⌝ }
+{
+    match read(s) {
+        ProfileAnswer::Read(profile) => octets_in(s, profile.host),
+        ProfileAnswer::Refused(_) => &s[0..0],
+    }
+}
+
+// The key of a body; no octets of a refused body.
+pub fn key<'a>(s: &'a [u8]) -> &'a [u8]
+    ensures { λ r. ⌜ now r ≡ keyOctets (now (s .entry)) ⌝ }
+{
+    match read(s) {
+        ProfileAnswer::Read(profile) => octets_in(s, profile.key),
+        ProfileAnswer::Refused(_) => &s[0..0],
+    }
+}
+
+// The octets of the component of a body that has a number; none where it is refused.
+pub fn component_octets<'a>(s: &'a [u8], number: u64) -> &'a [u8]
+    ensures { λ r. ⌜ now r ≡ componentOctets (now (s .entry)) number ⌝ }
+{
+    match component(s, number) {
+        ComponentAnswer::Found { tag: _, octets } => octets_in(s, octets),
+        ComponentAnswer::Refused(_) => &s[0..0],
+    }
+}
