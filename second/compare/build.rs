@@ -9,7 +9,7 @@ use std::process::ExitCode;
 const FOLDER_VARIABLE: &str = "HAULSPAR_LIB";
 
 /// The archive's file name.
-const ARCHIVE: &str = "libcapi.a";
+const ARCHIVE: &str = "libhaulspar.a";
 
 /// Tells cargo what to link, or why it cannot be linked.
 fn main() -> ExitCode {
@@ -18,7 +18,7 @@ fn main() -> ExitCode {
         Ok(folder) => {
             println!("cargo:rerun-if-changed={}", folder.join(ARCHIVE).display());
             println!("cargo:rustc-link-search=native={}", folder.display());
-            println!("cargo:rustc-link-lib=static=capi");
+            println!("cargo:rustc-link-lib=static=haulspar");
             ExitCode::SUCCESS
         }
         Err(reason) => {

@@ -16,6 +16,11 @@
 //!   the last ORDER, its first octet having the last START, with room for ROOM
 //!   octets? `ok COUNT OCTETS` or `no N`. OCTETS are upper-case digits, `-` for
 //!   none.
+//! - `profile OCTETS`: what does the IIOP profile body have?
+//!   `ok ORDER MAJOR MINOR HOST PORT KEY COMPONENTS EXTRA` or `no N`. HOST and KEY
+//!   are upper-case digits, `-` for none, COMPONENTS and EXTRA counts.
+//! - `component OCTETS NUMBER`: what is the profile's component of this number,
+//!   from 0? `ok TAG OCTETS` or `no N`.
 //!
 //! A line that is no question is answered `?`.
 
@@ -24,6 +29,7 @@ use std::io::{BufRead, BufWriter, Write};
 
 use crate::hexline::{digits_into, encode};
 use crate::lines::{next_line, Failure, BLOCK};
+use crate::profile::{self, Component, Profile};
 use crate::rewrite::{rewrite, Chosen};
 use crate::typecode::{check, Checked};
 use crate::value::{self, Accepted, Content, Input, Item, Lent, Refused, LONGEST_VALUE};
@@ -51,6 +57,8 @@ enum Answer {
     Item(Content),
     /// The value is rewritten as these octets.
     Rewritten(Vec<u8>),
+    /// What the profile or its component is told as, after `ok`.
+    Told(String),
 }
 
 impl fmt::Display for Answer {
@@ -67,7 +75,10 @@ impl fmt::Display for Answer {
             Answer::Item(Content::Unsigned(number)) => write!(formatter, "ok unsigned {number}"),
             Answer::Item(Content::Single(bits)) => write!(formatter, "ok single {bits:08X}"),
             Answer::Item(Content::Double(bits)) => write!(formatter, "ok double {bits:016X}"),
-            Answer::Rewritten(octets) => write_rewritten(formatter, octets),
+            Answer::Rewritten(octets) => {
+                write!(formatter, "ok {} {}", octets.len(), word_of(octets))
+            }
+            Answer::Told(words) => write!(formatter, "ok {words}"),
         }
     }
 }
@@ -95,14 +106,12 @@ fn write_accepted(formatter: &mut fmt::Formatter<'_>, accepted: &Accepted) -> fm
     Ok(())
 }
 
-/// Writes the answer of a rewritten value.
-fn write_rewritten(formatter: &mut fmt::Formatter<'_>, octets: &[u8]) -> fmt::Result {
-    let digits = match octets {
+/// The word that spells octets: upper-case digits, or `-` for none.
+fn word_of(octets: &[u8]) -> String {
+    match octets {
         [] => "-".into(),
-        _ => encode(octets),
-    };
-    let digits = String::from_utf8_lossy(&digits);
-    write!(formatter, "ok {} {digits}", octets.len())
+        _ => String::from_utf8_lossy(&encode(octets)).into_owned(),
+    }
 }
 
 /// Answers every line of the input.
@@ -148,6 +157,10 @@ fn answer_words(words: &[&[u8]]) -> Option<Answer> {
         [b"rewrite", ref value @ .., order, start, room] => {
             let (chosen, room) = (chosen(order, start)?, number_of(room)?);
             answer_about(value, |input| answer_rewrite(input, chosen, room))
+        }
+        [b"profile", octets] => Some(answer_profile(&octets_of(octets)?)),
+        [b"component", octets, number] => {
+            Some(answer_component(&octets_of(octets)?, number_of(number)?))
         }
         _ => None,
     }
@@ -210,6 +223,37 @@ fn answer_rewrite(input: Input, chosen: Chosen, room: u64) -> Answer {
 fn answer_type(little: bool, octets: &[u8]) -> Answer {
     match check(octets, little) {
         Ok(Checked { used, kinds }) => Answer::Type(used, kinds.len()),
+        Err(refusal) => Answer::Refused(refusal),
+    }
+}
+
+/// Says what a profile body has.
+fn answer_profile(octets: &[u8]) -> Answer {
+    match profile::read(octets) {
+        Ok(profile) => Answer::Told(profile_words(&profile)),
+        Err(refusal) => Answer::Refused(refusal),
+    }
+}
+
+/// The words that tell a profile.
+fn profile_words(profile: &Profile) -> String {
+    let order = if profile.little { "little" } else { "big" };
+    format!(
+        "{order} {} {} {} {} {} {} {}",
+        profile.major,
+        profile.minor,
+        word_of(profile.host.octets),
+        profile.port,
+        word_of(profile.key.octets),
+        profile.components,
+        profile.extra
+    )
+}
+
+/// Says what a profile's component of this number is.
+fn answer_component(octets: &[u8], number: u64) -> Answer {
+    match profile::component(octets, number) {
+        Ok(Component { tag, run }) => Answer::Told(format!("{tag} {}", word_of(run.octets))),
         Err(refusal) => Answer::Refused(refusal),
     }
 }
@@ -429,6 +473,89 @@ mod tests {
         let question = format!("rewrite big {typecode} big 000007FF{elements} 4 big 5 16387");
         let expected = format!("ok 16387 000000000007FF00000000{elements}\n");
         assert_eq!(output_in_blocks(question.as_bytes(), BLOCK), expected);
+    }
+
+    #[test]
+    fn profiles_and_components() {
+        const BODY: &str = "010102ee02000000610039300400000000FF6b00010000002a00000001000000aaEE";
+        for (question, expected) in [
+            (
+                format!("profile {BODY}"),
+                "ok little 1 2 61 12345 00FF6B00 1 1",
+            ),
+            (
+                "profile 000101EE0000000100EE00500000000000000000".into(),
+                "ok big 1 1 - 80 - 0 0",
+            ),
+            ("profile -".into(), "no 60"),
+            ("profile 02".into(), "no 61"),
+            ("profile 0002".into(), "no 62"),
+            ("profile 0001000000000000".into(), "no 63"),
+            ("profile 000100EE0000000100EE00500000000000".into(), "no 64"),
+            (format!("component {BODY} 0"), "ok 42 AA"),
+            (format!("component {BODY} 000"), "ok 42 AA"),
+            (format!("component {BODY} 1"), "no 69"),
+            (format!("component {BODY} 18446744073709551615"), "no 69"),
+            ("component - 0".into(), "no 60"),
+            ("component FF 18446744073709551615".into(), "no 61"),
+        ] {
+            assert_eq!(output(question.as_bytes()), format!("{expected}\n"));
+        }
+        let tagged = BODY.replace("01000000aaEE", "00000000");
+        let tagged = tagged.replace("2a000000", "FFFFFFFF");
+        let question = format!("component {tagged} 0");
+        assert_eq!(output(question.as_bytes()), "ok 4294967295 -\n");
+    }
+
+    #[test]
+    fn lines_that_are_no_question_about_profiles() {
+        for line in [
+            "profile",
+            "profile ",
+            "profile  -",
+            "profile - ",
+            "profile - -",
+            "profile big -",
+            "profile 0",
+            "profile 0G",
+            "profile --",
+            "Profile -",
+            "profiles -",
+            "component",
+            "component -",
+            "component - ",
+            "component  - 0",
+            "component -  0",
+            "component - 0 0",
+            "component - -",
+            "component - -1",
+            "component - +1",
+            "component - 0A",
+            "component - 18446744073709551616",
+            "component 0 0",
+            "component 0 -",
+            "Component - 0",
+            "components - 0",
+            "component - 0\r",
+        ] {
+            assert_eq!(output(line.as_bytes()), "?\n");
+        }
+    }
+
+    #[test]
+    fn profiles_around_the_longest() {
+        for (octets, expected) in [(16_384, "no 61"), (16_385, "no 42"), (65_532, "no 42")] {
+            let profile = format!("profile {}", "FF".repeat(octets));
+            let component = format!("component {} 7", "FF".repeat(octets - 2));
+            let question = format!("{profile}\n{component}");
+            let answers = output_in_blocks(question.as_bytes(), BLOCK);
+            assert!(answers.starts_with(expected), "{octets}: {answers}");
+            let expected = if octets > 16_386 { "no 42" } else { "no 61" };
+            assert!(answers.ends_with(&format!("{expected}\n")));
+        }
+        let longer = format!("profile {}", "FF".repeat(65_533));
+        assert!(longer.len() > LONGEST_QUESTION);
+        assert_eq!(output_in_blocks(longer.as_bytes(), BLOCK), "?\n");
     }
 
     #[test]

@@ -9,6 +9,7 @@ pub mod inspect;
 pub mod joining;
 pub mod lines;
 pub mod primitive;
+pub mod profile;
 pub mod recording;
 pub mod refusal;
 pub mod rewrite;

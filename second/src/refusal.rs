@@ -83,6 +83,18 @@ pub const TOO_MANY_OPEN: u32 = 55;
 pub const NO_ROOM: u32 = 56;
 /// Output shorter than the rewritten value.
 pub const RESULT_TOO_LONG: u32 = 57;
+/// Octets of the profile body end.
+pub const PROFILE_CUT: u32 = 60;
+/// An order octet above 1.
+pub const ORDER_UNFIT: u32 = 61;
+/// Not IIOP 1.0, 1.1 or 1.2.
+pub const PROFILE_VERSION_UNKNOWN: u32 = 62;
+/// A host of length 0, without a last zero octet or with an earlier one.
+pub const HOST_UNFIT: u32 = 63;
+/// Octets after the key in 1.0.
+pub const OCTETS_AFTER_KEY: u32 = 64;
+/// A number not below the count of a profile's components.
+pub const NO_SUCH_COMPONENT: u32 = 69;
 
 /// Gives the refusal unless the demand is met.
 pub fn demand(met: bool, refusal: u32) -> Result<(), u32> {

@@ -49,9 +49,9 @@ module _ (v : List ℕ) (i : Index) where
   version-none e = ap (majorFrom v i) e
 
   pub version-is : (e : ℕ) → runOf v (i .0) 1 ≡ To e → (b : Bool) → majorExists (getD v (i .0) 0) ≡ b
-      → versionAt v i ≡ cond b (minorAt v (getD v (i .0) 0) (indexOf e)) (noVersion NoSuchVersion)
+      → versionAt v i ≡ cond b (minorAt v (getD v (i .0) 0) (indexOf (i .0 + 1))) (noVersion NoSuchVersion)
   unfolding versionAt
-  version-is e r b q = ap (majorFrom v i) r ∙ ap (λ (x : Bool). cond x (minorAt v (getD v (i .0) 0) (indexOf e)) (noVersion NoSuchVersion)) q
+  version-is e r b q = ap (majorFrom v i) r ∙ ap (λ (x : Bool). cond x (minorAt v (getD v (i .0) 0) (indexOf (i .0 + 1))) (noVersion NoSuchVersion)) q
 
 module _ (v : List ℕ) (major : ℕ) (i : Index) where
   pub minor-none : runOf v (i .0) 1 ≡ Past → minorAt v major i ≡ noVersion Ends

@@ -73,7 +73,7 @@ unfoldable pub minorAt : List ℕ → ℕ → Index → VersionPart
 minorAt v major i = minorFrom v major i (runOf v (i .0) 1)
 
 abbrev pub majorFrom : List ℕ → Index → Run → VersionPart
-majorFrom v i (To e) = cond (majorExists (getD v (i .0) 0)) (minorAt v (getD v (i .0) 0) (indexOf e)) (noVersion NoSuchVersion)
+majorFrom v i (To e) = cond (majorExists (getD v (i .0) 0)) (minorAt v (getD v (i .0) 0) (indexOf (i .0 + 1))) (noVersion NoSuchVersion)
 majorFrom v i Past = noVersion Ends
 
 unfoldable pub versionAt : List ℕ → Index → VersionPart

@@ -98,13 +98,13 @@ pub fn order_at(s: &[u8], at: Index) -> OrderPart
 pub fn version_at(s: &[u8], at: Index) -> VersionPart
     ensures { λ r. ⌜ r ≡ versionAt (now (s .entry)) at ⌝ }
 {
-    let i = at.0;
-    let Run::To(end) = texts::read_run(s, i, 1) else {
+    let first = at.0;
+    let Run::To(_) = texts::read_run(s, first, 1) else {
         return VersionPart::Refused(Refusal::Ends);
     };
-    let major = s[i];
+    let major = s[first];
     if version::major_exists(major) {
-        minor_at(s, major, Index(end))
+        minor_at(s, major, Index(first + 1))
     } else {
         VersionPart::Refused(Refusal::NoSuchVersion)
     }

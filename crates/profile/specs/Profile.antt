@@ -1,6 +1,11 @@
 -- The IIOP profile body: "42 over 16,384 octets, then in octet order" the refusals of the parts; v are the body's octets.
 --   profileNumber      the paper's number of an answer, 0 for a body that was read
 --   componentNumber    the paper's number of an answer about a component
+--   profileRow         what a body says, as numbers: order octet, major, minor, the host's place and length, port, the key's place and length,
+--                      components, extra
+--   profileNumbers     the number of an answer, then the row; "a refusal's other numbers are 0"
+--   componentRow       a component as numbers: tag, place and length of its octets
+--   componentNumbers   the number of an answer, then the row, 0 for a refusal
 --   onOrder, onVersion, onOctets, onNumber, onList
 --                      what follows a part, or its refusal
 --   extent             octets by their first one's index and their number
@@ -17,13 +22,14 @@
 --   componentOf        "a component by number from 0, with its tag; 69, last"
 --   componentOctets    the octets of that component, none where it is refused
 use Prim.Native.Nat.{ℕ}
-use mathlib.Core.List.{List, []}
+use mathlib.Core.List.{List, [], _∷_}
 use mathlib.Core.Bool.{cond}
 use lib.Dec.{ltb, leb}
-use lib.ListN.{length, take, drop}
+use lib.ListN.{length, take, drop, replicate}
 use Rattle.choices.specs.Branch.{choose}
 use Rattle.cdr.specs.declared.Index.{Index}
 use Rattle.cdr.specs.declared.Order.{Order}
+use Rattle.cdr.specs.Orders.{orderOctet}
 use Rattle.encapsulation.specs.Encapsulation.{start}
 use Rattle.parts.specs.declared.Refusal.the-variants.{TooLong, NoSuchComponent}
 use Rattle.parts.specs.declared.OrderPart.{OrderPart}
@@ -55,6 +61,22 @@ profileNumber (Refused r) = refusalNumber r
 abbrev pub componentNumber : ComponentAnswer → ℕ
 componentNumber (Found tag octets) = 0
 componentNumber (notFound r) = refusalNumber r
+
+abbrev pub profileRow : Profile → List ℕ
+profileRow p =
+    orderOctet (p .head .order) ∷ p .head .major ∷ p .head .minor ∷ p .host .from .0 ∷ p .host .length ∷ p .port
+    ∷ p .key .from .0 ∷ p .key .length ∷ p .components ∷ p .extra ∷ []
+
+abbrev pub profileNumbers : ProfileAnswer → List ℕ
+profileNumbers (Read p) = 0 ∷ profileRow p
+profileNumbers (Refused r) = refusalNumber r ∷ replicate 10 0
+
+abbrev pub componentRow : ℕ → Extent → List ℕ
+componentRow tag octets = tag ∷ octets .from .0 ∷ octets .length ∷ []
+
+abbrev pub componentNumbers : ComponentAnswer → List ℕ
+componentNumbers (Found tag octets) = 0 ∷ componentRow tag octets
+componentNumbers (notFound r) = refusalNumber r ∷ replicate 3 0
 
 abbrev pub onOrder : OrderPart → (Order → Index → ProfileAnswer) → ProfileAnswer
 onOrder (InOrder order next) f = f order next

@@ -9,6 +9,14 @@ use second::value::Input;
 /// there is a request id, request id.
 pub type HeaderNumbers = [u64; 7];
 
+/// The numbers of an accepted profile body: order octet, major, minor, the host's
+/// place and its length without the zero, port, the key's place and length,
+/// number of components, extra octets.
+pub type ProfileNumbers = [u64; 10];
+
+/// The numbers of a component: tag, its octets' place and length.
+pub type ComponentNumbers = [u64; 3];
+
 /// What the archive's interface gives of an accepted type.
 #[repr(C)]
 #[derive(Clone, Copy, PartialEq, Eq, Debug)]
@@ -135,6 +143,14 @@ extern "C" {
         out_len: usize,
         count: *mut u64,
     ) -> u32;
+
+    /// A profile body: 0, or a refusal, 42 or 60 to 64. The ten numbers change at
+    /// 0 only.
+    fn haulspar_profile(octets: *const u8, len: usize, numbers: *mut u64) -> u32;
+
+    /// A component of a profile body: 0, or a refusal, 42, 60 to 64 or 69. The
+    /// three numbers change at 0 only.
+    fn haulspar_component(octets: *const u8, len: usize, number: u64, found: *mut u64) -> u32;
 }
 
 /// A line's characters to octets at the start of `out`.
@@ -298,4 +314,16 @@ fn rewrite_unnamed(input: Input, start: usize, out: &mut [u8], count: &mut u64) 
             count,
         )
     }
+}
+
+/// What a profile body has.
+pub fn profile(octets: &[u8], numbers: &mut ProfileNumbers) -> u32 {
+    // SAFETY: pointers and lengths are those of live, distinct borrows.
+    unsafe { haulspar_profile(octets.as_ptr(), octets.len(), numbers.as_mut_ptr()) }
+}
+
+/// A profile body's component of a number.
+pub fn component(octets: &[u8], number: u64, found: &mut ComponentNumbers) -> u32 {
+    // SAFETY: pointers and lengths are those of live, distinct borrows.
+    unsafe { haulspar_component(octets.as_ptr(), octets.len(), number, found.as_mut_ptr()) }
 }

@@ -3,15 +3,18 @@
 use chance::Chance;
 use second::hexline::LONGEST_MESSAGE;
 use second::joining::{Answer, CANCELLED, JOINED, PLACE_OCTETS, WHOLE};
+use second::profile::{self, Component, Profile};
 use second::refusal::{LINE_TOO_LONG, OUTPUT_TOO_SHORT};
 use second::rewrite::{rewrite, Chosen};
 use second::typecode;
 use second::value::{self, Input};
 use second::Header;
 
-use crate::archive::{self, HeaderNumbers};
+use crate::archive::{self, ComponentNumbers, HeaderNumbers, ProfileNumbers};
 use crate::joinings::Recording;
-use crate::lent::{LentChecked, LentHeader, LentItem, LentJoining, LentOutput, LentValue, Noise};
+use crate::lent::{
+    LentChecked, LentHeader, LentItem, LentJoining, LentNumbers, LentOutput, LentValue, Noise,
+};
 use crate::reread;
 use crate::tally::{Held, Section, Tally};
 use crate::types::order_name;
@@ -189,6 +192,33 @@ impl Judge {
         }
     }
 
+    /// Reads a profile body.
+    pub fn profile(&mut self, name: &str, octets: &[u8]) {
+        let mut lent = LentNumbers::new(self.seeds.next());
+        let before = lent;
+        let number = archive::profile(octets, lent.lend());
+        let answer = profile::read(octets).map(|profile| profile_numbers(&profile));
+        let held = hold_numbers(lent, before, answer);
+        self.tally
+            .enter(Section::Profiles, name, octets, number, held);
+    }
+
+    /// Reads a profile body for its component of a number.
+    pub fn component(&mut self, name: &str, octets: &[u8], number: u64) {
+        let mut lent = LentNumbers::new(self.seeds.next());
+        let before = lent;
+        let found = archive::component(octets, number, lent.lend());
+        let answer = profile::component(octets, number).map(component_numbers);
+        let held = hold_numbers(lent, before, answer);
+        if found == held.number && held.memory.is_none() {
+            let section = Section::Components;
+            return self.tally.enter(section, name, octets, found, held);
+        }
+        let name = format!("{name}, component {number}:");
+        self.tally
+            .enter(Section::Components, &name, octets, found, held);
+    }
+
     /// Gives the lines of a recording one after the other.
     pub fn recording(&mut self, name: &str, recording: &Recording) {
         let mut lent = LentJoining::new(&mut self.seeds, &self.noise, &recording.start);
@@ -301,6 +331,22 @@ fn hold_header(lent: &LentHeader, answer: &Result<Header, u32>) -> Held {
     }
 }
 
+/// Holds lent numbers to what they were before and the second program's answer.
+fn hold_numbers<const COUNT: usize>(
+    lent: LentNumbers<COUNT>,
+    before: LentNumbers<COUNT>,
+    answer: Result<[u64; COUNT], u32>,
+) -> Held {
+    let mut expected = before;
+    if let Ok(numbers) = answer {
+        *expected.lend() = numbers;
+    }
+    Held {
+        number: answer.err().unwrap_or(0),
+        memory: lent.unlike(&expected),
+    }
+}
+
 /// The archive's number for decoding a line into the lent output.
 fn call_decode(line: &[u8], lent: &mut LentOutput) -> u32 {
     let (out, count) = lent.lend();
@@ -332,4 +378,26 @@ fn numbers(header: &Header) -> HeaderNumbers {
         header.id.is_some().into(),
         header.id.unwrap_or(0).into(),
     ]
+}
+
+/// A profile as the archive's interface gives it.
+pub fn profile_numbers(profile: &Profile) -> ProfileNumbers {
+    [
+        profile.little.into(),
+        profile.major.into(),
+        profile.minor.into(),
+        profile.host.place as u64,
+        profile.host.octets.len() as u64,
+        profile.port.into(),
+        profile.key.place as u64,
+        profile.key.octets.len() as u64,
+        profile.components.into(),
+        profile.extra as u64,
+    ]
+}
+
+/// A component as the archive's interface gives it.
+pub fn component_numbers(component: Component) -> ComponentNumbers {
+    let Component { tag, run } = component;
+    [tag.into(), run.place as u64, run.octets.len() as u64]
 }

@@ -419,6 +419,41 @@ impl LentItem {
     }
 }
 
+/// Lent numbers, with a number on either side that nobody may touch.
+#[repr(C)]
+#[derive(Clone, Copy, PartialEq, Eq, Debug)]
+pub struct LentNumbers<const COUNT: usize> {
+    before: u64,
+    numbers: [u64; COUNT],
+    after: u64,
+}
+
+impl<const COUNT: usize> LentNumbers<COUNT> {
+    /// All filled with a pattern.
+    pub fn new(seed: u64) -> Self {
+        let number = |index| pattern_number(seed, index as u64);
+        LentNumbers {
+            before: number(0),
+            numbers: std::array::from_fn(|index| number(index + 2)),
+            after: number(1),
+        }
+    }
+
+    /// What is lent.
+    pub fn lend(&mut self) -> &mut [u64; COUNT] {
+        &mut self.numbers
+    }
+
+    /// What is not as in the other.
+    pub fn unlike(&self, other: &Self) -> Option<String> {
+        if [self.before, self.after] != [other.before, other.after] {
+            return Some("a number beside what is lent was touched".into());
+        }
+        (self.numbers != other.numbers)
+            .then(|| format!("numbers {:?}, not {:?}", self.numbers, other.numbers))
+    }
+}
+
 /// The octets without their margins.
 fn within_margins(memory: &mut [u8]) -> &mut [u8] {
     let end = memory.len() - MARGIN;

@@ -2,6 +2,7 @@
 //! over inputs that are the same at every run.
 
 pub mod archive;
+pub mod bodies;
 pub mod draft;
 pub mod fill;
 pub mod fragments;
@@ -18,9 +19,13 @@ pub mod maker;
 pub mod measure;
 pub mod mutations;
 pub mod orb;
+pub mod orb_profiles;
 pub mod orb_rewrites;
 pub mod orb_values;
+pub mod paper;
 pub mod planted;
+pub mod profile_questions;
+pub mod profiles;
 pub mod questions;
 pub mod recordings;
 pub mod reread;

@@ -10,8 +10,8 @@ use std::process::ExitCode;
 
 use compare::judge::Judge;
 use compare::{
-    frames, joinings, lines, orb, orb_rewrites, orb_values, questions, recordings, rewrites, types,
-    values,
+    frames, joinings, lines, orb, orb_profiles, orb_rewrites, orb_values, paper, profiles,
+    questions, recordings, rewrites, types, values,
 };
 
 /// Judges all inputs and writes the tally; succeeds if nothing is wrong.
@@ -29,6 +29,7 @@ fn main() -> ExitCode {
 /// Judges all inputs and writes the tally; says how many things are wrong.
 fn run() -> io::Result<u64> {
     let mut judge = Judge::default();
+    paper::judge(&mut judge);
     lines::judge(&mut judge);
     frames::judge(&mut judge);
     joinings::judge(&mut judge);
@@ -38,6 +39,8 @@ fn run() -> io::Result<u64> {
     orb_values::judge(&mut judge);
     rewrites::judge(&mut judge);
     orb_rewrites::judge(&mut judge);
+    profiles::judge(&mut judge);
+    orb_profiles::judge(&mut judge);
     if let Some(program) = env::args_os().nth(1) {
         recordings::judge(&mut judge, Path::new(&program))?;
     }

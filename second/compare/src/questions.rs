@@ -11,6 +11,7 @@ use crate::layout::Sample;
 use crate::lines::digits_of;
 use crate::mutations::mutated;
 use crate::orb;
+use crate::profile_questions;
 use crate::recordings::run;
 use crate::types::{self, order_name, GENERATORS};
 use crate::value_questions;
@@ -20,6 +21,34 @@ const AT_ONCE: usize = 400;
 
 /// The number from which on a generator's types are taken.
 const FIRST: u64 = 1 << 30;
+
+/// Words that are put into lines.
+const WORDS: [&str; 24] = [
+    "type",
+    "Type",
+    "types",
+    "typ",
+    "value",
+    "item",
+    "rewrite",
+    "profile",
+    "component",
+    "components",
+    "big",
+    "Big",
+    "BIG",
+    "little",
+    "Little",
+    "0",
+    "1",
+    "-",
+    "--",
+    "",
+    "00000003",
+    "0x00000003",
+    "0000000",
+    "é",
+];
 
 /// Gives every question to the program, and holds its answers.
 pub fn judge(judge: &mut Judge, program: &Path) -> io::Result<()> {
@@ -36,17 +65,20 @@ pub fn judge(judge: &mut Judge, program: &Path) -> io::Result<()> {
     shuffle(chance, &mut about_values);
     let mut about_rewriting = value_questions::rewrite_lines(chance);
     shuffle(chance, &mut about_rewriting);
+    let mut about_profiles = profile_questions::lines(chance);
+    shuffle(chance, &mut about_profiles);
     for (name, all) in [
         ("types", &about_types),
         ("values", &about_values),
         ("rewriting", &about_rewriting),
+        ("profiles", &about_profiles),
     ] {
         for lines in all.chunks(AT_ONCE) {
             let text = text_of(chance, lines);
             hold(judge, name, program, &text)?;
         }
     }
-    let mut all = [about_types, about_values, about_rewriting].concat();
+    let mut all = [about_types, about_values, about_rewriting, about_profiles].concat();
     shuffle(chance, &mut all);
     let text = text_of(chance, &all);
     hold(judge, "all", program, &text)
@@ -113,7 +145,7 @@ fn shown(output: &[u8], number: usize) -> String {
 }
 
 /// Texts by hand: every way a line can end.
-fn fixed() -> [&'static str; 27] {
+fn fixed() -> [&'static str; 35] {
     [
         "",
         "\n",
@@ -142,6 +174,14 @@ fn fixed() -> [&'static str; 27] {
         "rewrite big 00000008 big 01 0 big 0 0\n\n",
         "rewrite big 00000008 big 01 0 big 0 1\r\n",
         "rewrite\nbig\n",
+        "profile -",
+        "profile -\n\n",
+        "profile 02\r\n",
+        "profile\n-\n",
+        "profile 000100000000000100EE005000000000\nprofile 000100000000000100EE00500000000000\n",
+        "component - 0",
+        "component 000101000000000100EE0050000000000000000000 0\r\n",
+        "component 000101000000000100EE0050000000000000000100000007000000005A 0\ncomponent FF 9\n",
     ]
 }
 
@@ -214,33 +254,10 @@ pub fn spoilt(chance: &mut Chance, mut line: Vec<u8>) -> Vec<u8> {
 
 /// The line with some of its words left out, put in again, or replaced.
 fn other_words(chance: &mut Chance, line: &[u8]) -> Vec<u8> {
-    let words = [
-        "type",
-        "Type",
-        "types",
-        "typ",
-        "value",
-        "item",
-        "rewrite",
-        "big",
-        "Big",
-        "BIG",
-        "little",
-        "Little",
-        "0",
-        "1",
-        "-",
-        "--",
-        "",
-        "00000003",
-        "0x00000003",
-        "0000000",
-        "é",
-    ];
     let mut parts: Vec<&[u8]> = line.split(|&c| c == b' ').collect();
     for _ in 0..1 + chance.below(2) {
         let place = chance.below(parts.len().max(1));
-        let word = chance.pick(&words).as_bytes();
+        let word = chance.pick(&WORDS).as_bytes();
         match chance.below(4) {
             0 => parts.insert(place, word),
             1 if !parts.is_empty() => drop(parts.remove(place)),
@@ -266,6 +283,9 @@ fn long_lines(chance: &mut Chance) -> Vec<Vec<Vec<u8>>> {
             "item big 00000003 little 00000000 0 ",
             "rewrite big 00000003 big ",
             "rewrite big 00000003 big 00000000 0 little 0 ",
+            "profile ",
+            "component ",
+            "component 000101 ",
             "0",
             "",
         ];

@@ -6,9 +6,9 @@ use std::ops::RangeInclusive;
 
 use second::joining::{CANCELLED, WHOLE};
 use second::refusal::{
-    FRAGMENT_UNALIGNED, HEADER_CUT, ID_OPEN, KIND_BELOW_TOP, LINE_TOO_LONG, NO_ROOM, NO_SUCH_ITEM,
-    OCTETS_TOO_MANY, OUTPUT_TOO_SHORT, RECORD_UNSOUND, RESULT_TOO_LONG, TOO_MANY_OPEN, TYPE_CUT,
-    VALUE_CUT,
+    FRAGMENT_UNALIGNED, HEADER_CUT, ID_OPEN, KIND_BELOW_TOP, LINE_TOO_LONG, NO_ROOM,
+    NO_SUCH_COMPONENT, NO_SUCH_ITEM, OCTETS_AFTER_KEY, OCTETS_TOO_MANY, OUTPUT_TOO_SHORT,
+    PROFILE_CUT, RECORD_UNSOUND, RESULT_TOO_LONG, TOO_MANY_OPEN, TYPE_CUT, VALUE_CUT,
 };
 
 /// How many differences are shown.
@@ -21,11 +21,23 @@ const SHOWN_DIGITS: usize = 200;
 const ENOUGH: u64 = 200_000;
 
 /// The sections of which there must be so many inputs.
-const ENOUGH_OF: [(Section, u64); 4] = [
+const ENOUGH_OF: [(Section, u64); 6] = [
     (Section::Types, 500_000),
     (Section::Values, 500_000),
     (Section::Items, 150_000),
     (Section::Rewrites, 300_000),
+    (Section::Profiles, 300_000),
+    (Section::Components, 300_000),
+];
+
+/// All the refusals that the paper has.
+const REFUSALS: [RangeInclusive<u32>; 6] = [
+    LINE_TOO_LONG..=RECORD_UNSOUND,
+    TYPE_CUT..=KIND_BELOW_TOP,
+    OCTETS_TOO_MANY..=OCTETS_TOO_MANY,
+    NO_SUCH_ITEM..=RESULT_TOO_LONG,
+    PROFILE_CUT..=OCTETS_AFTER_KEY,
+    NO_SUCH_COMPONENT..=NO_SUCH_COMPONENT,
 ];
 
 /// The sections of the paper whose numbers are counted apart.
@@ -43,16 +55,22 @@ pub enum Section {
     Items,
     /// Rewriting.
     Rewrites,
+    /// IIOP profile bodies.
+    Profiles,
+    /// One component of a profile body.
+    Components,
 }
 
 /// All sections.
-const SECTIONS: [Section; 6] = [
+const SECTIONS: [Section; 8] = [
     Section::Lines,
     Section::Joining,
     Section::Types,
     Section::Values,
     Section::Items,
     Section::Rewrites,
+    Section::Profiles,
+    Section::Components,
 ];
 
 /// Numbers of a section, and how often each of them must be given.
@@ -117,6 +135,21 @@ const OF_REWRITES: [Demand; 5] = [
     each(RESULT_TOO_LONG, RESULT_TOO_LONG, 500),
 ];
 
+/// What profile bodies must bring.
+const OF_PROFILES: [Demand; 3] = [
+    each(0, 0, 500),
+    each(OCTETS_TOO_MANY, OCTETS_TOO_MANY, 500),
+    each(PROFILE_CUT, OCTETS_AFTER_KEY, 500),
+];
+
+/// What components must bring.
+const OF_COMPONENTS: [Demand; 4] = [
+    each(0, 0, 500),
+    each(OCTETS_TOO_MANY, OCTETS_TOO_MANY, 500),
+    each(PROFILE_CUT, OCTETS_AFTER_KEY, 500),
+    each(NO_SUCH_COMPONENT, NO_SUCH_COMPONENT, 500),
+];
+
 impl Section {
     /// The section's numbers, each with how often it must be given.
     fn demands(self) -> impl Iterator<Item = (u32, u64)> {
@@ -127,6 +160,8 @@ impl Section {
             Section::Values => &OF_VALUES,
             Section::Items => &OF_ITEMS,
             Section::Rewrites => &OF_REWRITES,
+            Section::Profiles => &OF_PROFILES,
+            Section::Components => &OF_COMPONENTS,
         };
         demands
             .iter()
@@ -143,6 +178,8 @@ impl fmt::Display for Section {
             Section::Values => "values",
             Section::Items => "items",
             Section::Rewrites => "rewrites",
+            Section::Profiles => "profiles",
+            Section::Components => "components",
         })
     }
 }
@@ -203,9 +240,20 @@ impl Tally {
         self.given.get(&(section, number)).copied().unwrap_or(0)
     }
 
-    /// What is said of the numbers that were given too seldom.
+    /// Every refusal of the paper, with how often it was given in all sections.
+    fn refusals(&self) -> impl Iterator<Item = (u32, u64)> + '_ {
+        REFUSALS.into_iter().flatten().map(|number| {
+            let counts = SECTIONS.iter().map(|&section| self.given(section, number));
+            (number, counts.sum())
+        })
+    }
+
+    /// What is said of the numbers that were given too seldom, or never.
     fn seldom(&self) -> Vec<String> {
-        let mut seldom = Vec::new();
+        let never = self.refusals().filter(|&(_, count)| count == 0);
+        let mut seldom: Vec<String> = never
+            .map(|(number, _)| format!("never: {number}"))
+            .collect();
         for section in SECTIONS {
             for (number, often) in section.demands() {
                 let count = self.given(section, number);
@@ -252,6 +300,10 @@ impl fmt::Display for Tally {
             writeln!(formatter, "{section} judged {judged}, at least {enough}")?;
         }
         writeln!(formatter, "total {}, at least {ENOUGH}", self.total())?;
+        writeln!(formatter, "all sections: number count")?;
+        for (number, count) in self.refusals() {
+            writeln!(formatter, "{number} {count}")?;
+        }
         for line in self.shown.iter().chain(&self.seldom()) {
             writeln!(formatter, "{line}")?;
         }

@@ -27,7 +27,7 @@ const ONE_REWRITTEN_IN: u64 = 20;
 const START_AT: usize = 5;
 
 /// Words that are no number, and no order.
-const NO_NUMBERS: [&str; 16] = [
+pub const NO_NUMBERS: [&str; 16] = [
     "",
     "-",
     "-1",
@@ -168,7 +168,7 @@ fn value_words(chance: &mut Chance, question: &Question) -> Vec<u8> {
 
 /// A number in decimal digits, sometimes with zeros before it, sometimes another
 /// one.
-fn spelt(chance: &mut Chance, number: usize) -> String {
+pub fn spelt(chance: &mut Chance, number: usize) -> String {
     match chance.below(12) {
         0 => format!("{}{number}", "0".repeat(chance.below(24))),
         1 => chance.pick(&TELLING).to_owned(),

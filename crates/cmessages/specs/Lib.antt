@@ -1,0 +1,2 @@
+-- The C interface about lines and messages.
+pub mod Answers

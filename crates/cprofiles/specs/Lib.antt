@@ -1,0 +1,2 @@
+-- The C interface about profile bodies.
+pub mod Answers

@@ -1,0 +1,46 @@
+-- An item of a value by its number.
+use borrow.Author.Needs.{needs}
+use Rattle.cvalues.proofs.haulspar_item.Statement.{statement}
+use Rattle.cvalues.proofs.haulspar_item.Tie as tie
+use Rattle.cvalues.proofs.Values.{picks-given, picks-refused}
+
+order-is-requires : tie.Need-order-is-requires
+order-is-requires c κs = search needs
+
+order-is-requires-2 : tie.Need-order-is-requires-2
+order-is-requires-2 c κs = search needs
+
+read-item-requires : tie.Need-read-item-requires
+read-item-requires c κs = search needs
+
+enum-known-answer : tie.Need-enum-known-answer
+enum-known-answer c = search needs
+
+case-requires : tie.Need-case-requires
+case-requires c κs = search needs
+
+bits-requires : tie.Need-bits-requires
+bits-requires c κs = search needs
+
+enum-known-answer-2 : tie.Need-enum-known-answer-2
+enum-known-answer-2 c = search needs
+
+returns : tie.Need-returns
+returns c = picks-given (c .before .before .before .before .before .before .before .before .before .before .before .args .t .now) (c .before .before .before .before .before .before .before .before .before .before .before .args .little) (c .before .before .before .before .before .before .before .before .before .before .before .args .v .now) (c .before .before .before .before .before .before .before .before .before .before .before .args .order) (c .before .before .before .before .before .before .before .before .before .before .before .args .start) _ _ (c .before .before .before .before .before .before .before .before .order-is .ensures) (c .before .before .before .before .before .before .before .order-is2 .ensures) (c .before .before .before .before .before .before .before .before .before .before .before .args .number) (c .before .before .before .before .before .before .before .before .before .before .before .args .given .now) _ (c .before .before .before .before .before .before .read-item .ensures) _ _ _ (c .before .before .before .before .answer .given .1) (c .before .before .case .ensures) (c .before .bits .ensures)
+
+returns-2 : tie.Need-returns-2
+returns-2 c = picks-refused (c .before .before .before .before .before .before .before .before .args .t .now) (c .before .before .before .before .before .before .before .before .args .little) (c .before .before .before .before .before .before .before .before .args .v .now) (c .before .before .before .before .before .before .before .before .args .order) (c .before .before .before .before .before .before .before .before .args .start) _ _ (c .before .before .before .before .before .order-is .ensures) (c .before .before .before .before .order-is2 .ensures) (c .before .before .before .before .before .before .before .before .args .number) (c .before .before .before .before .before .before .before .before .args .given .now) _ (c .before .before .before .read-item .ensures) _ (c .before .answer2 .given .1)
+
+pub haulspar-item-spec : {M : Type 1} → statement M
+haulspar-item-spec =
+    tie.close
+    (tie.spec
+    order-is-requires
+    order-is-requires-2
+    read-item-requires
+    enum-known-answer
+    case-requires
+    bits-requires
+    enum-known-answer-2
+    returns
+    returns-2)

@@ -1,0 +1,41 @@
+-- A value where no order is named.
+use borrow.Author.Needs.{needs}
+use Rattle.cvalues.proofs.haulspar_rewrite_unnamed.Statement.{statement}
+use Rattle.cvalues.proofs.haulspar_rewrite_unnamed.Tie as tie
+use mathlib.Core.Path.{refl}
+use Rattle.cdr.specs.Align.{indexOf}
+use Rattle.written.specs.Written.{target, unnamedOrder}
+use Rattle.cvalues.proofs.Values.{rewrites-as}
+
+order-is-requires : tie.Need-order-is-requires
+order-is-requires c κs = search needs
+
+order-is-requires-2 : tie.Need-order-is-requires-2
+order-is-requires-2 c κs = search needs
+
+rewrite-unnamed-requires : tie.Need-rewrite-unnamed-requires
+rewrite-unnamed-requires c κs = search needs
+
+rewritten-count-requires : tie.Need-rewritten-count-requires
+rewritten-count-requires c κs = search needs
+
+rewritten-number-requires : tie.Need-rewritten-number-requires
+rewritten-number-requires c κs = search needs
+
+same-length : tie.Need-same-length
+same-length c = search needs
+
+returns : tie.Need-returns
+returns c = rewrites-as (c .before .before .before .before .before .before .before .before .before .before .before .before .args .t .now) (c .before .before .before .before .before .before .before .before .before .before .before .before .args .little) (c .before .before .before .before .before .before .before .before .before .before .before .before .args .v .now) (c .before .before .before .before .before .before .before .before .before .before .before .before .args .order) (c .before .before .before .before .before .before .before .before .before .before .before .before .args .start) _ _ (c .before .before .before .before .before .before .before .before .order-is .ensures) (c .before .before .before .before .before .before .before .order-is2 .ensures) _ (target unnamedOrder (indexOf (c .before .before .before .before .before .before .before .before .before .before .before .before .args .index))) refl (c .before .before .before .before .before .before .before .before .before .before .before .before .args .out .now) (c .before .before .before .before .before .before .before .before .before .before .before .before .args .count .now) _ _ (c .before .before .before .before .before .rewrite-unnamed .ensures) _ _ (c .before .rewritten-count .ensures) (c .rewritten-number .ensures)
+
+pub haulspar-rewrite-unnamed-spec : {M : Type 1} → statement M
+haulspar-rewrite-unnamed-spec =
+    tie.close
+    (tie.spec
+    order-is-requires
+    order-is-requires-2
+    rewrite-unnamed-requires
+    rewritten-count-requires
+    rewritten-number-requires
+    same-length
+    returns)

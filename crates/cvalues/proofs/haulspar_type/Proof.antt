@@ -1,0 +1,49 @@
+-- A TypeCode checked: 0, or 30 to 40, or 42. Of an accepted one `numbers` gets the octets used and the kinds written; `places`, `starts`
+-- and `orders` get what is met of each kind, 0 past the last.
+use borrow.Author.Needs.{needs}
+use Rattle.cvalues.proofs.haulspar_type.Statement.{statement}
+use Rattle.cvalues.proofs.haulspar_type.Tie as tie
+use mathlib.Core.Path.{_∙_, ap}
+use Rattle.typecode.specs.TypeCode.{checkedType}
+use Rattle.cvalues.proofs.Types.{checks-accepted, checks-refused, checks-loop}
+
+order-is-requires : tie.Need-order-is-requires
+order-is-requires c κs = search needs
+
+check-type-requires : tie.Need-check-type-requires
+check-type-requires c κs = search needs
+
+enum-known-answer : tie.Need-enum-known-answer
+enum-known-answer c = search needs
+
+enum-known-answer-2 : tie.Need-enum-known-answer-2
+enum-known-answer-2 c = search needs
+
+number-requires : tie.Need-number-requires
+number-requires c κs = search needs
+
+enum-told : tie.Need-enum-told
+enum-told c = search needs
+
+returns : tie.Need-returns
+returns c = checks-accepted (c .before .before .before .before .before .before .before .before .before .before .before .args .octets .now) (c .before .before .before .before .before .before .before .before .before .before .before .args .little) _ _ _ _ (c .before .before .before .before .before .before .before .before .check-type .result) (c .before .before .before .before .before .before .before .before .check-type .ensures ∙ ap (checkedType (c .before .before .before .before .before .before .before .before .before .before .before .args .octets .now)) (c .before .before .before .before .before .before .before .before .before .order-is .ensures)) _ _ (c .before .before .answer .given .1)
+
+returns-2 : tie.Need-returns-2
+returns-2 c = checks-refused (c .before .before .before .before .before .before .before .before .before .before .before .args .octets .now) (c .before .before .before .before .before .before .before .before .before .before .before .args .little) _ _ _ _ (c .before .before .before .before .before .before .before .before .check-type .result) (c .before .before .before .before .before .before .before .before .check-type .ensures ∙ ap (checkedType (c .before .before .before .before .before .before .before .before .before .before .before .args .octets .now)) (c .before .before .before .before .before .before .before .before .before .order-is .ensures)) _ (c .before .before .answer2 .given .1) _ (c .number .ensures)
+
+returns-3 : tie.Need-returns-3
+returns-3 c = checks-loop (c .before .before .before .before .before .before .before .before .before .args .octets .now) (c .before .before .before .before .before .before .before .before .before .args .little) _ _ _ _ (c .before .before .before .before .before .before .check-type .result) (c .before .before .before .before .before .before .check-type .ensures ∙ ap (checkedType (c .before .before .before .before .before .before .before .before .before .args .octets .now)) (c .before .before .before .before .before .before .before .order-is .ensures)) (c .enum-told .given .1)
+
+pub haulspar-type-spec : {M : Type 1} → statement M
+haulspar-type-spec =
+    tie.close
+    (tie.spec
+    order-is-requires
+    check-type-requires
+    enum-known-answer
+    enum-known-answer-2
+    number-requires
+    enum-told
+    returns
+    returns-2
+    returns-3)

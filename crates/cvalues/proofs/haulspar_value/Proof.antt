@@ -1,0 +1,46 @@
+-- A value read into the table.
+use borrow.Author.Needs.{needs}
+use Rattle.cvalues.proofs.haulspar_value.Statement.{statement}
+use Rattle.cvalues.proofs.haulspar_value.Tie as tie
+use Rattle.cvalues.proofs.Values.{reads-as}
+
+order-is-requires : tie.Need-order-is-requires
+order-is-requires c κs = search needs
+
+order-is-requires-2 : tie.Need-order-is-requires-2
+order-is-requires-2 c κs = search needs
+
+read-value-requires : tie.Need-read-value-requires
+read-value-requires c κs = search needs
+
+enum-known-answer : tie.Need-enum-known-answer
+enum-known-answer c = search needs
+
+enum-known-answer-2 : tie.Need-enum-known-answer-2
+enum-known-answer-2 c = search needs
+
+same-length : tie.Need-same-length
+same-length c = search needs
+
+returns : tie.Need-returns
+returns c = reads-as (c .before .before .before .before .before .before .before .before .before .before .before .before .before .args .t .now) (c .before .before .before .before .before .before .before .before .before .before .before .before .before .args .little) (c .before .before .before .before .before .before .before .before .before .before .before .before .before .args .v .now) (c .before .before .before .before .before .before .before .before .before .before .before .before .before .args .order) (c .before .before .before .before .before .before .before .before .before .before .before .before .before .args .start) _ _ (c .before .before .before .before .before .before .before .before .before .order-is .ensures) (c .before .before .before .before .before .before .before .before .order-is2 .ensures) (c .before .before .before .before .before .before .before .before .before .before .before .before .before .args .table .now) (c .before .before .before .before .before .before .before .before .before .before .before .before .before .args .numbers .now) _ _ (c .before .before .before .before .before .before .read-value .ensures) _ (c .before .before .answer .given .1)
+
+same-length-2 : tie.Need-same-length-2
+same-length-2 c = search needs
+
+returns-2 : tie.Need-returns-2
+returns-2 c = reads-as (c .before .before .before .before .before .before .before .before .before .before .before .before .args .t .now) (c .before .before .before .before .before .before .before .before .before .before .before .before .args .little) (c .before .before .before .before .before .before .before .before .before .before .before .before .args .v .now) (c .before .before .before .before .before .before .before .before .before .before .before .before .args .order) (c .before .before .before .before .before .before .before .before .before .before .before .before .args .start) _ _ (c .before .before .before .before .before .before .before .before .order-is .ensures) (c .before .before .before .before .before .before .before .order-is2 .ensures) (c .before .before .before .before .before .before .before .before .before .before .before .before .args .table .now) (c .before .before .before .before .before .before .before .before .before .before .before .before .args .numbers .now) _ _ (c .before .before .before .before .before .read-value .ensures) _ (c .before .answer2 .given .1)
+
+pub haulspar-value-spec : {M : Type 1} → statement M
+haulspar-value-spec =
+    tie.close
+    (tie.spec
+    order-is-requires
+    order-is-requires-2
+    read-value-requires
+    enum-known-answer
+    enum-known-answer-2
+    same-length
+    returns
+    same-length-2
+    returns-2)
