@@ -1,3 +1,4 @@
 -- The IIOP profile body.
 pub mod List
 pub mod Profile
+pub mod Told

@@ -3,3 +3,4 @@ pub mod Samples
 pub mod Slips
 pub mod Readings
 pub mod Rewritings
+pub mod Profiles

@@ -42,6 +42,7 @@ use Rattle.reading.specs.Visit.{inside, sizeOf, contentOf, leafDone, leafAt, te
 use Rattle.reading.specs.Reading.{reads, reading}
 use Rattle.reading.specs.Value.{roomIn, answerNumbers as valueNumbers, readingOf, valueAnswer, flat, tableAfter}
 use Rattle.written.specs.Written.{Target, target, wrote, writes}
+use Rattle.profile.specs.Profile.{profileNumbers, profileOf, componentNumbers, componentOf}
 use Rattle.written.specs.Rewriting.{rewriteNumbers, rewriteOf, rewriteAnswer, outputAfter}
 
 abbrev pub paper : ℕ → ℕ → List ℕ
@@ -53,11 +54,16 @@ paper n digits = octetsOf Big n digits
 -- visits, and all that the table then holds: kind, place and content of each item, and what was there behind them
 -- `rewrite`: a lent output, the chosen order and index, the octets of a TypeCode, big-endian, and a value; the number, then octets written,
 -- and all that the output then holds
+-- `profile`: the octets of a profile body; the number, then order octet, major, minor, the host's place and length, port, the key's place and
+-- length, components and extra
+-- `component`: the octets of a profile body, and a number; the number, then tag, and place and length of the component's octets
 pub data Question : Type 0 where
   frame : List ℕ → Question
   type : Order → List ℕ → Question
   value : List ℕ → List ℕ → List ℕ → Question
   rewrite : List ℕ → Target → List ℕ → Source → Question
+  profile : List ℕ → Question
+  component : List ℕ → ℕ → Question
 
 abbrev pub fromStart : List ℕ → Source
 fromStart x = source x Big (indexOf 0)
@@ -70,6 +76,8 @@ answer (frame v) = frameNumbers (frameOf v)
 answer (type order v) = answerNumbers (checkedType v order .answer)
 answer (value table v x) = valueNumbers (valueAnswer v Big (fromStart x) (roomIn table)) ++ tableAfter v Big (fromStart x) table
 answer (rewrite out to v x) = rewriteNumbers (rewriteAnswer v Big x to (length out)) ++ outputAfter v Big x to out
+answer (profile v) = profileNumbers (profileOf v)
+answer (component v number) = componentNumbers (componentOf v number)
 
 pub record Sample : Type 0 where
   pub asked : Question

@@ -5,6 +5,7 @@ use Rattle.profile.proofs.list.list_from.Tie as tie
 use mathlib.Core.Path.{sym, _∙_}
 use Rattle.profile.proofs.Stages.{list-is}
 use Rattle.profile.proofs.Skips.{skip-inside}
+use native.Mathlib.Omega.{arith}
 
 skip-from-requires : tie.Need-skip-from-requires
 skip-from-requires c κs = search needs
@@ -13,7 +14,7 @@ enum-known-end : tie.Need-enum-known-end
 enum-known-end c = search needs
 
 sub-t10 : tie.Need-sub-t10
-sub-t10 c = skip-inside (c .before .before .before .before .before .before .args .s .now) (c .before .before .before .before .before .before .args .order) (c .before .before .before .before .before .before .args .count) (c .before .before .before .before .before .before .args .first) _ (c .before .before .before .before .before .before .pre) (sym (c .before .before .before .before .skip-from .ensures) ∙ c .before .before .end .given .1)
+sub-t10 c = let f = skip-inside (c .before .before .before .before .before .before .args .s .now) (c .before .before .before .before .before .before .args .order) (c .before .before .before .before .before .before .args .count) (c .before .before .before .before .before .before .args .first) _ (c .before .before .before .before .before .before .pre) (sym (c .before .before .before .before .skip-from .ensures) ∙ c .before .before .end .given .1) in omega (arith, f, c .before .before .before .before .before .before .pre)
 
 enum-known-refusal : tie.Need-enum-known-refusal
 enum-known-refusal c = search needs
