@@ -1,4 +1,5 @@
 -- CDR: alignment, byte orders and numbers.
+pub mod Limit
 pub mod Align
 pub mod Orders
 pub mod Number

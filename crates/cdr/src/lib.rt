@@ -7,6 +7,9 @@ ghost use Rattle.cdr.specs.Number.{readOf, signExtended};
 
 mod load;
 
+// The most octets of a TypeCode, a value or a profile body.
+pub const OCTETS_LIMIT: usize = 16384;
+
 // A byte order.
 pub enum Order {
     Big,

@@ -23,7 +23,6 @@
 --   kindAt            an indirection, or a kind that may stand there
 --   enterAt           a kind of a form with so many levels left; with none left no kind may stand there
 --   typeAt            a TypeCode with so many levels left
---   octetsLimit       the most octets
 --   walkedOf          the check of octets as a TypeCode: "42 over 16,384 octets (before all else)"
 use Prim.Native.Nat.{ℕ, zero, suc, _+_, _-_}
 use mathlib.Core.List.{List}
@@ -31,6 +30,7 @@ use mathlib.Core.Bool.{false, cond}
 use lib.Dec.{ltb, eqb}
 use lib.ListN.{length, getD, take, drop}
 use Rattle.choices.specs.Branch.{choose}
+use Rattle.cdr.specs.Limit.{octetsLimit}
 use Rattle.cdr.specs.declared.Index.{Index}
 use Rattle.cdr.specs.declared.Place.{Place}
 use Rattle.cdr.specs.declared.Order.{Order}
@@ -160,9 +160,6 @@ enterAt v (suc left) form s b order next w = enteredAt v (kindAt left (enterAt v
 
 unfoldable pub typeAt : List ℕ → ℕ → Checker
 typeAt v left = kindAt left (enterAt v left)
-
-abbrev pub octetsLimit : ℕ
-octetsLimit = 16384
 
 unfoldable pub walkedOf : List ℕ → Order → Walked
 walkedOf v order =

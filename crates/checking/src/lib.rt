@@ -34,15 +34,12 @@ pub struct Walked {
     pub walk: Walk,
 }
 
-// The most octets.
-const OCTETS_LIMIT: usize = 16384;
-
 // Checks octets as a TypeCode in a byte order: where it ends or why it is refused, 42 and 30 to 38 and 40, and the kinds met.
 pub fn walk_type(v: &[u8], order: Order) -> Walked
     ensures { λ r. ⌜ r ≡ walkedOf (now (v .entry)) order ⌝ }
 {
     let walk = walks::nothing_met();
-    if OCTETS_LIMIT < v.len() {
+    if cdr::OCTETS_LIMIT < v.len() {
         return walks::refused(Refusal::TooLong, walk);
     }
     check(v, v, Place(0), order, Index::START, fields::NESTING, walk)

@@ -7,8 +7,8 @@ use profile::Extent;
 use profile::Profile;
 use profile::ProfileAnswer;
 
-// A profile body read: 0, or 42, or 60 to 64. `numbers` gets order octet, major, minor, the host's place and length without its zero, port,
-// the key's place and length, number of components, octets after them.
+// A profile body read: 0, or 42, or 60 to 64. `numbers` gets order octet, major, minor, the index of the host's first octet and its
+// length without its zero, port, the index of the key's first octet and its length, number of components, octets after them.
 #[no_mangle]
 pub extern "C" fn haulspar_profile(octets: &[u8], numbers: &mut [u64; 10]) -> u32
     ensures { λ r. ⌜ ReadsC (now (octets .entry)) (now (numbers .entry)) r (now (numbers .exit)) ⌝ }
@@ -45,8 +45,8 @@ fn profile_row(p: Profile) -> [u64; 10]
     ]
 }
 
-// A component of a profile body by its number, the first one 0: 0, or 42, 60 to 64, or 69. `found` gets its tag, and the place and length
-// of its octets.
+// A component of a profile body by its number, the first one 0: 0, or 42, 60 to 64, or 69. `found` gets its tag, the index of
+// its octets' first one, and their length.
 #[no_mangle]
 pub extern "C" fn haulspar_component(octets: &[u8], number: u64, found: &mut [u64; 3]) -> u32
     ensures { λ r. ⌜ FindsC (now (octets .entry)) number (now (found .entry)) r (now (found .exit)) ⌝ }

@@ -31,7 +31,7 @@ use Rattle.parts.specs.declared.VersionPart.the-variants.{Version, Refus
 use Rattle.parts.specs.declared.ComponentPart.the-variants.{Component, Refused as noComponent}
 use Rattle.parts.specs.declared.OctetsPart.the-variants.{Span}
 use Rattle.parts.specs.declared.NumberPart.the-variants.{Number}
-use Rattle.parts.specs.Parts.{orderAt, orderFrom, orderNamed, minorAt, minorFrom, versionAt, majorFrom, hostAt, hostFrom, numberAt, numberFrom, keyAt, keyFrom, componentAt, tagFrom, taggedFrom}
+use Rattle.parts.specs.Parts.{orderAt, orderFrom, orderNamed, minorAt, minorFrom, versionAt, majorFrom, hostAt, hostFrom, numberPartAt, numberFrom, keyAt, keyFrom, componentAt, tagFrom, taggedFrom}
 use Rattle.encapsulation.proofs.Fields.{field-facts}
 use Rattle.encapsulation.proofs.Found.{string-facts, counted-facts}
 
@@ -68,8 +68,8 @@ module _ (v : List ℕ) (i : Index) (order : Order) where
   unfolding hostAt
   host-is s e = ap hostFrom e
 
-  pub number-is : (size : Size) (f : Field) → fieldOf v i size order ≡ f → numberAt v i size order ≡ numberFrom f
-  unfolding numberAt
+  pub number-is : (size : Size) (f : Field) → fieldOf v i size order ≡ f → numberPartAt v i size order ≡ numberFrom f
+  unfolding numberPartAt
   number-is size f e = ap numberFrom e
 
   pub key-is : (c : Counted) → countedOf v i order ≡ c → keyAt v i order ≡ keyFrom c
@@ -147,6 +147,6 @@ module _ (v : List ℕ) (i : Index) (order : Order) where
       subst (λ (j : Index). j .0 ≤ length v) a (field-facts v i size order y next e .fits)
   number-inside-by size NoField e x after q = clash cc
 
-  pub number-inside : (size : Size) (x : ℕ) (after : Index) → numberAt v i size order ≡ Number x after → after .0 ≤ length v
-  unfolding numberAt
+  pub number-inside : (size : Size) (x : ℕ) (after : Index) → numberPartAt v i size order ≡ Number x after → after .0 ≤ length v
+  unfolding numberPartAt
   number-inside size x after q = number-inside-by size (fieldOf v i size order) refl x after q

@@ -1,16 +1,28 @@
 -- "An encapsulation: order octet, major, minor, host string, port, key; from minor 1 a list of components (tag, octets)." Each part is read
--- at an index of the body's octets v, its own index 0 first, and tells the index after it.
---   refusalNumber     the paper's number of a refusal
---   orderAt           the order octet: 60 where it is not there, 61 "order octet above 1"
---   minorAt           the minor: 60, 62
---   versionAt         the version: 60, 62 "not 1.0 to 1.2 (major tested before minor is read)", then the minor
---   hostAt            the host: 60, 63 "host as 32"; `from` and `length` tell it "without its zero"
---   portAt            the port, an unsigned short
---   keyAt             the key: its octets behind their count
---   countAt           the number of components, an unsigned long
---   componentAt       a component: its tag, an unsigned long, then its octets behind their count
+-- at an index of the body's octets v, its own index 0 first, and tells the index after it; each gives 60 where its octets end.
+--   refusalNumber       01's number of a refusal
+--   orderNumbers, versionNumbers, octetsNumbers, numberNumbers, componentNumbers
+--                       01's number of an answer about a part, 0 for one that was read, and its values: all that it tells, or 0
+--   orderNamed          the order that an octet names, or 61 "order octet above 1"
+--   orderFrom           what the order octet gives, if it is there
+--   orderAt             the order octet
+--   minorFrom           what the minor gives, if it is there: 62 "not 1.0 to 1.2"
+--   minorAt             the minor, behind a major that exists
+--   majorFrom           what the major gives, if it is there: 62, "major tested before minor is read"
+--   versionAt           the version
+--   hostFrom            what a string gives as a host: 63 "host as 32"; `from` and `length` tell it "without its zero"
+--   hostAt              the host
+--   numberFrom          what a field gives as a number
+--   numberPartAt        a number of a size
+--   portAt              the port, an unsigned short
+--   keyFrom             what counted octets give as a key
+--   keyAt               the key: its octets behind their count
+--   countAt             the number of components, an unsigned long
+--   taggedFrom          a component by its tag and what stands behind it
+--   tagFrom             what a field gives as a tag, then the octets behind their count
+--   componentAt         a component: its tag, an unsigned long, then its octets
 use Prim.Native.Nat.{ℕ, _+_}
-use mathlib.Core.List.{List}
+use mathlib.Core.List.{List, [], _∷_}
 use mathlib.Core.Bool.{cond}
 use lib.ListN.{getD}
 use Rattle.cdr.specs.declared.Index.{Index}
@@ -41,7 +53,7 @@ use Rattle.parts.specs.declared.ComponentPart.{ComponentPart}
 use Rattle.parts.specs.declared.ComponentPart.the-variants.{Component, Refused as noComponent}
 use Rattle.version.specs.Versions.{majorExists, minorExists}
 use Rattle.cdr.specs.Align.{indexOf}
-use Rattle.cdr.specs.Orders.{orderOf}
+use Rattle.cdr.specs.Orders.{orderOctet, orderOf}
 use Rattle.texts.specs.Text.{runOf}
 use Rattle.encapsulation.specs.Encapsulation.{fieldOf, stringOf, countedOf}
 
@@ -53,6 +65,26 @@ refusalNumber NoSuchVersion = 62
 refusalNumber BadHost = 63
 refusalNumber AfterKey = 64
 refusalNumber NoSuchComponent = 69
+
+abbrev pub orderNumbers : OrderPart → List ℕ
+orderNumbers (InOrder order next) = 0 ∷ orderOctet order ∷ next .0 ∷ []
+orderNumbers (noOrder r) = refusalNumber r ∷ 0 ∷ 0 ∷ []
+
+abbrev pub versionNumbers : VersionPart → List ℕ
+versionNumbers (Version major minor next) = 0 ∷ major ∷ minor ∷ next .0 ∷ []
+versionNumbers (noVersion r) = refusalNumber r ∷ 0 ∷ 0 ∷ 0 ∷ []
+
+abbrev pub octetsNumbers : OctetsPart → List ℕ
+octetsNumbers (Span from n next) = 0 ∷ from .0 ∷ n ∷ next .0 ∷ []
+octetsNumbers (noSpan r) = refusalNumber r ∷ 0 ∷ 0 ∷ 0 ∷ []
+
+abbrev pub numberNumbers : NumberPart → List ℕ
+numberNumbers (Number x next) = 0 ∷ x ∷ next .0 ∷ []
+numberNumbers (noNumber r) = refusalNumber r ∷ 0 ∷ 0 ∷ []
+
+abbrev pub componentNumbers : ComponentPart → List ℕ
+componentNumbers (Component tag from n next) = 0 ∷ tag ∷ from .0 ∷ n ∷ next .0 ∷ []
+componentNumbers (noComponent r) = refusalNumber r ∷ 0 ∷ 0 ∷ 0 ∷ 0 ∷ []
 
 abbrev pub orderNamed : Named → Index → OrderPart
 orderNamed (Is order) next = InOrder order next
@@ -91,11 +123,11 @@ abbrev pub numberFrom : Field → NumberPart
 numberFrom (Value x next) = Number x next
 numberFrom NoField = noNumber Ends
 
-unfoldable pub numberAt : List ℕ → Index → Size → Order → NumberPart
-numberAt v i size order = numberFrom (fieldOf v i size order)
+unfoldable pub numberPartAt : List ℕ → Index → Size → Order → NumberPart
+numberPartAt v i size order = numberFrom (fieldOf v i size order)
 
 abbrev pub portAt : List ℕ → Index → Order → NumberPart
-portAt v i order = numberAt v i Two order
+portAt v i order = numberPartAt v i Two order
 
 abbrev pub keyFrom : Counted → OctetsPart
 keyFrom (Octets from n) = Span from n (indexOf (from .0 + n))
@@ -105,7 +137,7 @@ unfoldable pub keyAt : List ℕ → Index → Order → OctetsPart
 keyAt v i order = keyFrom (countedOf v i order)
 
 abbrev pub countAt : List ℕ → Index → Order → NumberPart
-countAt v i order = numberAt v i Four order
+countAt v i order = numberPartAt v i Four order
 
 abbrev pub taggedFrom : ℕ → Counted → ComponentPart
 taggedFrom tag (Octets from n) = Component tag from n (indexOf (from .0 + n))

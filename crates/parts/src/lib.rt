@@ -1,6 +1,6 @@
 // The parts of an IIOP profile body, an encapsulation: each is read where it stands. Every function answers for any octets and index.
 ghost use mathlib.Core.Path.{_≡_};
-ghost use Rattle.parts.specs.Parts.{refusalNumber, orderAt, minorAt, versionAt, hostAt, numberAt, portAt, keyAt, countAt, componentAt};
+ghost use Rattle.parts.specs.Parts.{refusalNumber, orderAt, minorAt, versionAt, hostAt, numberPartAt, portAt, keyAt, countAt, componentAt};
 use cdr::Index;
 use cdr::Named;
 use cdr::Order;
@@ -22,7 +22,7 @@ pub enum Refusal {
 }
 
 impl Refusal {
-    // The paper's number.
+    // 01's number.
     pub fn number(self) -> u32
         ensures { λ r. ⌜ r ≡ refusalNumber self ⌝ }
     {
@@ -30,7 +30,7 @@ impl Refusal {
             Refusal::TooLong => refusals::TOO_LONG,
             Refusal::Ends => refusals::PROFILE_ENDS,
             Refusal::NoSuchOrder => refusals::NO_SUCH_ORDER,
-            Refusal::NoSuchVersion => refusals::NO_SUCH_PROFILE,
+            Refusal::NoSuchVersion => refusals::NO_SUCH_PROFILE_VERSION,
             Refusal::BadHost => refusals::BAD_HOST,
             Refusal::AfterKey => refusals::AFTER_KEY,
             Refusal::NoSuchComponent => refusals::NO_SUCH_COMPONENT,
@@ -175,7 +175,7 @@ pub fn count_at(s: &[u8], at: Index, order: Order) -> NumberPart
 
 // A number of a size, at an index.
 fn number_at(s: &[u8], at: Index, size: Size, order: Order) -> NumberPart
-    ensures { λ r. ⌜ r ≡ numberAt (now (s .entry)) at size order ⌝ }
+    ensures { λ r. ⌜ r ≡ numberPartAt (now (s .entry)) at size order ⌝ }
 {
     match encapsulation::read_field(s, at, size, order) {
         Field::Value { value, next } => NumberPart::Number { value, next },

@@ -2,4 +2,4 @@
 pub mod Skips
 pub mod Stages
 pub mod Extents
-pub mod Told
+pub mod Within

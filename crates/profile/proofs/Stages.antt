@@ -29,7 +29,8 @@ use Rattle.profile.specs.declared.ProfileAnswer.the-variants.{Read, Refu
 use Rattle.profile.specs.declared.ComponentAnswer.{ComponentAnswer}
 use Rattle.profile.specs.declared.ComponentAnswer.the-variants.{Refused as notFound}
 use Rattle.profile.specs.List.{skipFrom, listed, listFrom, onCount, countedList, listAt, componentAfter, componentFrom}
-use Rattle.profile.specs.Profile.{onOrder, onVersion, onOctets, onNumber, onList, listThen, keyThen, portThen, hostThen, versionThen, profileOf, hostIn, hostOctets, keyIn, keyOctets, foundFrom, componentThen, componentIn, componentOf, foundOctets, componentOctets}
+use Rattle.profile.specs.Profile.{onOrder, onVersion, onOctets, onNumber, onList, profileOf, hostIn, hostOctets, keyIn, keyOctets, foundFrom, componentThen, componentIn, componentOf, foundOctets, componentOctets}
+use Rattle.profile.specs.Inner.{listThen, keyThen, portThen, hostThen, versionThen}
 
 module _ (v : List ℕ) (order : Order) where
   pub list-is : (first : Index) (count : ℕ) (s : Skip) → skipFrom v order count first ≡ s → listFrom v first count order ≡ listed v count first s
@@ -90,7 +91,7 @@ module _ (v : List ℕ) where
   profile-too-long h = rw (lt-ltb 16384 (length v) h)
 
   pub profile-is : length v ≤ 16384 → (p : OrderPart) → orderAt v start ≡ p → profileOf v ≡ onOrder p (λ order next. versionThen v order next)
-  unfolding profileOf choose
+  unfolding profileOf choose versionThen hostThen portThen keyThen listThen
   profile-is h p e = rw (le-ltb 16384 (length v) h, e)
 
   pub host-octets-are : (a : ProfileAnswer) → profileOf v ≡ a → hostOctets v ≡ hostIn v a

@@ -1,4 +1,5 @@
 -- The IIOP profile body.
 pub mod List
 pub mod Profile
-pub mod Told
+pub mod Inner
+pub mod Within

@@ -1,10 +1,12 @@
 -- The components of a profile body: "from minor 1 a list of components (tag, octets)"; v are the body's octets.
---   onComponent      what follows a component
+--   onComponent      what follows a component, or its refusal
 --   skipFrom         the index after n components
---   componentsFrom   n components, and how many octets stand after them, which "are counted and given as extra"
---   listFrom         so many components from their first one's index on
+--   listed           components that end at an index, and how many octets stand after it, which "are counted and given as extra"
+--   listFrom         so many components from the first one's index on
+--   onCount          what follows the count, or its refusal
 --   countedList      the count, then so many components
 --   listAt           what stands after the key: 64 "octets after the key in 1.0", else the count and the components
+--   componentAfter   the component at the index after those that were skipped
 --   componentFrom    the component after n others
 use Prim.Native.Nat.{ℕ, zero, suc, _-_}
 use mathlib.Core.List.{List}

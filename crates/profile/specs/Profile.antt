@@ -1,26 +1,28 @@
 -- The IIOP profile body: "42 over 16,384 octets, then in octet order" the refusals of the parts; v are the body's octets.
---   profileNumber      the paper's number of an answer, 0 for a body that was read
---   componentNumber    the paper's number of an answer about a component
---   profileRow         what a body says, as numbers: order octet, major, minor, the host's place and length, port, the key's place and length,
---                      components, extra
---   profileNumbers     the number of an answer, then the row; "a refusal's other numbers are 0"
---   componentRow       a component as numbers: tag, place and length of its octets
---   componentNumbers   the number of an answer, then the row, 0 for a refusal
+--   profileNumber      01's number of an answer, 0 for a body that was read
+--   profileRow         what a body says, as numbers: order octet, major, minor, the index of the host's first octet and its length, port, the
+--                      index of the key's first octet and its length, components, extra
+--   profileValues      the row of an answer; "a refusal's other numbers are 0"
+--   profileNumbers     the number of an answer, then its row
+--   componentNumber    01's number of an answer about a component
+--   componentRow       a component as numbers: tag, the index of its octets' first one, their length
+--   componentValues    the row of an answer about a component
+--   componentNumbers   the number of an answer about a component, then its row
+--   extent             octets by their first one's index and their number
 --   onOrder, onVersion, onOctets, onNumber, onList
 --                      what follows a part, or its refusal
---   extent             octets by their first one's index and their number
---   listThen           the components and the extra octets, after the parts before them
---   keyThen            the key, and all behind it
---   portThen           the port, and all behind it
---   hostThen           the host, and all behind it
---   versionThen        the version, and all behind it
---   profileOf          the reading of a body
+--   profileOf          the reading of a body, part by part
 --   octetsIn           "the caller's own octets" of an extent
---   hostOctets         "host (without its zero)", no octets of a refused body
---   keyOctets          the key, no octets of a refused body
+--   hostIn             the host of a body that was read, no octets of a refused one
+--   hostOctets         "host (without its zero)"
+--   keyIn              the key of a body that was read, no octets of a refused one
+--   keyOctets          the key
+--   foundFrom          what a component that was read is told as
 --   componentThen      the component of a number in a body that was read: 69 "for a number not below their count"
+--   componentIn        the component of an answer about a body
 --   componentOf        "a component by number from 0, with its tag; 69, last"
---   componentOctets    the octets of that component, none where it is refused
+--   foundOctets        the octets of a component that is there, none where it is refused
+--   componentOctets    the octets of the component of a number
 use Prim.Native.Nat.{ℕ}
 use mathlib.Core.List.{List, [], _∷_}
 use mathlib.Core.Bool.{cond}
@@ -29,6 +31,7 @@ use lib.ListN.{length, take, drop, replicate}
 use Rattle.choices.specs.Branch.{choose}
 use Rattle.cdr.specs.declared.Index.{Index}
 use Rattle.cdr.specs.declared.Order.{Order}
+use Rattle.cdr.specs.Limit.{octetsLimit}
 use Rattle.cdr.specs.Orders.{orderOctet}
 use Rattle.encapsulation.specs.Encapsulation.{start}
 use Rattle.parts.specs.declared.Refusal.the-variants.{TooLong, NoSuchComponent}
@@ -45,7 +48,6 @@ use Rattle.parts.specs.declared.ComponentPart.the-variants.{Component, Refused 
 use Rattle.profile.specs.declared.list.Components.{Components}
 use Rattle.profile.specs.declared.list.Components.the-variants.{Listed, Refused as noList}
 use Rattle.profile.specs.declared.Extent.{Extent}
-use Rattle.profile.specs.declared.Head.{Head}
 use Rattle.profile.specs.declared.Profile.{Profile}
 use Rattle.profile.specs.declared.ProfileAnswer.{ProfileAnswer}
 use Rattle.profile.specs.declared.ProfileAnswer.the-variants.{Read, Refused}
@@ -58,25 +60,34 @@ abbrev pub profileNumber : ProfileAnswer → ℕ
 profileNumber (Read p) = 0
 profileNumber (Refused r) = refusalNumber r
 
-abbrev pub componentNumber : ComponentAnswer → ℕ
-componentNumber (Found tag octets) = 0
-componentNumber (notFound r) = refusalNumber r
-
 abbrev pub profileRow : Profile → List ℕ
 profileRow p =
     orderOctet (p .head .order) ∷ p .head .major ∷ p .head .minor ∷ p .host .from .0 ∷ p .host .length ∷ p .port
     ∷ p .key .from .0 ∷ p .key .length ∷ p .components ∷ p .extra ∷ []
 
+abbrev pub profileValues : ProfileAnswer → List ℕ
+profileValues (Read p) = profileRow p
+profileValues (Refused r) = replicate 10 0
+
 abbrev pub profileNumbers : ProfileAnswer → List ℕ
-profileNumbers (Read p) = 0 ∷ profileRow p
-profileNumbers (Refused r) = refusalNumber r ∷ replicate 10 0
+profileNumbers a = profileNumber a ∷ profileValues a
+
+abbrev pub componentNumber : ComponentAnswer → ℕ
+componentNumber (Found tag octets) = 0
+componentNumber (notFound r) = refusalNumber r
 
 abbrev pub componentRow : ℕ → Extent → List ℕ
 componentRow tag octets = tag ∷ octets .from .0 ∷ octets .length ∷ []
 
+abbrev pub componentValues : ComponentAnswer → List ℕ
+componentValues (Found tag octets) = componentRow tag octets
+componentValues (notFound r) = replicate 3 0
+
 abbrev pub componentNumbers : ComponentAnswer → List ℕ
-componentNumbers (Found tag octets) = 0 ∷ componentRow tag octets
-componentNumbers (notFound r) = refusalNumber r ∷ replicate 3 0
+componentNumbers a = componentNumber a ∷ componentValues a
+
+abbrev pub extent : Index → ℕ → Extent
+extent from n = record { from = from; length = n }
 
 abbrev pub onOrder : OrderPart → (Order → Index → ProfileAnswer) → ProfileAnswer
 onOrder (InOrder order next) f = f order next
@@ -85,9 +96,6 @@ onOrder (noOrder r) f = Refused r
 abbrev pub onVersion : VersionPart → (ℕ → ℕ → Index → ProfileAnswer) → ProfileAnswer
 onVersion (Version major minor next) f = f major minor next
 onVersion (noVersion r) f = Refused r
-
-abbrev pub extent : Index → ℕ → Extent
-extent from n = record { from = from; length = n }
 
 abbrev pub onOctets : OctetsPart → (Extent → Index → ProfileAnswer) → ProfileAnswer
 onOctets (Span from n next) f = f (extent from n) next
@@ -101,26 +109,24 @@ abbrev pub onList : Components → (ℕ → Index → ℕ → ProfileAnswer) →
 onList (Listed count first extra) f = f count first extra
 onList (noList r) f = Refused r
 
-unfoldable pub listThen : List ℕ → Head → Extent → ℕ → Extent → Index → ProfileAnswer
-listThen v head host port key i =
-    onList (listAt v i (head .minor) (head .order)) (λ count first extra.
-    Read (record { head = head; host = host; port = port; key = key; components = count; first = first; extra = extra }))
-
-unfoldable pub keyThen : List ℕ → Head → Extent → ℕ → Index → ProfileAnswer
-keyThen v head host port i = onOctets (keyAt v i (head .order)) (λ key next. listThen v head host port key next)
-
-unfoldable pub portThen : List ℕ → Head → Extent → Index → ProfileAnswer
-portThen v head host i = onNumber (portAt v i (head .order)) (λ port next. keyThen v head host port next)
-
-unfoldable pub hostThen : List ℕ → Head → Index → ProfileAnswer
-hostThen v head i = onOctets (hostAt v i (head .order)) (λ host next. portThen v head host next)
-
-unfoldable pub versionThen : List ℕ → Order → Index → ProfileAnswer
-versionThen v order i =
-    onVersion (versionAt v i) (λ major minor next. hostThen v (record { order = order; major = major; minor = minor }) next)
-
 unfoldable pub profileOf : List ℕ → ProfileAnswer
-profileOf v = choose (ltb 16384 (length v)) (λ _. Refused TooLong) (λ _. onOrder (orderAt v start) (λ order next. versionThen v order next))
+profileOf v =
+    choose (ltb octetsLimit (length v)) (λ _. Refused TooLong) (λ _.
+    onOrder (orderAt v start) (λ order next.
+    onVersion (versionAt v next) (λ major minor next.
+    onOctets (hostAt v next order) (λ host next.
+    onNumber (portAt v next order) (λ port next.
+    onOctets (keyAt v next order) (λ key next.
+    onList (listAt v next minor order) (λ count first extra.
+    Read (record {
+      head = record { order = order; major = major; minor = minor };
+      host = host;
+      port = port;
+      key = key;
+      components = count;
+      first = first;
+      extra = extra;
+    }))))))))
 
 unfoldable pub octetsIn : List ℕ → Extent → List ℕ
 octetsIn v part = take (part .length) (drop (part .from .0) v)

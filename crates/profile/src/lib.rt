@@ -1,7 +1,8 @@
 // An IIOP profile body: order, version, host, port, key, components and extra octets, or 01's refusal, 42 and 60 to 64; and a component by
 // number, 69. Parts of the body come back as the caller's own octets.
 ghost use mathlib.Core.Path.{_≡_};
-ghost use Rattle.profile.specs.Profile.{octetsIn, profileNumber, componentNumber, profileOf, versionThen, hostThen, portThen, keyThen, listThen, componentOf, componentThen, hostOctets, keyOctets, componentOctets};
+ghost use Rattle.profile.specs.Profile.{octetsIn, profileNumber, componentNumber, profileOf, componentOf, componentThen, hostOctets, keyOctets, componentOctets};
+ghost use Rattle.profile.specs.Inner.{versionThen, hostThen, portThen, keyThen, listThen};
 use cdr::Index;
 use cdr::Order;
 use parts::ComponentPart;
@@ -16,7 +17,7 @@ mod list;
 use list::Components;
 
 // The most octets of a body.
-const LIMIT: usize = 16384;
+const LIMIT: usize = cdr::OCTETS_LIMIT;
 
 // Octets of a body: the first one's index, and how many.
 pub struct Extent {
@@ -31,7 +32,8 @@ pub struct Head {
     pub minor: u8,
 }
 
-// What a body says: the host without its final zero, the first component's index, and the octets after the last component.
+// What a body says. The host is without its final zero; `first` is the index after the components' count, in 1.0 after the key; `extra` is how
+// many octets stand after the last component.
 pub struct Profile {
     pub head: Head,
     pub host: Extent,
@@ -49,7 +51,7 @@ pub enum ProfileAnswer {
 }
 
 impl ProfileAnswer {
-    // The paper's number of the answer, 0 for a body that was read.
+    // 01's number of the answer, 0 for a body that was read.
     pub fn number(self) -> u32
         ensures { λ r. ⌜ r ≡ profileNumber self ⌝ }
     {
@@ -67,7 +69,7 @@ pub enum ComponentAnswer {
 }
 
 impl ComponentAnswer {
-    // The paper's number of the answer, 0 for a component that is there.
+    // 01's number of the answer, 0 for a component that is there.
     pub fn number(self) -> u32
         ensures { λ r. ⌜ r ≡ componentNumber self ⌝ }
     {
@@ -209,7 +211,7 @@ pub fn octets_in<'a>(s: &'a [u8], part: Extent) -> &'a [u8]
 {
     let from = part.from.0;
     let length = part.length;
-    if s.len() <= from {
+    if s.len() < from {
         return &s[0..0];
     }
     if s.len() - from <= length {

@@ -11,7 +11,7 @@ use borrow.Author.Tests.{ltb-true, ltb-false, lt-ltb, le-ltb}
 use Rattle.choices.proofs.Choices.{by-test, clash, neither}
 use Rattle.choices.specs.Branch.{choose}
 use Rattle.cdr.specs.declared.Order.{Order}
-use Rattle.checking.specs.Types.{octetsLimit}
+use Rattle.cdr.specs.Limit.{octetsLimit}
 use Rattle.decimals.proofs.Puts.{take-written}
 use Rattle.typecode.specs.declared.TypeAnswer.{TypeAnswer}
 use Rattle.typecode.specs.declared.TypeAnswer.the-variants.{Accepted as ok, Refused as refused, Loop}

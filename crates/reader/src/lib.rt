@@ -1,5 +1,5 @@
 // A reader of a profile body: a struct that holds the body's octets, an index in them and their byte order, and a thin call for each part in
-// turn. Each takes the struct apart and leaves the work to `parts`.
+// turn. Each takes the struct apart and leaves the work to `parts`. 42, 64 and the extra octets are of the whole body: `profile::read` gives them.
 ghost use mathlib.Core.Path.{_≡_};
 ghost use Rattle.cdr.specs.Align.{indexOf};
 ghost use Rattle.cdr.specs.declared.Order.the-variants.{Big};

@@ -127,7 +127,7 @@ pub const PROFILE_ENDS: u32 = 60;
 pub const NO_SUCH_ORDER: u32 = 61;
 
 // A profile body has a version that is not read.
-pub const NO_SUCH_PROFILE: u32 = 62;
+pub const NO_SUCH_PROFILE_VERSION: u32 = 62;
 
 // A profile's host has length 0, no last zero octet, or an earlier one.
 pub const BAD_HOST: u32 = 63;

@@ -18,7 +18,7 @@ use Rattle.cdr.specs.Align.{octets, gap, behindGap}
 use Rattle.cdr.specs.Number.{octetsOf}
 use Rattle.cdr.proofs.Alignment.{octets-small, gap-small}
 use Rattle.cdr.proofs.Numbers.{octets-length}
-use Rattle.checking.specs.Types.{octetsLimit}
+use Rattle.cdr.specs.Limit.{octetsLimit}
 use Rattle.reading.specs.Sinks.{Item, item}
 use Rattle.writing.specs.declared.Written.{Written}
 use Rattle.writing.specs.Write.{Stored}

@@ -30,7 +30,7 @@ use Rattle.cdr.specs.declared.Place.{Place}
 use Rattle.kinds.specs.declared.Form.the-variants.{Plain}
 use Rattle.kinds.specs.declared.Parameters.the-variants.{Leaf}
 use Rattle.kinds.specs.Forms.{formOf}
-use Rattle.checking.specs.Types.{octetsLimit}
+use Rattle.cdr.specs.Limit.{octetsLimit}
 use Rattle.reading.specs.Sinks.{Source, Item, item}
 use Rattle.reading.specs.Visit.{Checked, inside, sizeOf}
 use Rattle.reading.specs.Reading.{anyRoom, reading}

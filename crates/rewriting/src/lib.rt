@@ -20,7 +20,7 @@ mod rows;
 const UNNAMED: Order = Order::Big;
 
 // The most octets of a value; and of a short one, for which less memory is cleared.
-const MOST: usize = 16384;
+const MOST: usize = cdr::OCTETS_LIMIT;
 
 const FEW: usize = 1024;
 

@@ -5,7 +5,7 @@ ghost use Prim.Native.Nat.{_+_, _≤_, _<_, _^_};
 ghost use lib.ListN.{length};
 ghost use lib.Seq.{sets};
 ghost use Rattle.cdr.specs.Align.{octets, behindGap};
-ghost use Rattle.checking.specs.Types.{octetsLimit};
+ghost use Rattle.cdr.specs.Limit.{octetsLimit};
 ghost use Rattle.reading.specs.Sinks.{item};
 ghost use Rattle.written.specs.Written.{target};
 ghost use Rattle.rewriting.specs.Inner.{widthOf, Octet, headOf, tailOf, endOf, itemOctets, upTo, reach, rowOf, Sized, Rows};

@@ -54,9 +54,9 @@ paper n digits = octetsOf Big n digits
 -- visits, and all that the table then holds: kind, place and content of each item, and what was there behind them
 -- `rewrite`: a lent output, the chosen order and index, the octets of a TypeCode, big-endian, and a value; the number, then octets written,
 -- and all that the output then holds
--- `profile`: the octets of a profile body; the number, then order octet, major, minor, the host's place and length, port, the key's place and
--- length, components and extra
--- `component`: the octets of a profile body, and a number; the number, then tag, and place and length of the component's octets
+-- `profile`: the octets of a profile body; the number, then order octet, major, minor, the index of the host's first octet and its length, port,
+-- the index of the key's first octet and its length, components and extra
+-- `component`: the octets of a profile body, and a number; the number, then tag, the index of the first of its octets, and their length
 pub data Question : Type 0 where
   frame : List ℕ → Question
   type : Order → List ℕ → Question

@@ -22,7 +22,7 @@ use Rattle.reading.specs.declared.ValueAnswer.the-variants.{Refused}
 use Rattle.reading.specs.Sinks.{Source}
 use Rattle.reading.specs.Visit.{checked}
 use Rattle.reading.specs.Reading.{anyRoom, roomFor, reading}
-use Rattle.checking.specs.Types.{octetsLimit}
+use Rattle.cdr.specs.Limit.{octetsLimit}
 use Rattle.reading.specs.Value.{roomIn, onType, answerOf, readingOf, valueAnswer, filledBy, tableAfter}
 use Rattle.reading.proofs.Bound.{visits-bound, items-bound}
 use Rattle.met.specs.Met.{noKinds}

@@ -12,7 +12,7 @@ use Rattle.choices.specs.Branch.{choose}
 use Rattle.cdr.specs.declared.Order.{Order}
 use Rattle.met.specs.declared.Met.{Met}
 use Rattle.met.specs.Met.{noKinds}
-use Rattle.checking.specs.Types.{octetsLimit}
+use Rattle.cdr.specs.Limit.{octetsLimit}
 use Rattle.typecode.specs.declared.TypeAnswer.{TypeAnswer}
 use Rattle.typecode.specs.TypeCode.{checkedType}
 use Rattle.reading.specs.Sinks.{Source}

@@ -5,7 +5,7 @@ ghost use lib.Dec.{ltb};
 ghost use Rattle.reading.specs.Sinks.{source};
 ghost use Rattle.reading.specs.Visit.{checked};
 ghost use Rattle.reading.specs.Reading.{anyRoom, reading};
-ghost use Rattle.checking.specs.Types.{octetsLimit};
+ghost use Rattle.cdr.specs.Limit.{octetsLimit};
 ghost use Rattle.reading.specs.Value.{roomIn, valueAnswer, tableAfter};
 ghost use Rattle.value.specs.Typed.{judgedBy, typedFor};
 ghost use Rattle.value.specs.Single.{givenBy, itemAnswer};
@@ -38,7 +38,7 @@ pub enum ItemAnswer {
 }
 
 // The most octets of a type and of a value.
-const OCTETS_LIMIT: usize = 16384;
+const LIMIT: usize = cdr::OCTETS_LIMIT;
 
 // Reads a value into the table, three numbers an item; a refusal leaves it as it was.
 pub fn read_value(
@@ -114,10 +114,10 @@ fn judge(answer: TypeAnswer) -> Judged
 fn over_long(t: usize, v: usize) -> bool
     ensures { λ r. ⌜ r ≡ (ltb octetsLimit t || ltb octetsLimit v) ⌝ }
 {
-    if OCTETS_LIMIT < t {
+    if LIMIT < t {
         return true;
     }
-    OCTETS_LIMIT < v
+    LIMIT < v
 }
 
 // Reads under a checked type: a first walk finds a refusal, and a second one fills the table.

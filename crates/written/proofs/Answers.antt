@@ -9,7 +9,7 @@ use borrow.Author.Tests.{eqb-true, eq-eqb, ltb-false, le-ltb}
 use Rattle.choices.specs.Branch.{choose}
 use Rattle.choices.proofs.Choices.{clash, or-false, neither}
 use Rattle.cdr.specs.declared.Order.{Order}
-use Rattle.checking.specs.Types.{octetsLimit}
+use Rattle.cdr.specs.Limit.{octetsLimit}
 use Rattle.typecode.specs.declared.TypeAnswer.{TypeAnswer}
 use Rattle.typecode.specs.declared.TypeAnswer.the-variants.{Accepted as acceptedType, Refused as refusedType, Loop}
 use Rattle.typecode.specs.TypeCode.{checkedType}

@@ -9,7 +9,7 @@ use lib.ListN.{length, take, drop}
 use lib.Seq.{sets-eq, take-at}
 use Rattle.cdr.specs.declared.Order.{Order}
 use Rattle.cdr.specs.Number.{Octets}
-use Rattle.checking.specs.Types.{octetsLimit}
+use Rattle.cdr.specs.Limit.{octetsLimit}
 use Rattle.typecode.specs.TypeCode.{checkedType}
 use Rattle.reading.specs.declared.ValueAnswer.the-variants.{Accepted}
 use Rattle.reading.specs.Sinks.{Source}

@@ -13,7 +13,7 @@ use mathlib.Core.Path.{_≡_}
 use mathlib.Core.List.{List, map}
 use lib.ListN.{length}
 use Rattle.cdr.specs.declared.Order.{Order}
-use Rattle.checking.specs.Types.{octetsLimit}
+use Rattle.cdr.specs.Limit.{octetsLimit}
 use Rattle.reading.specs.declared.ValueAnswer.the-variants.{Accepted}
 use Rattle.reading.specs.Sinks.{Source, source}
 use Rattle.reading.specs.Reading.{anyRoom, roomFor}

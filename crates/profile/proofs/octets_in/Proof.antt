@@ -4,6 +4,7 @@ use Rattle.profile.proofs.octets_in.Statement.{statement}
 use Rattle.profile.proofs.octets_in.Tie as tie
 use mathlib.Core.Path.{sym}
 use Rattle.profile.proofs.Extents.{octets-none, octets-rest, octets-all}
+use native.Mathlib.Omega.{arith}
 
 sub-result : tie.Need-sub-result
 sub-result c = search needs
@@ -15,7 +16,7 @@ part-result-end : tie.Need-part-result-end
 part-result-end c = search needs
 
 returns : tie.Need-returns
-returns c = sym (octets-none (c .before .before .args .s .now) (c .before .before .args .part) (c .before .if1 .taken))
+returns c = let h = c .before .if1 .taken in sym (octets-none (c .before .before .args .s .now) (c .before .before .args .part) (omega (arith, h)))
 
 sub-if2 : tie.Need-sub-if2
 sub-if2 c = search needs

@@ -9,6 +9,7 @@ use lib.Dec.{ltb}
 use lib.ListN.{length}
 use Rattle.choices.specs.Branch.{choose}
 use Rattle.choices.proofs.Choices.{by-test, clash}
+use Rattle.cdr.specs.Limit.{octetsLimit}
 use Rattle.cdr.specs.declared.Index.{Index}
 use Rattle.cdr.specs.declared.Order.{Order}
 use Rattle.encapsulation.specs.Encapsulation.{start}
@@ -36,8 +37,9 @@ use Rattle.profile.specs.declared.Profile.{Profile}
 use Rattle.profile.specs.declared.ProfileAnswer.{ProfileAnswer}
 use Rattle.profile.specs.declared.ProfileAnswer.the-variants.{Read, Refused}
 use Rattle.profile.specs.List.{onComponent, skipFrom, listed, listFrom, onCount, countedList, listAt, componentFrom, componentAfter}
-use Rattle.profile.specs.Profile.{extent, onOrder, onVersion, onOctets, onNumber, onList, listThen, keyThen, portThen, hostThen, versionThen, profileOf, componentOf, foundFrom}
-use Rattle.profile.specs.Told.{Within, Found, ReadsWithin, FindsAll}
+use Rattle.profile.specs.Profile.{extent, onOrder, onVersion, onOctets, onNumber, onList, profileOf}
+use Rattle.profile.specs.Inner.{listThen, keyThen, portThen, hostThen, versionThen}
+use Rattle.profile.specs.Within.{Within, ReadsWithin, FindsAll}
 use Rattle.profile.proofs.Stages.{component-is, component-there, component-from-is}
 
 -- the index after all components
@@ -150,8 +152,8 @@ module _ (v : List ℕ) where
     on-order (InOrder order next) h = on-version (versionAt v next) order h
     on-order (noOrder r) h = clash cc
 
-    shown : profileOf v ≡ Read p → (length v ≤ 16384) × Shown v p
-    unfolding profileOf choose
+    shown : profileOf v ≡ Read p → (length v ≤ octetsLimit) × Shown v p
+    unfolding profileOf choose versionThen hostThen portThen keyThen listThen
     shown h =
         by-test (ltb 16384 (length v)) (λ t. let q : Refused TooLong ≡ Read p = rw t at h in clash cc)
         (λ t. (ltb-false 16384 (length v) t, on-order (orderAt v start) (rw t at h)))
