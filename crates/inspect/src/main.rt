@@ -1,5 +1,5 @@
-// Answers questions about types and values: each line of standard input is a question, each line of standard output its answer. A read or a
-// write that fails is said on standard error, and no more answers are written.
+// Answers questions about types, values and profiles: each line of standard input is a question, each line of standard output its answer. A
+// read or a write that fails is said on standard error, and no more answers are written.
 use libc::STDERR_FILENO;
 use libc::STDIN_FILENO;
 use libc::STDOUT_FILENO;

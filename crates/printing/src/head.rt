@@ -1,4 +1,5 @@
-// The text of the answers, but for a value's items and a rewritten value's octets, in memory that has room for it.
+// The text of the answers before a value's items, a rewritten value's octets, a profile's host or a component's octets, in memory that has
+// room for it.
 ghost use mathlib.Core.List.{[], _∷_, _++_};
 ghost use Prim.Native.Nat.{_+_, _≤_};
 ghost use lib.ListN.{length};
@@ -6,10 +7,11 @@ ghost use Rattle.cdr.specs.Align.{octets};
 ghost use Rattle.decimals.specs.Decimal.{decimal};
 ghost use Rattle.decimals.specs.Puts.{Put};
 ghost use Rattle.printing.specs.Items.{lf};
-ghost use Rattle.printing.specs.Replies.{space, okText, noText, signedWord, unsignedWord, singleWord, doubleWord, signedText, bitsText, headText};
+ghost use Rattle.printing.specs.Replies.{space, okText, noText, signedWord, unsignedWord, singleWord, doubleWord, signedText, bitsText, orderText, versionText, headText};
 use crate::Reply;
 use cdr::Order;
 use cdr::Size;
+use profile::Head;
 use writing::Written;
 
 const SPACE: u8 = b' ';
@@ -17,7 +19,7 @@ const SPACE: u8 = b' ';
 const LF: u8 = b'\n';
 
 // Puts a number and the character behind it.
-fn put_number(out: &mut [u8], at: usize, x: u64, behind: u8) -> usize
+pub(crate) fn put_number(out: &mut [u8], at: usize, x: u64, behind: u8) -> usize
     requires { ⌜ at + 21 ≤ length (now out) ⌝ }
     ensures { λ r. ⌜ Put (now (out .entry)) at (decimal x ++ (behind ∷ [])) r (now (out .exit)) ⌝ }
 {
@@ -28,7 +30,7 @@ fn put_number(out: &mut [u8], at: usize, x: u64, behind: u8) -> usize
 }
 
 // Puts two numbers, the second with the character behind it.
-fn put_two(out: &mut [u8], at: usize, x: u64, y: u64, behind: u8) -> usize
+pub(crate) fn put_two(out: &mut [u8], at: usize, x: u64, y: u64, behind: u8) -> usize
     requires { ⌜ at + 42 ≤ length (now out) ⌝ }
     ensures { λ r. ⌜ Put (now (out .entry)) at (decimal x ++ (space ∷ (decimal y ++ (behind ∷ [])))) r (now (out .exit)) ⌝ }
 {
@@ -128,13 +130,40 @@ fn put_double(out: &mut [u8], x: u64) -> usize
     put_bits(out, 10, Size::Eight, x)
 }
 
-// Puts `ok COUNT` and a space.
-fn put_rewritten(out: &mut [u8], count: u64) -> usize
+// Puts `ok COUNT`, or `ok TAG`, and a space.
+fn put_first(out: &mut [u8], x: u64) -> usize
     requires { ⌜ 66 ≤ length (now out) ⌝ }
-    ensures { λ r. ⌜ Put (now (out .entry)) 0 (okText (decimal count ++ (space ∷ []))) r (now (out .exit)) ⌝ }
+    ensures { λ r. ⌜ Put (now (out .entry)) 0 (okText (decimal x ++ (space ∷ []))) r (now (out .exit)) ⌝ }
 {
     writing::write_octets(out, 0, b"ok ");
-    put_number(out, 3, count, SPACE)
+    put_number(out, 3, x, SPACE)
+}
+
+// Puts `ok ORDER` and a space.
+fn put_order(out: &mut [u8], order: Order) -> usize
+    requires { ⌜ 66 ≤ length (now out) ⌝ }
+    ensures { λ r. ⌜ Put (now (out .entry)) 0 (okText (orderText order ++ (space ∷ []))) r (now (out .exit)) ⌝ }
+{
+    match order {
+        Order::Big => {
+            writing::write_octets(out, 0, b"ok big ");
+            7
+        }
+        Order::Little => {
+            writing::write_octets(out, 0, b"ok little ");
+            10
+        }
+    }
+}
+
+// Puts `ok ORDER MAJOR MINOR` and a space.
+fn put_version(out: &mut [u8], head: Head) -> usize
+    requires { ⌜ 66 ≤ length (now out) ⌝ }
+    ensures { λ r. ⌜ Put (now (out .entry)) 0 (okText (versionText head)) r (now (out .exit)) ⌝ }
+{
+    let order = head.order;
+    let next = put_order(out, order);
+    put_two(out, next, head.major as u64, head.minor as u64, SPACE)
 }
 
 // Puts an answer from the start of `out`.
@@ -155,7 +184,9 @@ pub(crate) fn put(out: &mut [u8], reply: Reply) -> usize
         Reply::Unsigned(x) => put_unsigned(out, x),
         Reply::Single(x) => put_single(out, x),
         Reply::Double(x) => put_double(out, x),
-        Reply::Rewritten(count) => put_rewritten(out, count as u64),
+        Reply::Rewritten(count) => put_first(out, count as u64),
+        Reply::Profiled(said, _) => put_version(out, said.head),
+        Reply::Component(tag, _, _) => put_first(out, tag),
         Reply::NoQuestion => {
             out[0] = b'?';
             out[1] = LF;

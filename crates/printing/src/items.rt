@@ -7,7 +7,7 @@ ghost use lib.ListN.{length};
 ghost use Rattle.decimals.specs.Decimal.{decimal};
 ghost use Rattle.decimals.specs.Puts.{Put};
 ghost use Rattle.writing.specs.Write.{Stored};
-ghost use Rattle.printing.specs.Items.{dash, lf, itemNumbers, itemText, itemsOf, joined, itemsText};
+ghost use Rattle.printing.specs.Items.{dash, itemNumbers, itemText, itemsOf, joined, itemsText};
 ghost use Rattle.printing.specs.Inner.{behindAt};
 use texts::Run;
 use writing::Written;
@@ -102,13 +102,13 @@ fn fit(items: &[u64], room: usize) -> bool
     fit_joined(items, room)
 }
 
-// Puts `-`, which stands for no items or octets, and an LF.
-pub(crate) fn put_none(out: &mut [u8], at: usize) -> usize
+// Puts `-`, which stands for no items or octets, and the character behind it.
+pub(crate) fn put_none(out: &mut [u8], at: usize, behind: u8) -> usize
     requires { ⌜ at + 2 ≤ length (now out) ⌝ }
-    ensures { λ r. ⌜ Put (now (out .entry)) at (dash ∷ lf ∷ []) r (now (out .exit)) ⌝ }
+    ensures { λ r. ⌜ Put (now (out .entry)) at (dash ∷ behind ∷ []) r (now (out .exit)) ⌝ }
 {
     out[at] = DASH;
-    out[at + 1] = LF;
+    out[at + 1] = behind;
     at + 2
 }
 
@@ -118,7 +118,7 @@ fn put(out: &mut [u8], at: usize, items: &[u64]) -> usize
     ensures { λ r. ⌜ Put (now (out .entry)) at (itemsText (itemsOf (now (items .entry)))) r (now (out .exit)) ⌝ }
 {
     if items.len() < 3 {
-        return put_none(out, at);
+        return put_none(out, at, LF);
     }
     put_joined(out, at, items)
 }

@@ -2,14 +2,19 @@
 ghost use Rattle.writing.specs.Write.{Stored};
 ghost use Rattle.printing.specs.Items.{itemsOf};
 ghost use Rattle.printing.specs.Replies.{replyText};
+use profile::Extent;
+use profile::Profile;
 use writing::Written;
 
 mod head;
 mod items;
 mod octets;
+mod profiles;
 
 // The characters of the longest text but for its items or octets: three numbers of at most 20 digits, `ok` and four spaces.
 const HEAD: usize = 66;
+
+const LF: u8 = b'\n';
 
 // What a question is answered.
 pub enum Reply {
@@ -38,12 +43,16 @@ pub enum Reply {
     Double(u64),
     // A rewritten value: the number of its octets.
     Rewritten(usize),
+    // A profile: what its body says, and the number of the body's octets.
+    Profiled(Profile, usize),
+    // A component: its tag, its octets, and the number of the body's octets.
+    Component(u64, Extent, usize),
     // The line is no question.
     NoQuestion,
 }
 
-// Writes the text of an answer from `at` on, with the items of a value, three numbers each, or the octets of a rewritten one; or nothing where
-// it does not fit.
+// Writes the text of an answer from `at` on, with the items of a value, three numbers each, or the octets of a rewritten one or of a profile
+// body; or nothing where it does not fit.
 pub fn write_reply(out: &mut [u8], at: usize, reply: Reply, items: &[u64], octets: &[u8]) -> Written
     ensures { λ r. ⌜ Stored (now (out .entry)) at (replyText reply (itemsOf (now (items .entry))) (now (octets .entry))) r (now (out .exit)) ⌝ }
 {
@@ -55,7 +64,11 @@ pub fn write_reply(out: &mut [u8], at: usize, reply: Reply, items: &[u64], octet
             visits: _,
             count: _,
         } => items::write(out, at, &head[..end], items),
-        Reply::Rewritten(_) => octets::write(out, at, &head[..end], octets),
+        Reply::Rewritten(_) => octets::write(out, at, &head[..end], octets, LF),
+        Reply::Profiled(said, _) => profiles::write(out, at, &head[..end], said, octets),
+        Reply::Component(_, part, _) => {
+            octets::write(out, at, &head[..end], profile::octets_in(octets, part), LF)
+        }
         Reply::Typed { used: _, kinds: _ }
         | Reply::Refused(_)
         | Reply::Unread {

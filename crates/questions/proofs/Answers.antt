@@ -29,26 +29,26 @@ use Rattle.typecode.proofs.TypeAnswer.{the-type as answer-type}
 use Rattle.words.specs.Words.{space, wordsFrom, words, sameWord, orderWord}
 use Rattle.words.specs.Found.{FirstWord}
 use Rattle.printing.specs.declared.Reply.{Reply}
-use Rattle.printing.specs.declared.Reply.the-variants.{Typed, Read, Refused, Unread, Signed, Unsigned, Single, Double, Rewritten, NoQuestion}
+use Rattle.printing.specs.declared.Reply.the-variants.{Typed, Read, Refused, Unread, Signed, Unsigned, Single, Double, Rewritten, Profiled, Component, NoQuestion}
 use Rattle.printing.proofs.Reply.{the-type as reply-type}
 use Rattle.questions.specs.declared.octets.Octets.{Octets as OctetsAnswer}
 use Rattle.questions.specs.declared.octets.Octets.the-variants.{Count, NotOctets}
-use Rattle.questions.specs.Octets.{noneWord, octets, octetsWord}
-use Rattle.questions.specs.Questions.{noQuestion, orderedType, namedType, typeQuestion}
+use Rattle.questions.specs.Octets.{noneWord, Octets as Octets′, octets, notOctets, octetsWord, loneOctets}
+use Rattle.questions.specs.Questions.{Question, noQuestion, octetsQuestion, orderedType, namedType, typeQuestion}
 use Rattle.questions.specs.Replies.{typeReply, itemShown, replyTo}
-use Rattle.questions.specs.Inner.{WordRead, numbersOf, octetsOf}
+use Rattle.questions.specs.Inner.{OctetsRead, numbersOf, octetsOf}
 
 -- a part up to the end of a line
 pub part-all : (v : List ℕ) (b : ℕ) → take (length v - b) (drop b v) ≡ drop b v
 part-all v b = take-all (length v - b) (drop b v) (omega (arith, length-drop b v))
 
 -- a word as octets: `-`, no characters,
-pub word-dash : (word memory : List ℕ) → sameWord word noneWord ≡ true → WordRead word (Count 0) memory
+pub word-dash : (word memory : List ℕ) → sameWord word noneWord ≡ true → OctetsRead (octetsWord word) (Count 0) memory
 unfolding octetsWord choose
 word-dash word memory d = record { stands = rw d; within = omega arith }
 
 module _ (word : List ℕ) (d : sameWord word noneWord ≡ false) where
-  pub word-empty : (memory : List ℕ) → length word ≡ 0 → WordRead word NotOctets memory
+  pub word-empty : (memory : List ℕ) → length word ≡ 0 → OctetsRead (octetsWord word) NotOctets memory
   unfolding octetsWord choose
   word-empty memory z = record { stands = rw (d, eq-eqb (length word) 0 z); within = omega arith }
 
@@ -56,7 +56,7 @@ module _ (word : List ℕ) (d : sameWord word noneWord ≡ false) where
   module _ (z : length word ≡ 0 → ⊥) (memory : List ℕ) (fits : length word ≤ length memory * 2) (r : Decoded) (last : List ℕ)
       (s : Decodes digitsDecoded word memory r last)
     where
-      pub word-digits : (n : ℕ) → r ≡ Octets n → length last ≡ length memory → WordRead word (Count n) last
+      pub word-digits : (n : ℕ) → r ≡ Octets n → length last ≡ length memory → OctetsRead (octetsWord word) (Count n) last
       unfolding octetsWord choose
       word-digits n e l =
           let a = digits-accepted word (length memory) n (sym (s .answer) ∙ e) in
@@ -69,7 +69,7 @@ module _ (word : List ℕ) (d : sameWord word noneWord ≡ false) where
             within = omega arith;
           }
 
-      pub word-other : OneOf (1 ∷ 2 ∷ 3 ∷ []) (tagOf decoded-type r) → WordRead word NotOctets last
+      pub word-other : OneOf (1 ∷ 2 ∷ 3 ∷ []) (tagOf decoded-type r) → OctetsRead (octetsWord word) NotOctets last
       unfolding octetsWord choose
       word-other k =
           record {
@@ -87,26 +87,31 @@ type-refused (ok used kinds) k = absurd (miss (1 ∷ 2 ∷ []) 0 tt k)
 type-refused (refused why) k = refl
 type-refused Loop k = refl
 
--- the words behind ORDER: more than one,
-more-words : (order : Order) (word begun s : List ℕ) → orderedType order (word ∷ wordsFrom begun s) ≡ noQuestion
+-- the only word: more than one stand for no octets,
+more-words : (word begun s : List ℕ) → notOctets ≡ loneOctets (word ∷ wordsFrom begun s)
 unfolding wordsFrom choose
-more-words order word begun [] = refl
-more-words order word begun (c ∷ s) = by-test (eqb c space) (λ e. rw e) (λ e. rw e (more-words order word (begun ++ (c ∷ [])) s))
+more-words word begun [] = refl
+more-words word begun (c ∷ s) = by-test (eqb c space) (λ e. rw e) (λ e. rw e (more-words word (begun ++ (c ∷ [])) s))
 
-module _ (order : Order) (rest : List ℕ) (end : ℕ) (f : FirstWord rest end) where
-  pub type-and-more : end < length rest → NoQuestion ≡ replyTo (orderedType order (words rest))
-  type-and-more h = rw (f .more h, more-words order (take end rest) [] (drop (end + 1) rest))
+module _ (line : List ℕ) (end : ℕ) (f : FirstWord line end) (memory : List ℕ) where
+  pub lone-and-more : end < length line → OctetsRead (loneOctets (words line)) NotOctets memory
+  lone-and-more h = record { stands = rw (f .more h) (more-words (take end line) [] (drop (end + 1) line)); within = omega arith }
 
-  -- and one, which stands for octets or for none
-  module _ (h : length rest ≤ end) (r : OctetsAnswer) (memory : List ℕ) (w : WordRead rest r memory) where
-    pub type-no-octets : r ≡ NotOctets → NoQuestion ≡ replyTo (orderedType order (words rest))
-    type-no-octets e = rw (f .only h, ← w .stands, e)
+  -- and one for its own
+  pub lone-read : length line ≤ end → (r : OctetsAnswer) → OctetsRead (octetsWord line) r memory → OctetsRead (loneOctets (words line)) r memory
+  lone-read h r w = rw (f .only h) w
 
-    pub type-octets : (n : ℕ) → r ≡ Count n → typeReply (checkedType (take n memory) order .answer) ≡ replyTo (orderedType order (words rest))
-    type-octets n e = rw (f .only h, ← w .stands, e)
+-- octets that were read: none, or so many within the memory
+module _ {o : Octets′} {r : OctetsAnswer} {memory : List ℕ} (w : OctetsRead o r memory) where
+  pub octets-not : r ≡ NotOctets → (ask : List ℕ → Question) → octetsQuestion o ask ≡ noQuestion
+  octets-not e ask = rw (← w .stands, e)
 
-    pub octets-within : (n : ℕ) → r ≡ Count n → n ≤ length memory
-    octets-within n e = rw e at (w .within)
+  module _ (n : ℕ) (e : r ≡ Count n) where
+    pub octets-asked : (ask : List ℕ → Question) → octetsQuestion o ask ≡ ask (take n memory)
+    octets-asked ask = rw (← w .stands, e)
+
+    pub octets-within : n ≤ length memory
+    octets-within = rw e at (w .within)
 
 -- the words behind `type`
 order-alone : (n : Named) → namedType n [] ≡ noQuestion
@@ -132,9 +137,9 @@ shown-last (suc zero) bits a b c = absurd (b refl)
 shown-last (suc (suc zero)) bits a b c = absurd (c refl)
 shown-last (suc (suc (suc n))) bits a b c = refl
 
--- the numbers of an answer that is no value, and the octets of one that is not rewritten
-pub numbers-none : (r : Reply) → OneOf (0 ∷ 2 ∷ 3 ∷ 4 ∷ 5 ∷ 6 ∷ 7 ∷ 8 ∷ 9 ∷ []) (tagOf reply-type r) → 0 ≡ numbersOf r
-numbers-none (Read used visits count) k = absurd (miss (0 ∷ 2 ∷ 3 ∷ 4 ∷ 5 ∷ 6 ∷ 7 ∷ 8 ∷ 9 ∷ []) 1 tt k)
+-- the numbers of an answer that is no value, and the octets of one that is neither rewritten nor from a profile body
+pub numbers-none : (r : Reply) → OneOf (0 ∷ 2 ∷ 3 ∷ 4 ∷ 5 ∷ 6 ∷ 7 ∷ 8 ∷ 9 ∷ 10 ∷ 11 ∷ []) (tagOf reply-type r) → 0 ≡ numbersOf r
+numbers-none (Read used visits count) k = absurd (miss (0 ∷ 2 ∷ 3 ∷ 4 ∷ 5 ∷ 6 ∷ 7 ∷ 8 ∷ 9 ∷ 10 ∷ 11 ∷ []) 1 tt k)
 numbers-none (Typed used kinds) k = refl
 numbers-none (Refused number) k = refl
 numbers-none (Unread number visits) k = refl
@@ -143,10 +148,14 @@ numbers-none (Unsigned x) k = refl
 numbers-none (Single x) k = refl
 numbers-none (Double x) k = refl
 numbers-none (Rewritten count) k = refl
+numbers-none (Profiled said count) k = refl
+numbers-none (Component tag part count) k = refl
 numbers-none NoQuestion k = refl
 
-pub octets-none : (r : Reply) → OneOf (0 ∷ 1 ∷ 2 ∷ 3 ∷ 4 ∷ 5 ∷ 6 ∷ 7 ∷ 9 ∷ []) (tagOf reply-type r) → 0 ≡ octetsOf r
-octets-none (Rewritten count) k = absurd (miss (0 ∷ 1 ∷ 2 ∷ 3 ∷ 4 ∷ 5 ∷ 6 ∷ 7 ∷ 9 ∷ []) 8 tt k)
+pub octets-none : (r : Reply) → OneOf (0 ∷ 1 ∷ 2 ∷ 3 ∷ 4 ∷ 5 ∷ 6 ∷ 7 ∷ 11 ∷ []) (tagOf reply-type r) → 0 ≡ octetsOf r
+octets-none (Rewritten count) k = absurd (miss (0 ∷ 1 ∷ 2 ∷ 3 ∷ 4 ∷ 5 ∷ 6 ∷ 7 ∷ 11 ∷ []) 8 tt k)
+octets-none (Profiled said count) k = absurd (miss (0 ∷ 1 ∷ 2 ∷ 3 ∷ 4 ∷ 5 ∷ 6 ∷ 7 ∷ 11 ∷ []) 9 tt k)
+octets-none (Component tag part count) k = absurd (miss (0 ∷ 1 ∷ 2 ∷ 3 ∷ 4 ∷ 5 ∷ 6 ∷ 7 ∷ 11 ∷ []) 10 tt k)
 octets-none (Typed used kinds) k = refl
 octets-none (Read used visits count) k = refl
 octets-none (Refused number) k = refl

@@ -15,22 +15,24 @@ use Rattle.reading.specs.Sinks.{Item}
 use Rattle.reading.specs.Visit.{checked}
 use Rattle.reading.specs.Value.{valueAnswer, readingOf}
 use Rattle.reading.proofs.Room.{room-kept}
+use Rattle.profile.specs.Profile.{profileOf, componentOf}
 use Rattle.written.specs.Rewriting.{rewriteAnswer}
 use Rattle.words.specs.Words.{words, sameWord}
 use Rattle.words.specs.Found.{FirstWord}
-use Rattle.words.specs.Fields.{codedFirst, subjectFirst, fieldsOf, rewriteFieldsOf}
+use Rattle.words.specs.Fields.{codedFirst, subjectFirst, fieldsOf, rewriteFieldsOf, numberedFieldsOf}
 use Rattle.printing.specs.declared.Reply.{Reply}
 use Rattle.printing.specs.declared.Reply.the-variants.{NoQuestion}
 use Rattle.printing.specs.Items.{itemsOf}
 use Rattle.printing.specs.Replies.{replyText}
 use Rattle.printing.proofs.Heads.{text-most}
-use Rattle.questions.specs.Questions.{lineMost, typeWord, valueWord, itemWord, rewriteWord, Question, typeIn, valueIn, itemIn, rewriteIn, noQuestion, typeQuestion, aboutQuestion, rewriteQuestion, questionOf}
+use Rattle.questions.specs.Questions.{lineMost, typeWord, valueWord, itemWord, rewriteWord, profileWord, componentWord, Question, typeIn, valueIn, itemIn, rewriteIn, profileIn, componentIn, noQuestion, typeQuestion, aboutQuestion, rewriteQuestion, profileQuestion, componentQuestion, wordQuestion, questionOf}
 use Rattle.questions.specs.Replies.{mostItems, roomOf, replyTo, itemsGiven, itemsIn, octetsIn, answerLine}
 use Rattle.questions.specs.Blocks.{longest}
 use Rattle.questions.specs.Inner.{numbersOf, Replied, octetsMost, octetsOf, Held}
 use Rattle.questions.proofs.Answers.{part-all}
 use Rattle.questions.proofs.Enough.{octets-few}
-use Rattle.questions.proofs.Without.{NoItems, NoOctets, replied-none, held-none, type-bare, item-bare, value-no-octets, rewrite-no-items}
+use Rattle.questions.proofs.Bodies.{body-few, found-few}
+use Rattle.questions.proofs.Without.{NoItems, NoOctets, replied-none, held-none, type-bare, item-bare, value-no-octets, rewrite-no-items, profile-no-items, component-no-items}
 
 -- the items of an answer are within its room
 given-few : (a : ValueAnswer) (is : List Item) (n : ℕ) → length is ≤ n → length (itemsGiven a is) ≤ n
@@ -44,6 +46,8 @@ items-few (valueIn order t x room) =
     given-few (valueAnswer t order x (roomOf room)) _ mostItems (omega (arith, room-kept (roomOf room) x (checked t (checkedType t order .met))))
 items-few (itemIn order t x number) = omega arith
 items-few (rewriteIn order t x to room) = omega arith
+items-few (profileIn v) = omega arith
+items-few (componentIn v number) = omega arith
 items-few noQuestion = omega arith
 
 octets-within : (q : Question) → length (octetsIn q) ≤ octetsMost
@@ -51,13 +55,15 @@ octets-within (typeIn order v) = omega arith
 octets-within (valueIn order t x room) = omega arith
 octets-within (itemIn order t x number) = omega arith
 octets-within (rewriteIn order t x to room) = octets-few t order x to room (rewriteAnswer t order x to room) refl
+octets-within (profileIn v) = body-few v (profileOf v) refl
+octets-within (componentIn v number) = found-few v number (componentOf v number) refl
 octets-within noQuestion = omega arith
 
 pub answer-most : (line : List ℕ) → length (answerLine line) ≤ longest
 unfolding answerLine
 answer-most line =
     let q : Question = questionOf line in
-    omega (arith, text-most (replyTo q) (itemsIn q) (octetsIn q) mostItems (items-few q) (omega arith) (omega (arith, octets-within q)))
+    omega (arith, text-most (replyTo q) (itemsIn q) (octetsIn q) mostItems (items-few q) (omega (arith, octets-within q)))
 
 -- what a question is answered, with its items in the table and its octets in the memory
 abbrev Answered : Question → Reply → List ℕ → List ℕ → Type 0
@@ -71,7 +77,61 @@ pub replied-text : (line : List ℕ) (r : Reply) (table memory : List ℕ) → R
 unfolding answerLine
 replied-text line r table memory p h = rw (p .items, h .octets, p .reply)
 
--- a line, by its first word
+-- the first word of a line, and those behind it
+module _ (word : List ℕ) (ws : List (List ℕ)) (r : Reply) (table memory : List ℕ) where
+  abbrev Done : Type 0
+  Done = Answered (wordQuestion word ws) r table memory
+
+  pub word-type : true ≡ sameWord word typeWord → r ≡ replyTo (typeQuestion ws) → Done
+  unfolding wordQuestion choose
+  word-type e a = rw (← e) (bare-answered (typeQuestion ws) r table memory (type-bare ws) a)
+
+  module _ (t : false ≡ sameWord word typeWord) where
+    pub word-value : true ≡ sameWord word valueWord → Replied (aboutQuestion valueIn (fieldsOf ws)) r table → Done
+    unfolding wordQuestion choose
+    word-value e a =
+        rw (← t, ← e) (a, held-none (aboutQuestion valueIn (fieldsOf ws)) r (a .reply) (value-no-octets (fieldsOf ws)) memory)
+
+    module _ (v : false ≡ sameWord word valueWord) where
+      pub word-item : true ≡ sameWord word itemWord → r ≡ replyTo (aboutQuestion itemIn (fieldsOf ws)) → Done
+      unfolding wordQuestion choose
+      word-item e a = rw (← t, ← v, ← e) (bare-answered (aboutQuestion itemIn (fieldsOf ws)) r table memory (item-bare (fieldsOf ws)) a)
+
+      module _ (i : false ≡ sameWord word itemWord) where
+        pub word-rewrite : true ≡ sameWord word rewriteWord → Held (rewriteQuestion (rewriteFieldsOf ws)) r memory → Done
+        unfolding wordQuestion choose
+        word-rewrite e a =
+            rw (← t, ← v, ← i, ← e)
+            (replied-none (rewriteQuestion (rewriteFieldsOf ws)) r (a .reply) (rewrite-no-items (rewriteFieldsOf ws)) table, a)
+
+        module _ (w : false ≡ sameWord word rewriteWord) where
+          pub word-profile : true ≡ sameWord word profileWord → Held (profileQuestion ws) r memory → Done
+          unfolding wordQuestion choose
+          word-profile e a = rw (← t, ← v, ← i, ← w, ← e) (replied-none (profileQuestion ws) r (a .reply) (profile-no-items ws) table, a)
+
+          module _ (p : false ≡ sameWord word profileWord) where
+            pub word-component : true ≡ sameWord word componentWord → Held (componentQuestion (numberedFieldsOf ws)) r memory → Done
+            unfolding wordQuestion choose
+            word-component e a =
+                rw (← t, ← v, ← i, ← w, ← p, ← e)
+                (replied-none (componentQuestion (numberedFieldsOf ws)) r (a .reply) (component-no-items (numberedFieldsOf ws)) table, a)
+
+            pub word-other : false ≡ sameWord word componentWord → r ≡ NoQuestion → Done
+            unfolding wordQuestion choose
+            word-other e n = rw (← t, ← v, ← i, ← w, ← p, ← e) (bare-answered noQuestion r table memory (tt, tt) n)
+
+-- a word alone asks nothing
+word-alone : (word : List ℕ) → wordQuestion word [] ≡ noQuestion
+unfolding wordQuestion fieldsOf rewriteFieldsOf numberedFieldsOf subjectFirst codedFirst choose
+word-alone word =
+    by-test (sameWord word typeWord) (λ t. rw t)
+    (λ t. rw t (by-test (sameWord word valueWord) (λ v. rw v)
+    (λ v. rw v (by-test (sameWord word itemWord) (λ i. rw i)
+    (λ i. rw i (by-test (sameWord word rewriteWord) (λ w. rw w)
+    (λ w. rw w (by-test (sameWord word profileWord) (λ p. rw p)
+    (λ p. rw p (by-test (sameWord word componentWord) (λ c. rw c) (λ c. rw c)))))))))))
+
+-- a line
 module _ (line : List ℕ) (r : Reply) (table memory : List ℕ) where
   asks : (q : Question) → questionOf line ≡ q → Answered q r table memory → Answered (questionOf line) r table memory
   asks q e a = rw e a
@@ -85,51 +145,11 @@ module _ (line : List ℕ) (r : Reply) (table memory : List ℕ) where
 
   module _ (l : length line ≤ lineMost) (end : ℕ) (f : FirstWord line end) where
     pub line-alone : length line ≤ end → r ≡ NoQuestion → Answered (questionOf line) r table memory
-    unfolding questionOf fieldsOf rewriteFieldsOf subjectFirst codedFirst choose
-    line-alone h =
-        no-question
-        (rw (le-ltb lineMost (length line) l, f .only h)
-        (by-test (sameWord line typeWord) (λ e. rw e)
-        (λ e. rw e (by-test (sameWord line valueWord) (λ g. rw g)
-        (λ g. rw g (by-test (sameWord line itemWord) (λ i. rw i)
-        (λ i. rw i (by-test (sameWord line rewriteWord) (λ w. rw w) (λ w. rw w)))))))))
+    unfolding questionOf choose
+    line-alone h = no-question (rw (le-ltb lineMost (length line) l, f .only h) (word-alone line))
 
-    module _ (h : end < length line) where
-      -- the words behind the first
-      abbrev behind : List (List ℕ)
-      behind = words (take (length line - (end + 1)) (drop (end + 1) line))
-
-      pub line-type : true ≡ sameWord (take end line) typeWord → r ≡ replyTo (typeQuestion behind) → Answered (questionOf line) r table memory
-      unfolding questionOf choose
-      line-type e a =
-          asks (typeQuestion behind) (rw (part-all line (end + 1), le-ltb lineMost (length line) l, f .more h, ← e))
-          (bare-answered (typeQuestion behind) r table memory (type-bare behind) a)
-
-      module _ (t : false ≡ sameWord (take end line) typeWord) where
-        pub line-value : true ≡ sameWord (take end line) valueWord → Replied (aboutQuestion valueIn (fieldsOf behind)) r table
-            → Answered (questionOf line) r table memory
-        unfolding questionOf choose
-        line-value e a =
-            asks (aboutQuestion valueIn (fieldsOf behind)) (rw (part-all line (end + 1), le-ltb lineMost (length line) l, f .more h, ← t, ← e))
-            (a, held-none (aboutQuestion valueIn (fieldsOf behind)) r (a .reply) (value-no-octets (fieldsOf behind)) memory)
-
-        module _ (v : false ≡ sameWord (take end line) valueWord) where
-          pub line-item : true ≡ sameWord (take end line) itemWord → r ≡ replyTo (aboutQuestion itemIn (fieldsOf behind))
-              → Answered (questionOf line) r table memory
-          unfolding questionOf choose
-          line-item e a =
-              asks (aboutQuestion itemIn (fieldsOf behind)) (rw (part-all line (end + 1), le-ltb lineMost (length line) l, f .more h, ← t, ← v, ← e))
-              (bare-answered (aboutQuestion itemIn (fieldsOf behind)) r table memory (item-bare (fieldsOf behind)) a)
-
-          module _ (i : false ≡ sameWord (take end line) itemWord) where
-            pub line-rewrite : true ≡ sameWord (take end line) rewriteWord → Held (rewriteQuestion (rewriteFieldsOf behind)) r memory
-                → Answered (questionOf line) r table memory
-            unfolding questionOf choose
-            line-rewrite e a =
-                asks (rewriteQuestion (rewriteFieldsOf behind))
-                (rw (part-all line (end + 1), le-ltb lineMost (length line) l, f .more h, ← t, ← v, ← i, ← e))
-                (replied-none (rewriteQuestion (rewriteFieldsOf behind)) r (a .reply) (rewrite-no-items (rewriteFieldsOf behind)) table, a)
-
-            pub line-other : false ≡ sameWord (take end line) rewriteWord → r ≡ NoQuestion → Answered (questionOf line) r table memory
-            unfolding questionOf choose
-            line-other e = no-question (rw (le-ltb lineMost (length line) l, f .more h, ← t, ← v, ← i, ← e))
+    pub line-words : end < length line
+        → Answered (wordQuestion (take end line) (words (take (length line - (end + 1)) (drop (end + 1) line)))) r table memory
+        → Answered (questionOf line) r table memory
+    unfolding questionOf choose
+    line-words h a = asks _ (rw (part-all line (end + 1), le-ltb lineMost (length line) l, f .more h)) a

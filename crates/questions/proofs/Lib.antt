@@ -1,8 +1,9 @@
--- What the steps of answering a line amount to; what room is enough, and which answers have no items or octets; what need not be kept of a
--- line, the turns of a block, calls over a whole input, and samples.
+-- What the steps of answering a line amount to; what room is enough, what profile bodies are held, and which answers have no items or octets;
+-- what need not be kept of a line, the turns of a block, calls over a whole input, and samples.
 pub mod Answers
 pub mod Readings
 pub mod Enough
+pub mod Bodies
 pub mod Without
 pub mod Firsts
 pub mod Cuts

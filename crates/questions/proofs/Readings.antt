@@ -1,4 +1,4 @@
--- Questions about a value: their words read, and the items left in the table.
+-- Questions about a value or a component: their words read, and the items of a value left in the table.
 use mathlib.Core.Path.{_≡_, refl, sym, ap, _∙_}
 use mathlib.Core.List.{List, [], _∷_, _++_}
 use Prim.Native.Nat.{ℕ, _*_, _/_, _≤_}
@@ -31,17 +31,20 @@ use Rattle.words.specs.declared.Subject.{Subject}
 use Rattle.words.specs.declared.Rewrite.{Rewrite}
 use Rattle.words.specs.declared.Rewrite.the-variants.{Asks, NotRewrite}
 use Rattle.words.specs.declared.Chosen.{Chosen}
+use Rattle.words.specs.declared.Numbered.{Numbered}
+use Rattle.words.specs.declared.Numbered.the-variants.{Is as IsNumbered, NotNumbered}
 use Rattle.words.specs.Words.{words}
-use Rattle.words.specs.Fields.{fieldsOf, rewriteFieldsOf}
-use Rattle.words.specs.Inner.{part, subjectWords, WithinSubject, FieldsRead, RewriteRead}
+use Rattle.words.specs.Fields.{fieldsOf, rewriteFieldsOf, numberedFieldsOf}
+use Rattle.words.specs.Inner.{part, subjectWords, WithinSubject, FieldsRead, RewriteRead, NumberedRead}
 use Rattle.written.specs.Written.{target}
 use Rattle.questions.specs.declared.octets.Octets.{Octets}
 use Rattle.questions.specs.declared.octets.Octets.the-variants.{Count, NotOctets}
 use Rattle.questions.specs.declared.about.About.{About}
 use Rattle.questions.specs.declared.about.About.the-variants.{Is, NotAbout}
-use Rattle.questions.specs.Questions.{Question, valueIn, rewriteIn, noQuestion, aboutOf, onAbout, aboutQuestion, rewriteQuestion}
+use Rattle.questions.specs.Octets.{octetsWord}
+use Rattle.questions.specs.Questions.{Question, valueIn, rewriteIn, componentIn, noQuestion, octetsQuestion, aboutOf, onAbout, aboutQuestion, rewriteQuestion, componentQuestion}
 use Rattle.questions.specs.Replies.{roomOf}
-use Rattle.questions.specs.Inner.{WordRead, AboutRead, Replied}
+use Rattle.questions.specs.Inner.{OctetsRead, AboutRead, Replied}
 
 -- the words of a value are within the line,
 module _ (rest : List ℕ) (f : Fields) (p : FieldsRead rest f) where
@@ -68,13 +71,28 @@ module _ (rest : List ℕ) (f : Rewrite) (p : RewriteRead rest f) where
       ≡ onAbout (aboutOf (subjectWords (c .subject) rest)) (λ order t x. rewriteIn order t x (target (c .order) (indexOf (c .index))) (c .room))
   rewrite-about c e = rw (← p .read, e)
 
+-- and behind `component`
+module _ (rest : List ℕ) (f : Numbered) (p : NumberedRead rest f) where
+  pub numbered-none : f ≡ NotNumbered → componentQuestion (numberedFieldsOf (words rest)) ≡ noQuestion
+  numbered-none e = rw (← p .read, e)
+
+  module _ (end number : ℕ) (e : f ≡ IsNumbered end number) where
+    pub numbered-within : end ≤ length rest
+    numbered-within = rw e at (p .within)
+
+    pub numbered-fits : (n : ℕ) → length rest ≤ n → length (take end rest) ≤ n
+    numbered-fits n h = let k = numbered-within in omega (arith, length-take-le end rest k)
+
+    pub numbered-about : componentQuestion (numberedFieldsOf (words rest)) ≡ octetsQuestion (octetsWord (take end rest)) (λ v. componentIn v number)
+    numbered-about = rw (← p .read, e)
+
 -- the octets of two of the words
-module _ (rest : List ℕ) (a : Subject) (o : Octets) (t : List ℕ) (q : WordRead (part rest (a .typed .from) (a .typed .end)) o t) where
+module _ (rest : List ℕ) (a : Subject) (o : Octets) (t : List ℕ) (q : OctetsRead (octetsWord (part rest (a .typed .from) (a .typed .end))) o t) where
   pub about-no-type : (v : List ℕ) → o ≡ NotOctets → AboutRead rest a NotAbout t v
   unfolding aboutOf
   about-no-type v g = record { stands = rw (← q .stands, g); typed = omega arith; valued = omega arith }
 
-  module _ (types : ℕ) (g : o ≡ Count types) (w : Octets) (v : List ℕ) (s : WordRead (part rest (a .value .from) (a .value .end)) w v) where
+  module _ (types : ℕ) (g : o ≡ Count types) (w : Octets) (v : List ℕ) (s : OctetsRead (octetsWord (part rest (a .value .from) (a .value .end))) w v) where
     pub about-no-value : w ≡ NotOctets → AboutRead rest a NotAbout t v
     unfolding aboutOf
     about-no-value h = record { stands = rw (← q .stands, g, ← s .stands, h); typed = omega arith; valued = omega arith }

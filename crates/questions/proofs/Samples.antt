@@ -10,10 +10,10 @@ use Rattle.hexline.specs.Decoding.{octetOf, allDigits, lineOctets}
 use Rattle.cdr.specs.Align.{indexOf}
 use Rattle.reading.specs.Sinks.{source}
 use Rattle.words.specs.Words.{wordsFrom, sameWord, orderWord}
-use Rattle.words.specs.Fields.{codedFirst, subjectFirst, fieldsOf, rewriteFieldsOf}
+use Rattle.words.specs.Fields.{codedFirst, subjectFirst, fieldsOf, rewriteFieldsOf, numberedFieldsOf}
 use Rattle.written.specs.Written.{target}
 use Rattle.questions.specs.Octets.{octetsWord}
-use Rattle.questions.specs.Questions.{valueWord, itemWord, rewriteWord, typeIn, valueIn, itemIn, rewriteIn, noQuestion, aboutOf, questionOf}
+use Rattle.questions.specs.Questions.{valueWord, itemWord, rewriteWord, profileWord, componentWord, typeIn, valueIn, itemIn, rewriteIn, profileIn, componentIn, noQuestion, aboutOf, wordQuestion, questionOf}
 
 -- `type ` and `type big `
 abbrev behindType : List ℕ → List ℕ
@@ -27,7 +27,7 @@ pub asked :
     (questionOf (behindBig (48 ∷ 97 ∷ 70 ∷ 57 ∷ [])) ≡ typeIn Big (10 ∷ 249 ∷ []))
     × (questionOf (behindType (108 ∷ 105 ∷ 116 ∷ 116 ∷ 108 ∷ 101 ∷ 32 ∷ 48 ∷ 48 ∷ [])) ≡ typeIn Little (0 ∷ []))
     × (questionOf (behindBig (45 ∷ [])) ≡ typeIn Big [])
-unfolding choose isDigit digitValue octetOf allDigits lineOctets wordsFrom sameWord orderWord octetsWord questionOf
+unfolding choose isDigit digitValue octetOf allDigits lineOctets wordsFrom sameWord orderWord octetsWord wordQuestion questionOf
 asked = (refl, refl, refl)
 
 -- an empty line, `type big `, `type big 0`, `type big 0g`, `type big 00 `, `type  big 00`, `type big 00` and a CR
@@ -39,7 +39,7 @@ pub not-asked :
     × (questionOf (behindBig (48 ∷ 48 ∷ 32 ∷ [])) ≡ noQuestion)
     × (questionOf (behindType (32 ∷ 98 ∷ 105 ∷ 103 ∷ 32 ∷ 48 ∷ 48 ∷ [])) ≡ noQuestion)
     × (questionOf (behindBig (48 ∷ 48 ∷ 13 ∷ [])) ≡ noQuestion)
-unfolding choose isDigit digitValue octetOf allDigits lineOctets wordsFrom sameWord orderWord octetsWord questionOf
+unfolding choose isDigit digitValue octetOf allDigits lineOctets wordsFrom sameWord orderWord octetsWord wordQuestion questionOf
 not-asked = (refl, refl, refl, refl, refl, refl, refl)
 
 -- `value big 00 little 0A 7 ROOM`, and `item` with NUMBER
@@ -62,7 +62,7 @@ pub asked-values :
     × (questionOf (behindValue []) ≡ noQuestion)
     × (questionOf (behindValue (45 ∷ 55 ∷ [])) ≡ noQuestion)
     × (questionOf (behindValue (55 ∷ 32 ∷ 55 ∷ [])) ≡ noQuestion)
-unfolding choose isDigit digitValue octetOf allDigits lineOctets wordsFrom sameWord orderWord octetsWord codedFirst subjectFirst fieldsOf aboutOf allNumerals numberUpto numberFrom numberWord questionOf
+unfolding choose isDigit digitValue octetOf allDigits lineOctets wordsFrom sameWord orderWord octetsWord codedFirst subjectFirst fieldsOf aboutOf allNumerals numberUpto numberFrom numberWord wordQuestion questionOf
 asked-values = (refl, refl, refl, refl, refl, refl)
 
 -- `rewrite` and the same words, with `big 3 ROOM`; without ROOM, with another order, and with a word behind it
@@ -75,5 +75,24 @@ pub asked-rewrites :
     × (questionOf (behindRewrite (98 ∷ 105 ∷ 103 ∷ 32 ∷ 51 ∷ [])) ≡ noQuestion)
     × (questionOf (behindRewrite (98 ∷ 105 ∷ 32 ∷ 51 ∷ 32 ∷ 49 ∷ [])) ≡ noQuestion)
     × (questionOf (behindRewrite (98 ∷ 105 ∷ 103 ∷ 32 ∷ 51 ∷ 32 ∷ 49 ∷ 32 ∷ [])) ≡ noQuestion)
-unfolding choose isDigit digitValue octetOf allDigits lineOctets wordsFrom sameWord orderWord octetsWord codedFirst subjectFirst rewriteFieldsOf aboutOf allNumerals numberUpto numberFrom numberWord questionOf
+unfolding choose isDigit digitValue octetOf allDigits lineOctets wordsFrom sameWord orderWord octetsWord codedFirst subjectFirst rewriteFieldsOf aboutOf allNumerals numberUpto numberFrom numberWord wordQuestion questionOf
 asked-rewrites = (refl, refl, refl, refl)
+
+-- `profile 0aF9`, `profile -`; without octets, with an odd digit, and with a word behind them
+pub asked-profiles :
+    (questionOf (profileWord ++ (32 ∷ 48 ∷ 97 ∷ 70 ∷ 57 ∷ [])) ≡ profileIn (10 ∷ 249 ∷ []))
+    × (questionOf (profileWord ++ (32 ∷ 45 ∷ [])) ≡ profileIn [])
+    × (questionOf (profileWord ++ (32 ∷ [])) ≡ noQuestion)
+    × (questionOf (profileWord ++ (32 ∷ 48 ∷ [])) ≡ noQuestion)
+    × (questionOf (profileWord ++ (32 ∷ 48 ∷ 48 ∷ 32 ∷ [])) ≡ noQuestion)
+unfolding choose isDigit digitValue octetOf allDigits lineOctets wordsFrom sameWord octetsWord wordQuestion questionOf
+asked-profiles = (refl, refl, refl, refl, refl)
+
+-- `component 0A 007`; without NUMBER, with one that has a sign, and with a word behind it
+pub asked-components :
+    (questionOf (componentWord ++ (32 ∷ 48 ∷ 65 ∷ 32 ∷ 48 ∷ 48 ∷ 55 ∷ [])) ≡ componentIn (10 ∷ []) 7)
+    × (questionOf (componentWord ++ (32 ∷ 48 ∷ 65 ∷ [])) ≡ noQuestion)
+    × (questionOf (componentWord ++ (32 ∷ 48 ∷ 65 ∷ 32 ∷ 45 ∷ 55 ∷ [])) ≡ noQuestion)
+    × (questionOf (componentWord ++ (32 ∷ 48 ∷ 65 ∷ 32 ∷ 55 ∷ 32 ∷ [])) ≡ noQuestion)
+unfolding choose isDigit digitValue octetOf allDigits lineOctets wordsFrom sameWord octetsWord numberedFieldsOf allNumerals numberUpto numberFrom numberWord wordQuestion questionOf
+asked-components = (refl, refl, refl, refl)

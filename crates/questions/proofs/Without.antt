@@ -3,6 +3,7 @@ use mathlib.Core.Path.{_≡_, refl}
 use mathlib.Core.List.{List, [], _∷_}
 use Prim.Native.Nat.{ℕ}
 use native.Mathlib.Omega.{arith}
+use lib.ListN.{length}
 use Rattle.cdr.specs.declared.Order.{Order}
 use Rattle.cdr.specs.declared.Named.{Named}
 use Rattle.cdr.specs.declared.Named.the-variants.{Is, NoOrder}
@@ -11,6 +12,11 @@ use Rattle.items.specs.declared.Item.the-variants.{Signed, Unsigned, Single, Do
 use Rattle.typecode.specs.declared.TypeAnswer.{TypeAnswer}
 use Rattle.typecode.specs.declared.TypeAnswer.the-variants.{Accepted as ok, Refused as refused, Loop}
 use Rattle.typecode.specs.TypeCode.{checkedType}
+use Rattle.profile.specs.declared.ProfileAnswer.{ProfileAnswer}
+use Rattle.profile.specs.declared.ProfileAnswer.the-variants.{Read as says, Refused as notRead}
+use Rattle.profile.specs.declared.ComponentAnswer.{ComponentAnswer}
+use Rattle.profile.specs.declared.ComponentAnswer.the-variants.{Found, Refused as notFound}
+use Rattle.profile.specs.Profile.{profileOf, componentOf}
 use Rattle.reading.specs.declared.ValueAnswer.{ValueAnswer}
 use Rattle.reading.specs.declared.ValueAnswer.the-variants.{Accepted, Refused}
 use Rattle.reading.specs.Value.{valueAnswer}
@@ -22,21 +28,23 @@ use Rattle.written.specs.declared.RewriteAnswer.the-variants.{Accepted as writt
 use Rattle.written.specs.Written.{Target, target}
 use Rattle.written.specs.Rewriting.{rewriteAnswer}
 use Rattle.words.specs.Words.{orderWord}
-use Rattle.words.specs.Fields.{FieldsOf, are, notFields, RewriteFields, rewrites, notRewrite}
+use Rattle.words.specs.Fields.{FieldsOf, are, notFields, RewriteFields, rewrites, notRewrite, NumberedFields, numbered, notNumbered}
 use Rattle.printing.specs.declared.Reply.{Reply}
 use Rattle.printing.specs.declared.Reply.the-variants.{NoQuestion}
 use Rattle.printing.specs.Items.{itemsOf}
-use Rattle.questions.specs.Octets.{Octets, octets, notOctets, octetsWord}
-use Rattle.questions.specs.Questions.{Question, typeIn, valueIn, itemIn, rewriteIn, noQuestion, typeOctets, orderedType, namedType, typeQuestion, About, about, notAbout, aboutOf, onAbout, aboutQuestion, rewriteQuestion}
-use Rattle.questions.specs.Replies.{typeReply, valueReply, itemReply, rewriteReply, roomOf, replyTo, itemsIn, octetsIn}
+use Rattle.questions.specs.Octets.{Octets, octets, notOctets, octetsWord, loneOctets}
+use Rattle.questions.specs.Questions.{Question, typeIn, valueIn, itemIn, rewriteIn, profileIn, componentIn, noQuestion, octetsQuestion, namedType, typeQuestion, About, about, notAbout, aboutOf, onAbout, aboutQuestion, rewriteQuestion, profileQuestion, componentQuestion}
+use Rattle.questions.specs.Replies.{typeReply, valueReply, itemReply, rewriteReply, profileReply, componentReply, roomOf, replyTo, itemsIn, octetsIn}
 use Rattle.questions.specs.Inner.{numbersOf, Replied, octetsOf, Held}
 
--- by the question: only a value has items, and only a value that is rewritten has octets
+-- by the question: only a value has items, and only a value that is rewritten and a profile body have octets
 abbrev pub NoItems : Question → Type 0
 NoItems (typeIn order v) = Unit {0}
 NoItems (valueIn order t x room) = ⊥
 NoItems (itemIn order t x number) = Unit {0}
 NoItems (rewriteIn order t x to room) = Unit {0}
+NoItems (profileIn v) = Unit {0}
+NoItems (componentIn v number) = Unit {0}
 NoItems noQuestion = Unit {0}
 
 abbrev pub NoOctets : Question → Type 0
@@ -44,6 +52,8 @@ NoOctets (typeIn order v) = Unit {0}
 NoOctets (valueIn order t x room) = Unit {0}
 NoOctets (itemIn order t x number) = Unit {0}
 NoOctets (rewriteIn order t x to room) = ⊥
+NoOctets (profileIn v) = ⊥
+NoOctets (componentIn v number) = ⊥
 NoOctets noQuestion = Unit {0}
 
 -- none stand in the answer
@@ -67,11 +77,21 @@ rewrite-none : (a : RewriteAnswer) → numbersOf (rewriteReply a) ≡ 0
 rewrite-none (writtenTo count) = refl
 rewrite-none (notWritten number) = refl
 
+profile-none : (a : ProfileAnswer) (n : ℕ) → numbersOf (profileReply a n) ≡ 0
+profile-none (says p) n = refl
+profile-none (notRead why) n = refl
+
+component-none : (a : ComponentAnswer) (n : ℕ) → numbersOf (componentReply a n) ≡ 0
+component-none (Found tag part) n = refl
+component-none (notFound why) n = refl
+
 no-items : (q : Question) → NoItems q → (numbersOf (replyTo q) ≡ 0) × (itemsIn q ≡ [])
 no-items (typeIn order v) n = (type-none (checkedType v order .answer) .0, refl)
 no-items (valueIn order t x room) n = absurd n
 no-items (itemIn order t x number) n = (item-none (itemAnswer t order x number) .0, refl)
 no-items (rewriteIn order t x to room) n = (rewrite-none (rewriteAnswer t order x to room), refl)
+no-items (profileIn v) n = (profile-none (profileOf v) (length v), refl)
+no-items (componentIn v number) n = (component-none (componentOf v number) (length v), refl)
 no-items noQuestion n = (refl, refl)
 
 no-octets : (q : Question) → NoOctets q → (octetsOf (replyTo q) ≡ 0) × (octetsIn q ≡ [])
@@ -79,6 +99,8 @@ no-octets (typeIn order v) n = (type-none (checkedType v order .answer) .1, refl
 no-octets (valueIn order t x room) n = (value-none (valueAnswer t order x (roomOf room)), refl)
 no-octets (itemIn order t x number) n = (item-none (itemAnswer t order x number) .1, refl)
 no-octets (rewriteIn order t x to room) n = absurd n
+no-octets (profileIn v) n = absurd n
+no-octets (componentIn v number) n = absurd n
 no-octets noQuestion n = (refl, refl)
 
 module _ (q : Question) (r : Reply) (e : r ≡ replyTo q) where
@@ -97,17 +119,12 @@ pub none-held : (q : Question) (memory : List ℕ) → q ≡ noQuestion → Held
 none-held q memory e = rw e (held-none noQuestion NoQuestion refl tt memory)
 
 -- by the words: of a type,
-octets-bare : (order : Order) (o : Octets) → NoItems (typeOctets order o) × NoOctets (typeOctets order o)
+octets-bare : (order : Order) (o : Octets) → NoItems (octetsQuestion o (λ v. typeIn order v)) × NoOctets (octetsQuestion o (λ v. typeIn order v))
 octets-bare order (octets v) = (tt, tt)
 octets-bare order notOctets = (tt, tt)
 
-ordered-bare : (order : Order) (ws : List (List ℕ)) → NoItems (orderedType order ws) × NoOctets (orderedType order ws)
-ordered-bare order [] = (tt, tt)
-ordered-bare order (type ∷ []) = octets-bare order (octetsWord type)
-ordered-bare order (type ∷ more ∷ rest) = (tt, tt)
-
 named-bare : (n : Named) (ws : List (List ℕ)) → NoItems (namedType n ws) × NoOctets (namedType n ws)
-named-bare (Is order) ws = ordered-bare order ws
+named-bare (Is order) ws = octets-bare order (loneOctets ws)
 named-bare NoOrder ws = (tt, tt)
 
 pub type-bare : (ws : List (List ℕ)) → NoItems (typeQuestion ws) × NoOctets (typeQuestion ws)
@@ -138,3 +155,15 @@ rewrite-about notAbout to room = tt
 pub rewrite-no-items : (f : RewriteFields) → NoItems (rewriteQuestion f)
 rewrite-no-items (rewrites subject chosen index room) = rewrite-about (aboutOf subject) (target chosen (indexOf index)) room
 rewrite-no-items notRewrite = tt
+
+-- of a profile, and of a component
+octets-no-items : (o : Octets) (ask : List ℕ → Question) → ((v : List ℕ) → NoItems (ask v)) → NoItems (octetsQuestion o ask)
+octets-no-items (octets v) ask n = n v
+octets-no-items notOctets ask n = tt
+
+pub profile-no-items : (ws : List (List ℕ)) → NoItems (profileQuestion ws)
+profile-no-items ws = octets-no-items (loneOctets ws) (λ v. profileIn v) (λ v. tt)
+
+pub component-no-items : (f : NumberedFields) → NoItems (componentQuestion f)
+component-no-items (numbered word number) = octets-no-items (octetsWord word) (λ v. componentIn v number) (λ v. tt)
+component-no-items notNumbered = tt

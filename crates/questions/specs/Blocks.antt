@@ -2,7 +2,8 @@
 --   lineRoom         the characters that are kept of a line: one more than a line may have tells an over-long one
 --   tableRoom        the numbers of a table for 16,384 items
 --   longest          the characters of the longest answer: three numbers of at most 20 digits, `ok` and four spaces; and 16,384 items of three
---                    such numbers, two colons and a comma or an LF, which are more than the digits of 16,391 octets
+--                    such numbers, two colons and a comma or an LF, which are more than the digits of 16,391 octets, or of a profile's host and
+--                    key, each within 16,384 octets, and three numbers beside them
 --   answersOf        the text that lines are answered: "each output line its answer"
 --   answersAfter     the text that is owed where characters of a line are kept, by the input that is left
 --   BlockAnswered    what a call ensures

@@ -1,14 +1,14 @@
 -- What the private functions of the crate promise each other; nothing that a caller is told rests on these names.
 --   octetsRead    what a word is as octets, by the answer and the memory that they were written into
 --   countOf       how many octets are written
---   WordRead      what a word stands for was read, and is within the memory
+--   OctetsRead    octets that words stand for, or that they stand for none, were read and are within the memory
 --   aboutRead     the value that is asked about, by the answer and the memory that the octets were written into
 --   typesOf       how many octets of the type are written
 --   valuesOf      how many octets of the value are written
 --   AboutRead     the words of a value were read, and the octets are within the memory
 --   numbersOf     how many numbers of the table an answer has
 --   Replied       a question's answer was found, and its items are in the table
---   octetsMost    the most octets of a rewritten value, seven more than a value may have
+--   octetsMost    the most octets of a rewritten value, seven more than a value or a profile body may have
 --   octetsOf      how many octets of the memory an answer has
 --   Held          a question's answer was found, and its octets are in the memory
 use mathlib.Core.Path.{_≡_}
@@ -20,13 +20,13 @@ use Rattle.reading.specs.Sinks.{source}
 use Rattle.words.specs.declared.Subject.{Subject}
 use Rattle.words.specs.Inner.{subjectWords}
 use Rattle.printing.specs.declared.Reply.{Reply}
-use Rattle.printing.specs.declared.Reply.the-variants.{Typed, Read, Refused, Unread, Signed, Unsigned, Single, Double, Rewritten, NoQuestion}
+use Rattle.printing.specs.declared.Reply.the-variants.{Typed, Read, Refused, Unread, Signed, Unsigned, Single, Double, Rewritten, Profiled, Component, NoQuestion}
 use Rattle.printing.specs.Items.{itemsOf}
 use Rattle.questions.specs.declared.octets.Octets.{Octets}
 use Rattle.questions.specs.declared.octets.Octets.the-variants.{Count, NotOctets}
 use Rattle.questions.specs.declared.about.About.{About}
 use Rattle.questions.specs.declared.about.About.the-variants.{Is, NotAbout}
-use Rattle.questions.specs.Octets.{Octets as OctetsOf, octets, notOctets, octetsWord}
+use Rattle.questions.specs.Octets.{Octets as OctetsOf, octets, notOctets}
 use Rattle.questions.specs.Questions.{Question, About as AboutOf, about, notAbout, aboutOf}
 use Rattle.questions.specs.Replies.{replyTo, itemsIn, octetsIn}
 
@@ -38,8 +38,8 @@ abbrev pub countOf : Octets → ℕ
 countOf (Count n) = n
 countOf NotOctets = 0
 
-pub record WordRead (word : List ℕ) (r : Octets) (memory : List ℕ) : Type 0 where
-  pub stands : octetsRead r memory ≡ octetsWord word
+pub record OctetsRead (o : OctetsOf) (r : Octets) (memory : List ℕ) : Type 0 where
+  pub stands : octetsRead r memory ≡ o
   pub within : countOf r ≤ length memory
 
 abbrev pub aboutRead : About → List ℕ → List ℕ → AboutOf
@@ -69,6 +69,8 @@ numbersOf (Unsigned x) = 0
 numbersOf (Single x) = 0
 numbersOf (Double x) = 0
 numbersOf (Rewritten count) = 0
+numbersOf (Profiled said count) = 0
+numbersOf (Component tag part count) = 0
 numbersOf NoQuestion = 0
 
 pub record Replied (q : Question) (r : Reply) (table : List ℕ) : Type 0 where
@@ -81,6 +83,8 @@ octetsMost = 16391
 
 abbrev pub octetsOf : Reply → ℕ
 octetsOf (Rewritten count) = count
+octetsOf (Profiled said count) = count
+octetsOf (Component tag part count) = count
 octetsOf (Typed used kinds) = 0
 octetsOf (Read used visits count) = 0
 octetsOf (Refused number) = 0

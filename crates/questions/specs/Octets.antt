@@ -3,6 +3,7 @@
 --   Octets        the octets, or that it stands for none
 --   isOctets      "hexadecimal of either case", an even number of digits and at least two
 --   octetsWord    "octets are hexadecimal of either case, `-` for none"
+--   loneOctets    the octets that the only word stands for; more words stand for none
 use mathlib.Core.List.{List, [], _∷_}
 use mathlib.Core.Bool.{Bool, not, _&&_}
 use Prim.Native.Nat.{ℕ, _%_}
@@ -27,3 +28,8 @@ octetsWord word =
     choose (sameWord word noneWord) (λ _. octets [])
     (λ _. choose (isOctets word) (λ _. octets (lineOctets word))
     (λ _. notOctets))
+
+abbrev pub loneOctets : List (List ℕ) → Octets
+loneOctets [] = notOctets
+loneOctets (word ∷ []) = octetsWord word
+loneOctets (word ∷ more ∷ rest) = notOctets

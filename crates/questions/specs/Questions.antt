@@ -1,10 +1,10 @@
 -- What a line asks: "each input line is a question".
 --   lineMost                   the most characters of a line
---   typeWord .. rewriteWord    the words `type`, `value`, `item` and `rewrite`
+--   typeWord .. componentWord  the words `type`, `value`, `item`, `rewrite`, `profile` and `component`
 --   Question                   the check of octets as a type in a byte order; the reading of a value under a type, with room for so many items;
---                              an item of it by number; the value rewritten in a chosen order and index, with room for so many octets; or no
---                              question
---   typeOctets                 the question by the octets that TYPE stands for
+--                              an item of it by number; the value rewritten in a chosen order and index, with room for so many octets; the
+--                              reading of octets as a profile body; a component of it by number; or no question
+--   octetsQuestion             the question by the octets that a word stands for
 --   orderedType                by the words behind ORDER: TYPE, and no more
 --   namedType                  by the order that ORDER names
 --   typeQuestion               by the words behind `type`: ORDER and those behind it
@@ -14,7 +14,10 @@
 --   onAbout                    the question about a value
 --   aboutQuestion              by the words behind `value` or `item`: about a value, with ROOM or NUMBER
 --   rewriteQuestion            by the words behind `rewrite`: about a value, with the chosen order, START the chosen index, and ROOM
---   questionFrom               by the words of a line: the first says what is asked
+--   profileQuestion            by the words behind `profile`: OCTETS, and no more
+--   componentQuestion          by the words behind `component`: about OCTETS, with NUMBER
+--   wordQuestion               by the first word of a line, which says what is asked, and those behind it
+--   questionFrom               by the words of a line
 --   questionOf                 by a line; one of more characters than a line may have is no question
 use mathlib.Core.List.{List, [], _∷_}
 use Prim.Native.Nat.{ℕ}
@@ -27,9 +30,9 @@ use Rattle.cdr.specs.declared.Named.the-variants.{Is, NoOrder}
 use Rattle.cdr.specs.Align.{indexOf}
 use Rattle.reading.specs.Sinks.{Source, source}
 use Rattle.words.specs.Words.{words, sameWord, orderWord}
-use Rattle.words.specs.Fields.{SubjectOf, FieldsOf, are, notFields, fieldsOf, RewriteFields, rewrites, notRewrite, rewriteFieldsOf}
+use Rattle.words.specs.Fields.{SubjectOf, FieldsOf, are, notFields, fieldsOf, RewriteFields, rewrites, notRewrite, rewriteFieldsOf, NumberedFields, numbered, notNumbered, numberedFieldsOf}
 use Rattle.written.specs.Written.{Target, target}
-use Rattle.questions.specs.Octets.{Octets, octets, notOctets, octetsWord}
+use Rattle.questions.specs.Octets.{Octets, octets, notOctets, octetsWord, loneOctets}
 
 abbrev pub lineMost : ℕ
 lineMost = 131072
@@ -46,21 +49,27 @@ itemWord = 105 ∷ 116 ∷ 101 ∷ 109 ∷ []
 abbrev pub rewriteWord : List ℕ
 rewriteWord = 114 ∷ 101 ∷ 119 ∷ 114 ∷ 105 ∷ 116 ∷ 101 ∷ []
 
+abbrev pub profileWord : List ℕ
+profileWord = 112 ∷ 114 ∷ 111 ∷ 102 ∷ 105 ∷ 108 ∷ 101 ∷ []
+
+abbrev pub componentWord : List ℕ
+componentWord = 99 ∷ 111 ∷ 109 ∷ 112 ∷ 111 ∷ 110 ∷ 101 ∷ 110 ∷ 116 ∷ []
+
 pub data Question : Type 0 where
   typeIn : Order → List ℕ → Question
   valueIn : Order → List ℕ → Source → (room : ℕ) → Question
   itemIn : Order → List ℕ → Source → (number : ℕ) → Question
   rewriteIn : Order → List ℕ → Source → Target → (room : ℕ) → Question
+  profileIn : List ℕ → Question
+  componentIn : List ℕ → (number : ℕ) → Question
   noQuestion : Question
 
-abbrev pub typeOctets : Order → Octets → Question
-typeOctets order (octets v) = typeIn order v
-typeOctets order notOctets = noQuestion
+abbrev pub octetsQuestion : Octets → (List ℕ → Question) → Question
+octetsQuestion (octets v) ask = ask v
+octetsQuestion notOctets ask = noQuestion
 
 abbrev pub orderedType : Order → List (List ℕ) → Question
-orderedType order [] = noQuestion
-orderedType order (type ∷ []) = typeOctets order (octetsWord type)
-orderedType order (type ∷ more ∷ rest) = noQuestion
+orderedType order rest = octetsQuestion (loneOctets rest) (λ v. typeIn order v)
 
 abbrev pub namedType : Named → List (List ℕ) → Question
 namedType (Is order) rest = orderedType order rest
@@ -97,14 +106,26 @@ rewriteQuestion (rewrites subject chosen index room) =
     onAbout (aboutOf subject) (λ order t x. rewriteIn order t x (target chosen (indexOf index)) room)
 rewriteQuestion notRewrite = noQuestion
 
-abbrev pub questionFrom : List (List ℕ) → Question
-questionFrom [] = noQuestion
-questionFrom (word ∷ rest) =
+abbrev pub profileQuestion : List (List ℕ) → Question
+profileQuestion rest = octetsQuestion (loneOctets rest) (λ v. profileIn v)
+
+abbrev pub componentQuestion : NumberedFields → Question
+componentQuestion (numbered word number) = octetsQuestion (octetsWord word) (λ v. componentIn v number)
+componentQuestion notNumbered = noQuestion
+
+unfoldable pub wordQuestion : List ℕ → List (List ℕ) → Question
+wordQuestion word rest =
     choose (sameWord word typeWord) (λ _. typeQuestion rest)
     (λ _. choose (sameWord word valueWord) (λ _. aboutQuestion valueIn (fieldsOf rest))
     (λ _. choose (sameWord word itemWord) (λ _. aboutQuestion itemIn (fieldsOf rest))
     (λ _. choose (sameWord word rewriteWord) (λ _. rewriteQuestion (rewriteFieldsOf rest))
-    (λ _. noQuestion))))
+    (λ _. choose (sameWord word profileWord) (λ _. profileQuestion rest)
+    (λ _. choose (sameWord word componentWord) (λ _. componentQuestion (numberedFieldsOf rest))
+    (λ _. noQuestion))))))
+
+abbrev pub questionFrom : List (List ℕ) → Question
+questionFrom [] = noQuestion
+questionFrom (word ∷ rest) = wordQuestion word rest
 
 unfoldable pub questionOf : List ℕ → Question
 questionOf line = choose (ltb lineMost (length line)) (λ _. noQuestion) (λ _. questionFrom (words line))

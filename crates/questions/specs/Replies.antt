@@ -4,17 +4,29 @@
 --   itemShown     an item by its case and its bits
 --   itemReply     what an item of a value gives
 --   rewriteReply  what rewriting a value gives
+--   profileReply  what the reading of a profile body of n octets gives
+--   componentReply
+--                 what a component of a body of n octets gives
 --   mostItems     "above 16,384 it means 16,384"
 --   roomOf        the items that ROOM means
 --   replyTo       the answer of a question: "a line that is no question is answered `?`"
 --   itemsGiven    the items of an accepted value
 --   itemsIn       the items that stand in the answer
 --   octetsGiven   the octets of a rewritten value
---   octetsIn      the octets that stand in the answer
+--   bodyRead      a body that was read
+--   bodyOf        a body of which a component was found
+--   octetsIn      the octets that the answer is written from
 --   answerLine    the text that a line is answered, its LF included
 use mathlib.Core.List.{List, []}
 use Prim.Native.Nat.{ℕ, zero, suc, min}
+use lib.ListN.{length}
 use Rattle.items.specs.Items.{caseOf, bitsOf}
+use Rattle.parts.specs.Parts.{refusalNumber}
+use Rattle.profile.specs.declared.ProfileAnswer.{ProfileAnswer}
+use Rattle.profile.specs.declared.ProfileAnswer.the-variants.{Read as says, Refused as notRead}
+use Rattle.profile.specs.declared.ComponentAnswer.{ComponentAnswer}
+use Rattle.profile.specs.declared.ComponentAnswer.the-variants.{Found, Refused as notFound}
+use Rattle.profile.specs.Profile.{profileOf, componentOf}
 use Rattle.reading.specs.declared.ValueAnswer.{ValueAnswer}
 use Rattle.reading.specs.declared.ValueAnswer.the-variants.{Accepted as accepted, Refused as notAccepted}
 use Rattle.reading.specs.Sinks.{Item}
@@ -24,7 +36,7 @@ use Rattle.typecode.specs.declared.TypeAnswer.{TypeAnswer}
 use Rattle.typecode.specs.declared.TypeAnswer.the-variants.{Accepted as ok, Refused as refused, Loop}
 use Rattle.typecode.specs.TypeCode.{answerNumber, checkedType}
 use Rattle.printing.specs.declared.Reply.{Reply}
-use Rattle.printing.specs.declared.Reply.the-variants.{Typed, Read, Refused, Unread, Signed, Unsigned, Single, Double, Rewritten, NoQuestion}
+use Rattle.printing.specs.declared.Reply.the-variants.{Typed, Read, Refused, Unread, Signed, Unsigned, Single, Double, Rewritten, Profiled, Component, NoQuestion}
 use Rattle.printing.specs.Replies.{replyText}
 use Rattle.value.specs.declared.ItemAnswer.{ItemAnswer}
 use Rattle.value.specs.declared.ItemAnswer.the-variants.{Given, Refused as noItem}
@@ -32,7 +44,7 @@ use Rattle.value.specs.Single.{itemAnswer}
 use Rattle.written.specs.declared.RewriteAnswer.{RewriteAnswer}
 use Rattle.written.specs.declared.RewriteAnswer.the-variants.{Accepted as writtenTo, Refused as notWritten}
 use Rattle.written.specs.Rewriting.{rewriteAnswer, rewritten}
-use Rattle.questions.specs.Questions.{Question, typeIn, valueIn, itemIn, rewriteIn, noQuestion, questionOf}
+use Rattle.questions.specs.Questions.{Question, typeIn, valueIn, itemIn, rewriteIn, profileIn, componentIn, noQuestion, questionOf}
 
 abbrev pub typeReply : TypeAnswer → Reply
 typeReply (ok used kinds) = Typed used kinds
@@ -57,6 +69,14 @@ abbrev pub rewriteReply : RewriteAnswer → Reply
 rewriteReply (writtenTo count) = Rewritten count
 rewriteReply (notWritten number) = Refused number
 
+abbrev pub profileReply : ProfileAnswer → (n : ℕ) → Reply
+profileReply (says p) n = Profiled p n
+profileReply (notRead why) n = Refused (refusalNumber why)
+
+abbrev pub componentReply : ComponentAnswer → (n : ℕ) → Reply
+componentReply (Found tag part) n = Component tag part n
+componentReply (notFound why) n = Refused (refusalNumber why)
+
 abbrev pub mostItems : ℕ
 mostItems = 16384
 
@@ -68,6 +88,8 @@ replyTo (typeIn order v) = typeReply (checkedType v order .answer)
 replyTo (valueIn order t x room) = valueReply (valueAnswer t order x (roomOf room))
 replyTo (itemIn order t x number) = itemReply (itemAnswer t order x number)
 replyTo (rewriteIn order t x to room) = rewriteReply (rewriteAnswer t order x to room)
+replyTo (profileIn v) = profileReply (profileOf v) (length v)
+replyTo (componentIn v number) = componentReply (componentOf v number) (length v)
 replyTo noQuestion = NoQuestion
 
 abbrev pub itemsGiven : ValueAnswer → List Item → List Item
@@ -80,17 +102,29 @@ itemsIn (valueIn order t x room) =
     itemsGiven (valueAnswer t order x (roomOf room)) (readingOf (roomFor (roomOf room)) t order x .kept .items)
 itemsIn (itemIn order t x number) = []
 itemsIn (rewriteIn order t x to room) = []
+itemsIn (profileIn v) = []
+itemsIn (componentIn v number) = []
 itemsIn noQuestion = []
 
 abbrev pub octetsGiven : RewriteAnswer → List ℕ → List ℕ
 octetsGiven (writtenTo count) xs = xs
 octetsGiven (notWritten number) xs = []
 
+abbrev pub bodyRead : ProfileAnswer → List ℕ → List ℕ
+bodyRead (says p) v = v
+bodyRead (notRead why) v = []
+
+abbrev pub bodyOf : ComponentAnswer → List ℕ → List ℕ
+bodyOf (Found tag part) v = v
+bodyOf (notFound why) v = []
+
 abbrev pub octetsIn : Question → List ℕ
 octetsIn (typeIn order v) = []
 octetsIn (valueIn order t x room) = []
 octetsIn (itemIn order t x number) = []
 octetsIn (rewriteIn order t x to room) = octetsGiven (rewriteAnswer t order x to room) (rewritten t order x to)
+octetsIn (profileIn v) = bodyRead (profileOf v) v
+octetsIn (componentIn v number) = bodyOf (componentOf v number) v
 octetsIn noQuestion = []
 
 unfoldable pub answerLine : List ℕ → List ℕ

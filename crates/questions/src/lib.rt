@@ -1,10 +1,11 @@
-// Questions, one a line, and the text of their answers: the check of a TypeCode, the reading of a value, one of its items, and a value
-// rewritten.
+// Questions, one a line, and the text of their answers: the check of a TypeCode, the reading of a value, one of its items, a value rewritten,
+// the reading of a profile body, and one of its components.
 ghost use mathlib.Core.Path.{_≡_};
 ghost use Prim.Native.Nat.{_^_, _<_, _≤_};
 ghost use lib.ListN.{length};
 ghost use Rattle.writing.specs.Write.{Stored};
-ghost use Rattle.questions.specs.Questions.{questionOf};
+ghost use Rattle.words.specs.Words.{words};
+ghost use Rattle.questions.specs.Questions.{lineMost, wordQuestion, questionOf};
 ghost use Rattle.questions.specs.Replies.{answerLine};
 ghost use Rattle.questions.specs.Inner.{numbersOf, Replied, octetsMost, octetsOf, Held};
 ghost use Rattle.questions.specs.Blocks.{tableRoom, BlockAnswered};
@@ -14,6 +15,7 @@ use writing::Written;
 mod about;
 mod block;
 mod octets;
+mod profiles;
 mod rewrites;
 mod types;
 mod values;
@@ -28,7 +30,8 @@ pub const LINE_ROOM: usize = 131073;
 pub const TABLE_ROOM: usize = 49152;
 
 // The characters of the longest answer: three numbers of at most 20 digits, `ok` and four spaces; and 16,384 items of three such numbers,
-// two colons and a comma or an LF, which are more than the digits of 16,391 octets.
+// two colons and a comma or an LF, which are more than the digits of 16,391 octets, or of a profile's host and key, each within 16,384 octets,
+// and three numbers beside them.
 pub const LONGEST: usize = 1032258;
 
 // Where a call stands: the characters kept of the line begun, the next character of the block, and the characters of output filled.
@@ -96,6 +99,8 @@ fn numbers_of(reply: Reply) -> usize
         | Reply::Single(_)
         | Reply::Double(_)
         | Reply::Rewritten(_)
+        | Reply::Profiled(_, _)
+        | Reply::Component(_, _, _)
         | Reply::NoQuestion => 0,
     }
 }
@@ -106,6 +111,8 @@ fn octets_of(reply: Reply) -> usize
 {
     match reply {
         Reply::Rewritten(count) => count,
+        Reply::Profiled(_, count) => count,
+        Reply::Component(_, _, count) => count,
         Reply::Typed { used: _, kinds: _ }
         | Reply::Read {
             used: _,
@@ -125,7 +132,7 @@ fn octets_of(reply: Reply) -> usize
     }
 }
 
-// What a line is answered, by its first word; a value's items are left in `table`, a rewritten value's octets in `memory`.
+// What a line is answered; a value's items are left in `table`, a rewritten value's octets or a profile body in `memory`.
 fn reply_to(line: &[u8], table: &mut [u64], memory: &mut [u8]) -> Reply
     requires { ⌜ (tableRoom ≤ length (now table)) × (octetsMost ≤ length (now memory)) ⌝ }
     ensures { λ r. ⌜ (Replied (questionOf (now (line .entry))) r (now (table .exit))) × Held (questionOf (now (line .entry))) r (now (memory .exit)) ⌝ }
@@ -137,17 +144,31 @@ fn reply_to(line: &[u8], table: &mut [u64], memory: &mut [u8]) -> Reply
     if end == line.len() {
         return Reply::NoQuestion;
     }
-    if words::same(&line[..end], b"type") {
-        return types::reply_type(&line[end + 1..]);
+    reply_words(&line[..end], &line[end + 1..], table, memory)
+}
+
+// What the first word of a line and those behind it are answered.
+fn reply_words(word: &[u8], rest: &[u8], table: &mut [u64], memory: &mut [u8]) -> Reply
+    requires { ⌜ (length (now rest) ≤ lineMost) × (tableRoom ≤ length (now table)) × (octetsMost ≤ length (now memory)) ⌝ }
+    ensures { λ r. ⌜ (Replied (wordQuestion (now (word .entry)) (words (now (rest .entry)))) r (now (table .exit))) × Held (wordQuestion (now (word .entry)) (words (now (rest .entry)))) r (now (memory .exit)) ⌝ }
+{
+    if words::same(word, b"type") {
+        return types::reply_type(rest);
     }
-    if words::same(&line[..end], b"value") {
-        return values::reply_value(&line[end + 1..], table);
+    if words::same(word, b"value") {
+        return values::reply_value(rest, table);
     }
-    if words::same(&line[..end], b"item") {
-        return values::reply_item(&line[end + 1..]);
+    if words::same(word, b"item") {
+        return values::reply_item(rest);
     }
-    if words::same(&line[..end], b"rewrite") {
-        return rewrites::reply_rewrite(&line[end + 1..], memory);
+    if words::same(word, b"rewrite") {
+        return rewrites::reply_rewrite(rest, memory);
+    }
+    if words::same(word, b"profile") {
+        return profiles::reply_profile(rest, memory);
+    }
+    if words::same(word, b"component") {
+        return profiles::reply_component(rest, memory);
     }
     Reply::NoQuestion
 }

@@ -1,7 +1,9 @@
 // The octets that a word stands for.
 ghost use Prim.Native.Nat.{_*_, _≤_};
 ghost use lib.ListN.{length};
-ghost use Rattle.questions.specs.Inner.{WordRead};
+ghost use Rattle.words.specs.Words.{words};
+ghost use Rattle.questions.specs.Octets.{octetsWord, loneOctets};
+ghost use Rattle.questions.specs.Inner.{OctetsRead};
 use hexline::Decoded;
 
 // The most octets that a line has the digits of.
@@ -16,7 +18,7 @@ pub(crate) enum Octets {
 // The octets that a word stands for, written from the start of `octets`.
 pub(crate) fn read(word: &[u8], octets: &mut [u8]) -> Octets
     requires { ⌜ length (now word) ≤ length (now octets) * 2 ⌝ }
-    ensures { λ r. ⌜ WordRead (now (word .entry)) r (now (octets .exit)) ⌝ }
+    ensures { λ r. ⌜ OctetsRead (octetsWord (now (word .entry))) r (now (octets .exit)) ⌝ }
 {
     if words::same(word, b"-") {
         return Octets::Count(0);
@@ -28,4 +30,15 @@ pub(crate) fn read(word: &[u8], octets: &mut [u8]) -> Octets
         return Octets::NotOctets;
     };
     Octets::Count(n)
+}
+
+// The octets that the only word of a line stands for, written from the start of `octets`.
+pub(crate) fn read_lone(line: &[u8], octets: &mut [u8]) -> Octets
+    requires { ⌜ length (now line) ≤ length (now octets) * 2 ⌝ }
+    ensures { λ r. ⌜ OctetsRead (loneOctets (words (now (line .entry)))) r (now (octets .exit)) ⌝ }
+{
+    if words::first_end(line) < line.len() {
+        return Octets::NotOctets;
+    }
+    read(line, octets)
 }

@@ -33,11 +33,8 @@ fn reply_ordered(order: Order, rest: &[u8]) -> Reply
     requires { ⌜ length (now rest) ≤ lineMost ⌝ }
     ensures { λ r. ⌜ r ≡ replyTo (orderedType order (words (now (rest .entry)))) ⌝ }
 {
-    if words::first_end(rest) < rest.len() {
-        return Reply::NoQuestion;
-    }
     let mut memory = [0u8; octets::MOST];
-    let Octets::Count(n) = octets::read(rest, &mut memory) else {
+    let Octets::Count(n) = octets::read_lone(rest, &mut memory) else {
         return Reply::NoQuestion;
     };
     check(&memory[..n], order)

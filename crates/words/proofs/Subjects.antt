@@ -1,13 +1,17 @@
--- The words of the questions about a value, one after the other.
+-- The words of the questions about a value or a component, one after the other.
 use mathlib.Core.Path.{_≡_}
 use mathlib.Core.List.{List}
-use Prim.Native.Nat.{ℕ, _+_, _<_, _≤_}
+use Prim.Native.Nat.{ℕ, _+_, _-_, _<_, _≤_}
+use native.Mathlib.Omega.{arith}
 use lib.ListN.{length}
 use Rattle.cdr.specs.declared.Order.{Order}
 use Rattle.words.specs.declared.Coded.{Coded}
 use Rattle.words.specs.declared.Subject.{Subject}
 use Rattle.words.specs.declared.Fields.the-variants.{Are, NotFields}
 use Rattle.words.specs.declared.Rewrite.the-variants.{Asks, NotRewrite}
+use Rattle.words.specs.declared.Numbered.the-variants.{Is as IsNumbered, NotNumbered}
+use Rattle.words.specs.declared.places.Word.{Word}
+use Rattle.words.specs.declared.places.Word.the-variants.{Upto, NoWord}
 use Rattle.words.specs.declared.places.Ordered.{Ordered}
 use Rattle.words.specs.declared.places.Ordered.the-variants.{Is as IsOrder, NotOrder}
 use Rattle.words.specs.declared.places.Pair.{Pair}
@@ -16,9 +20,9 @@ use Rattle.words.specs.declared.places.Count.{Count}
 use Rattle.words.specs.declared.places.Count.the-variants.{Is as IsCount, NotNumber}
 use Rattle.words.specs.declared.places.About.{About}
 use Rattle.words.specs.declared.places.About.the-variants.{Is as IsAbout, NotAbout}
-use Rattle.words.specs.Fields.{orderFirst, numberFirst, subjectFirst, fieldsOf, rewriteFieldsOf}
-use Rattle.words.specs.Inner.{left, orderAt, CodedRead, numberAt, WithinSubject, SubjectRead, FieldsRead, RewriteRead}
-use Rattle.words.proofs.Left.{none-left, all-left, coded-within, more-left}
+use Rattle.words.specs.Fields.{orderFirst, numberFirst, subjectFirst, fieldsOf, rewriteFieldsOf, numberedFieldsOf}
+use Rattle.words.specs.Inner.{left, WordAt, orderAt, CodedRead, numberAt, WithinSubject, SubjectRead, FieldsRead, RewriteRead, NumberedRead}
+use Rattle.words.proofs.Left.{none-left, all-left, word-within, coded-within, more-left}
 
 -- the words of a value
 module _ (line : List ℕ) (a : Pair) (p : CodedRead line 0 a) where
@@ -96,3 +100,25 @@ module _ (line : List ℕ) (a : About) (p : SubjectRead line a) where
             pub rewrite-asks : length line < end → RewriteRead line (Asks (record { subject = s; order = order; index = index; room = room }))
             unfolding rewriteFieldsOf
             rewrite-asks k = record { read = rw (← p .read, e, ← q, f, ← r, g, ← t, h, none-left line end k); within = subject-within }
+
+-- those behind `component`
+module _ (line : List ℕ) (w : Word) (p : WordAt line 0 w) where
+  pub numbered-none : w ≡ NoWord → NumberedRead line NotNumbered
+  unfolding numberedFieldsOf
+  numbered-none e = record { read = rw (← all-left line, p .found, e); within = tt }
+
+  module _ (end : ℕ) (e : w ≡ Upto end) (n : Count) (q : numberAt n line ≡ numberFirst (left line (end + 1))) where
+    pub word-alone : n ≡ NotNumber → NumberedRead line NotNumbered
+    unfolding numberedFieldsOf
+    word-alone f = record { read = rw (← all-left line, p .found, e, ← q, f); within = tt }
+
+    module _ (number next : ℕ) (f : n ≡ IsCount number next) where
+      pub numbered-more : next ≤ length line → NumberedRead line NotNumbered
+      unfolding numberedFieldsOf
+      numbered-more k = record { read = rw (← all-left line, p .found, e, ← q, f) (more-left line next _ _ k); within = tt }
+
+      pub numbered-is : length line < next → NumberedRead line (IsNumbered end number)
+      unfolding numberedFieldsOf
+      numbered-is k =
+          let z : end - 0 ≡ end = omega arith in
+          record { read = rw (← all-left line, p .found, e, ← q, f, none-left line next k, z); within = word-within p end e .inside }

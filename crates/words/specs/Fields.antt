@@ -1,4 +1,5 @@
--- The words of a question about a value: "ORDER TYPE ORDER VALUE START" and ROOM, NUMBER, or "ORDER START ROOM".
+-- The words of a question about a value: "ORDER TYPE ORDER VALUE START" and ROOM, NUMBER, or "ORDER START ROOM"; and of one about a component:
+-- "OCTETS NUMBER".
 --   First             what the first words stand for, and the words behind them; or that they do not stand for it
 --   onFirst           what follows where they do
 --   wordFirst         any word
@@ -17,6 +18,8 @@
 --   fieldsOf          by the words behind `value` or `item`
 --   RewriteFields     a value, the chosen order and index, and ROOM; or that the words are others
 --   rewriteFieldsOf   by the words behind `rewrite`
+--   NumberedFields    a word, and NUMBER; or that the words are others
+--   numberedFieldsOf  by the words behind `component`
 use mathlib.Core.List.{List, [], _∷_}
 use Prim.Native.Nat.{ℕ}
 use Rattle.cdr.specs.declared.Order.{Order}
@@ -103,3 +106,13 @@ rewriteFieldsOf ws =
     (λ order behindOrder. onFirst (numberFirst behindOrder) notRewrite
     (λ index behindIndex. onFirst (numberFirst behindIndex) notRewrite
     (λ room behindRoom. noMore behindRoom (rewrites subject order index room) notRewrite))))
+
+pub data NumberedFields : Type 0 where
+  numbered : (word : List ℕ) (number : ℕ) → NumberedFields
+  notNumbered : NumberedFields
+
+unfoldable pub numberedFieldsOf : List (List ℕ) → NumberedFields
+numberedFieldsOf ws =
+    onFirst (wordFirst ws) notNumbered
+    (λ word behindWord. onFirst (numberFirst behindWord) notNumbered
+    (λ number behindNumber. noMore behindNumber (numbered word number) notNumbered))

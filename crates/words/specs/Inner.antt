@@ -22,6 +22,9 @@
 --   rewriteAt      the words behind `rewrite`, by the answer
 --   WithinRewrite  the two words that the answer has are within the line
 --   RewriteRead    they were read
+--   numberedAt     the words behind `component`, by the answer
+--   WithinNumbered the first of them is within the line
+--   NumberedRead   they were read
 use mathlib.Core.Path.{_≡_}
 use mathlib.Core.List.{List, [], _∷_}
 use Prim.Native.Nat.{ℕ, _+_, _-_, _≤_}
@@ -35,6 +38,8 @@ use Rattle.words.specs.declared.Fields.{Fields}
 use Rattle.words.specs.declared.Fields.the-variants.{Are, NotFields}
 use Rattle.words.specs.declared.Rewrite.{Rewrite}
 use Rattle.words.specs.declared.Rewrite.the-variants.{Asks, NotRewrite}
+use Rattle.words.specs.declared.Numbered.{Numbered}
+use Rattle.words.specs.declared.Numbered.the-variants.{Is as IsNumbered, NotNumbered}
 use Rattle.words.specs.declared.places.Word.{Word}
 use Rattle.words.specs.declared.places.Word.the-variants.{Upto, NoWord}
 use Rattle.words.specs.declared.places.Ordered.{Ordered}
@@ -46,7 +51,7 @@ use Rattle.words.specs.declared.places.Count.the-variants.{Is as IsCount
 use Rattle.words.specs.declared.places.About.{About}
 use Rattle.words.specs.declared.places.About.the-variants.{Is as IsAbout, NotAbout}
 use Rattle.words.specs.Words.{words}
-use Rattle.words.specs.Fields.{First, first, none, WordIn, wordIn, codedFirst, SubjectOf, subjectOf, subjectFirst, FieldsOf, are, notFields, fieldsOf, RewriteFields, rewrites, notRewrite, rewriteFieldsOf}
+use Rattle.words.specs.Fields.{First, first, none, WordIn, wordIn, codedFirst, SubjectOf, subjectOf, subjectFirst, FieldsOf, are, notFields, fieldsOf, RewriteFields, rewrites, notRewrite, rewriteFieldsOf, NumberedFields, numbered, notNumbered, numberedFieldsOf}
 
 unfoldable pub left : List ℕ → ℕ → List (List ℕ)
 left line from = choose (ltb (length line) from) (λ _. []) (λ _. words (drop from line))
@@ -134,3 +139,15 @@ WithinRewrite NotRewrite line = Unit {0}
 pub record RewriteRead (line : List ℕ) (r : Rewrite) : Type 0 where
   pub read : rewriteAt r line ≡ rewriteFieldsOf (words line)
   pub within : WithinRewrite r line
+
+abbrev pub numberedAt : Numbered → List ℕ → NumberedFields
+numberedAt (IsNumbered end number) line = numbered (take end line) number
+numberedAt NotNumbered line = notNumbered
+
+abbrev pub WithinNumbered : Numbered → List ℕ → Type 0
+WithinNumbered (IsNumbered end number) line = end ≤ length line
+WithinNumbered NotNumbered line = Unit {0}
+
+pub record NumberedRead (line : List ℕ) (r : Numbered) : Type 0 where
+  pub read : numberedAt r line ≡ numberedFieldsOf (words line)
+  pub within : WithinNumbered r line

@@ -1,14 +1,15 @@
 // The words of a line: where they end, whether two are the same, the orders and numbers that they name, and the words of the questions about
-// a value.
+// a value or a component.
 ghost use mathlib.Core.Path.{_≡_};
 ghost use Rattle.words.specs.Words.{sameWord, orderWord};
 ghost use Rattle.words.specs.Found.{FirstWord};
-ghost use Rattle.words.specs.Inner.{FieldsRead, RewriteRead};
+ghost use Rattle.words.specs.Inner.{FieldsRead, RewriteRead, NumberedRead};
 use cdr::Named;
 use cdr::Order;
 use places::About;
 use places::Count;
 use places::Ordered;
+use places::Word;
 
 mod places;
 
@@ -52,6 +53,12 @@ pub struct Chosen {
 pub enum Rewrite {
     Asks(Chosen),
     NotRewrite,
+}
+
+// What a line's words are as those behind `component`: the end of the first, and NUMBER.
+pub enum Numbered {
+    Is { end: usize, number: u64 },
+    NotNumbered,
 }
 
 // Where the first word ends: at the first space, or the end.
@@ -151,4 +158,20 @@ pub fn read_rewrite(line: &[u8]) -> Rewrite
         index,
         room,
     })
+}
+
+// The words behind `component`, where a line has these and no more.
+pub fn read_numbered(line: &[u8]) -> Numbered
+    ensures { λ r. ⌜ NumberedRead (now (line .entry)) r ⌝ }
+{
+    let Word::Upto(end) = places::word_at(line, 0) else {
+        return Numbered::NotNumbered;
+    };
+    let Count::Is { number, next } = places::number_at(line, end + 1) else {
+        return Numbered::NotNumbered;
+    };
+    if next <= line.len() {
+        return Numbered::NotNumbered;
+    }
+    Numbered::Is { end, number }
 }

@@ -1,4 +1,4 @@
-// The words of a question about a value, one after the other, each from its place in the line.
+// The words of a question, one after the other, each from its place in the line.
 ghost use mathlib.Core.Path.{_≡_};
 ghost use Rattle.words.specs.Fields.{orderFirst, numberFirst};
 ghost use Rattle.words.specs.Inner.{WordAt, left, orderAt, CodedRead, numberAt, SubjectRead};
@@ -9,7 +9,7 @@ use cdr::Order;
 use decimals::Number;
 
 // The end of a word, or that the words are used up.
-enum Word {
+pub(crate) enum Word {
     Upto(usize),
     NoWord,
 }
@@ -39,7 +39,7 @@ pub(crate) enum About {
 }
 
 // The word at a place. Behind the last word there is a place more than the line has characters.
-fn word_at(line: &[u8], from: usize) -> Word
+pub(crate) fn word_at(line: &[u8], from: usize) -> Word
     ensures { λ r. ⌜ WordAt (now (line .entry)) from r ⌝ }
 {
     if line.len() < from {

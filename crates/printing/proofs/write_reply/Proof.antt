@@ -1,13 +1,13 @@
--- The text before the items or octets is put into memory that has room for it, and written from there, with the items or octets.
+-- The text before the items or octets is put into memory that has room for it, and written from there, with what follows it.
 use mathlib.Core.Path.{refl, sym, ap, subst, _∙_}
 use mathlib.Core.List.{List, _++_}
 use Prim.Native.Nat.{ℕ}
 use native.Mathlib.Omega.{arith}
 use lib.Seq.{length-take-le}
 use Rattle.writing.specs.Write.{Stored}
-use Rattle.printing.specs.Items.{itemsOf, itemsText}
-use Rattle.printing.specs.Replies.{octetsText}
-use Rattle.printing.proofs.Heads.{head-end, head-is, read-text, rewritten-text, other-text}
+use Rattle.printing.specs.Items.{lf, itemsOf, itemsText}
+use Rattle.printing.specs.Replies.{octetsText, saidText, headText}
+use Rattle.printing.proofs.Heads.{head-end, head-is, read-text, rewritten-text, profiled-text, component-text, other-text}
 use borrow.Author.Needs.{needs}
 use Rattle.printing.proofs.write_reply.Statement.{statement}
 use Rattle.printing.proofs.write_reply.Tie as tie
@@ -42,8 +42,35 @@ slice-aggregate-write-2 c = sym (length-take-le _ _ (omega (arith, c .before .be
 write-requires-2 : tie.Need-write-requires-2
 write-requires-2 c κs = search needs
 
+enum-known-reply : tie.Need-enum-known-reply
+enum-known-reply c = search needs
+
 array-share-prefix-head-3 : tie.Need-array-share-prefix-head-3
-array-share-prefix-head-3 c = omega (arith, c .before .before .before .put .kept .0, head-end (c .before .before .before .before .before .before .before .before .args .reply) _ refl _ _ (c .before .before .before .put .ensures))
+array-share-prefix-head-3 c = omega (arith, c .before .before .before .before .before .put .kept .0, head-end (c .before .before .before .before .before .before .before .before .before .before .args .reply) _ refl _ _ (c .before .before .before .before .before .put .ensures))
+
+slice-aggregate-write-3 : tie.Need-slice-aggregate-write-3
+slice-aggregate-write-3 c = sym (length-take-le _ _ (omega (arith, c .before .before .before .before .before .before .put .kept .0, head-end (c .before .before .before .before .before .before .before .before .before .before .before .args .reply) _ refl _ _ (c .before .before .before .before .before .before .put .ensures))))
+
+write-requires-3 : tie.Need-write-requires-3
+write-requires-3 c κs = search needs
+
+enum-known-reply-2 : tie.Need-enum-known-reply-2
+enum-known-reply-2 c = search needs
+
+array-share-prefix-head-4 : tie.Need-array-share-prefix-head-4
+array-share-prefix-head-4 c = omega (arith, c .before .before .before .before .before .put .kept .0, head-end (c .before .before .before .before .before .before .before .before .before .before .args .reply) _ refl _ _ (c .before .before .before .before .before .put .ensures))
+
+slice-aggregate-write-4 : tie.Need-slice-aggregate-write-4
+slice-aggregate-write-4 c = sym (length-take-le _ _ (omega (arith, c .before .before .before .before .before .before .put .kept .0, head-end (c .before .before .before .before .before .before .before .before .before .before .before .args .reply) _ refl _ _ (c .before .before .before .before .before .before .put .ensures))))
+
+octets-in-requires : tie.Need-octets-in-requires
+octets-in-requires c κs = search needs
+
+write-requires-4 : tie.Need-write-requires-4
+write-requires-4 c κs = search needs
+
+array-share-prefix-head-5 : tie.Need-array-share-prefix-head-5
+array-share-prefix-head-5 c = omega (arith, c .before .before .before .put .kept .0, head-end (c .before .before .before .before .before .before .before .before .args .reply) _ refl _ _ (c .before .before .before .put .ensures))
 
 slice-aggregate-write-octets : tie.Need-slice-aggregate-write-octets
 slice-aggregate-write-octets c = sym (length-take-le _ _ (omega (arith, c .before .before .before .before .put .kept .0, head-end (c .before .before .before .before .before .before .before .before .before .args .reply) _ refl _ _ (c .before .before .before .before .put .ensures))))
@@ -64,15 +91,31 @@ same-length-2 c = search needs
 
 returns-2 : tie.Need-returns-2
 returns-2 c = subst (λ (xs : List ℕ). Stored (c .before .before .before .before .before .before .before .before .before .before .before .before .before .args .out .now) (c .before .before .before .before .before .before .before .before .before .before .before .before .before .args .at) xs (c .before .before .write2 .result) (c .before .before .write2 .last .0))
-    (ap (λ (xs : List ℕ). xs ++ octetsText (c .before .before .before .before .before .before .before .before .before .before .before .before .before .args .octets .now)) (head-is (c .before .before .before .before .before .before .before .before .before .before .before .before .before .args .reply) _ refl _ _ (c .before .before .before .before .before .before .before .before .put .ensures)) ∙ rewritten-text (c .before .before .before .before .before .before .before .before .before .before .before .before .before .args .reply) (itemsOf (c .before .before .before .before .before .before .before .before .before .before .before .before .before .args .items .now)) (c .before .before .before .before .before .before .before .before .before .before .before .before .before .args .octets .now) (c .before .before .before .before .before .before .match .keys2))
+    (ap (λ (xs : List ℕ). xs ++ octetsText (c .before .before .before .before .before .before .before .before .before .before .before .before .before .args .octets .now) lf) (head-is (c .before .before .before .before .before .before .before .before .before .before .before .before .before .args .reply) _ refl _ _ (c .before .before .before .before .before .before .before .before .put .ensures)) ∙ rewritten-text (c .before .before .before .before .before .before .before .before .before .before .before .before .before .args .reply) (itemsOf (c .before .before .before .before .before .before .before .before .before .before .before .before .before .args .items .now)) (c .before .before .before .before .before .before .before .before .before .before .before .before .before .args .octets .now) (c .before .before .before .before .before .before .match .keys2))
     (c .before .before .write2 .ensures)
 
 same-length-3 : tie.Need-same-length-3
 same-length-3 c = search needs
 
 returns-3 : tie.Need-returns-3
-returns-3 c = subst (λ (xs : List ℕ). Stored (c .before .before .before .before .before .before .before .before .before .before .before .before .args .out .now) (c .before .before .before .before .before .before .before .before .before .before .before .before .args .at) xs (c .before .before .write-octets .result) (c .before .before .write-octets .last .0))
-    (head-is (c .before .before .before .before .before .before .before .before .before .before .before .before .args .reply) _ refl _ _ (c .before .before .before .before .before .before .before .put .ensures) ∙ other-text (c .before .before .before .before .before .before .before .before .before .before .before .before .args .reply) (itemsOf (c .before .before .before .before .before .before .before .before .before .before .before .before .args .items .now)) (c .before .before .before .before .before .before .before .before .before .before .before .before .args .octets .now) (c .before .before .before .before .before .match .keys3))
+returns-3 c = subst (λ (xs : List ℕ). Stored (c .before .before .before .before .before .before .before .before .before .before .before .before .before .before .args .out .now) (c .before .before .before .before .before .before .before .before .before .before .before .before .before .before .args .at) xs (c .before .before .write3 .result) (c .before .before .write3 .last .0))
+    (ap (λ (xs : List ℕ). xs ++ saidText (c .before .before .before .before .before .before .reply .given .0 .0) (c .before .before .before .before .before .before .before .before .before .before .before .before .before .before .args .octets .now)) (head-is (c .before .before .before .before .before .before .before .before .before .before .before .before .before .before .args .reply) _ refl _ _ (c .before .before .before .before .before .before .before .before .before .put .ensures)) ∙ profiled-text (c .before .before .before .before .before .before .before .before .before .before .before .before .before .before .args .reply) (itemsOf (c .before .before .before .before .before .before .before .before .before .before .before .before .before .before .args .items .now)) (c .before .before .before .before .before .before .before .before .before .before .before .before .before .before .args .octets .now) _ _ (c .before .before .before .before .before .before .reply .given .1))
+    (c .before .before .write3 .ensures)
+
+same-length-4 : tie.Need-same-length-4
+same-length-4 c = search needs
+
+returns-4 : tie.Need-returns-4
+returns-4 c = subst (λ (xs : List ℕ). Stored (c .before .before .before .before .before .before .before .before .before .before .before .before .before .before .before .args .out .now) (c .before .before .before .before .before .before .before .before .before .before .before .before .before .before .before .args .at) xs (c .before .before .write4 .result) (c .before .before .write4 .last .0))
+    (ap (λ (xs : List ℕ). xs ++ octetsText (c .before .before .before .octets-in .result .now) lf) (head-is (c .before .before .before .before .before .before .before .before .before .before .before .before .before .before .before .args .reply) _ refl _ _ (c .before .before .before .before .before .before .before .before .before .before .put .ensures)) ∙ ap (λ (ys : List ℕ). headText (c .before .before .before .before .before .before .before .before .before .before .before .before .before .before .before .args .reply) ++ octetsText ys lf) (c .before .before .before .octets-in .ensures) ∙ component-text (c .before .before .before .before .before .before .before .before .before .before .before .before .before .before .before .args .reply) (itemsOf (c .before .before .before .before .before .before .before .before .before .before .before .before .before .before .before .args .items .now)) (c .before .before .before .before .before .before .before .before .before .before .before .before .before .before .before .args .octets .now) _ _ _ (c .before .before .before .before .before .before .before .reply2 .given .1))
+    (c .before .before .write4 .ensures)
+
+same-length-5 : tie.Need-same-length-5
+same-length-5 c = search needs
+
+returns-5 : tie.Need-returns-5
+returns-5 c = subst (λ (xs : List ℕ). Stored (c .before .before .before .before .before .before .before .before .before .before .before .before .args .out .now) (c .before .before .before .before .before .before .before .before .before .before .before .before .args .at) xs (c .before .before .write-octets .result) (c .before .before .write-octets .last .0))
+    (head-is (c .before .before .before .before .before .before .before .before .before .before .before .before .args .reply) _ refl _ _ (c .before .before .before .before .before .before .before .put .ensures) ∙ other-text (c .before .before .before .before .before .before .before .before .before .before .before .before .args .reply) (itemsOf (c .before .before .before .before .before .before .before .before .before .before .before .before .args .items .now)) (c .before .before .before .before .before .before .before .before .before .before .before .before .args .octets .now) (c .before .before .before .before .before .match .keys5))
     (c .before .before .write-octets .ensures)
 
 pub write-reply-spec : {M : Type 1} → statement M
@@ -89,7 +132,16 @@ write-reply-spec =
     array-share-prefix-head-2
     slice-aggregate-write-2
     write-requires-2
+    enum-known-reply
     array-share-prefix-head-3
+    slice-aggregate-write-3
+    write-requires-3
+    enum-known-reply-2
+    array-share-prefix-head-4
+    slice-aggregate-write-4
+    octets-in-requires
+    write-requires-4
+    array-share-prefix-head-5
     slice-aggregate-write-octets
     write-octets-requires
     same-length
@@ -97,4 +149,8 @@ write-reply-spec =
     same-length-2
     returns-2
     same-length-3
-    returns-3)
+    returns-3
+    same-length-4
+    returns-4
+    same-length-5
+    returns-5)

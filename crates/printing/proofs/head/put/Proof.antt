@@ -63,8 +63,20 @@ put-double-requires c κs = search needs
 enum-known-reply-9 : tie.Need-enum-known-reply-9
 enum-known-reply-9 c = search needs
 
-put-rewritten-requires : tie.Need-put-rewritten-requires
-put-rewritten-requires c κs = search needs
+put-first-requires : tie.Need-put-first-requires
+put-first-requires c κs = search needs
+
+enum-known-reply-10 : tie.Need-enum-known-reply-10
+enum-known-reply-10 c = search needs
+
+put-version-requires : tie.Need-put-version-requires
+put-version-requires c κs = search needs
+
+enum-known-reply-11 : tie.Need-enum-known-reply-11
+enum-known-reply-11 c = search needs
+
+put-first-requires-2 : tie.Need-put-first-requires-2
+put-first-requires-2 c κs = search needs
 
 enum-told : tie.Need-enum-told
 enum-told c = search needs
@@ -127,13 +139,25 @@ same-length-9 : tie.Need-same-length-9
 same-length-9 c = search needs
 
 returns-9 : tie.Need-returns-9
-returns-9 c = rw (c .before .before .before .before .before .reply9 .given .1) (c .before .before .put-rewritten .ensures)
+returns-9 c = rw (c .before .before .before .before .before .reply9 .given .1) (c .before .before .put-first .ensures)
 
 same-length-10 : tie.Need-same-length-10
 same-length-10 c = search needs
 
 returns-10 : tie.Need-returns-10
-returns-10 c = rw (c .enum-told .given .1) (put-two (c .before .before .before .args .out .now) 0 63 10)
+returns-10 c = rw (c .before .before .before .before .before .reply10 .given .1) (c .before .before .put-version .ensures)
+
+same-length-11 : tie.Need-same-length-11
+same-length-11 c = search needs
+
+returns-11 : tie.Need-returns-11
+returns-11 c = rw (c .before .before .before .before .before .reply11 .given .1) (c .before .before .put-first2 .ensures)
+
+same-length-12 : tie.Need-same-length-12
+same-length-12 c = search needs
+
+returns-12 : tie.Need-returns-12
+returns-12 c = rw (c .enum-told .given .1) (put-two (c .before .before .before .args .out .now) 0 63 10)
 
 pub put-spec : {M : Type 1} → statement M
 put-spec =
@@ -158,7 +182,11 @@ put-spec =
     enum-known-reply-8
     put-double-requires
     enum-known-reply-9
-    put-rewritten-requires
+    put-first-requires
+    enum-known-reply-10
+    put-version-requires
+    enum-known-reply-11
+    put-first-requires-2
     enum-told
     slice-write-out
     slice-write-out-2
@@ -181,4 +209,8 @@ put-spec =
     same-length-9
     returns-9
     same-length-10
-    returns-10)
+    returns-10
+    same-length-11
+    returns-11
+    same-length-12
+    returns-12)

@@ -22,7 +22,7 @@ same-length : tie.Need-same-length
 same-length c = search needs
 
 returns : tie.Need-returns
-returns c = put-two (c .args .out .now) (c .args .at) 45 10
+returns c = put-two (c .args .out .now) (c .args .at) 45 (c .args .behind)
 
 pub put-none-spec : {M : Type 1} → statement M
 put-none-spec =

@@ -1,66 +1,53 @@
 -- All of it fits, or nothing is written.
 use mathlib.Core.Path.{sym, _∙_}
-use borrow.Author.Tests.{not-true, not-false}
 use native.Mathlib.Omega.{arith}
 use Rattle.printing.specs.Replies.{octetsText}
-use Rattle.printing.proofs.Joined.{both-past, run-end, both-over, tail-fits, both-stored}
+use Rattle.printing.proofs.Together.{both-none, second-fits, both-put}
 use borrow.Author.Needs.{needs}
 use Rattle.printing.proofs.octets.write.Statement.{statement}
 use Rattle.printing.proofs.octets.write.Tie as tie
 
-read-run-requires : tie.Need-read-run-requires
-read-run-requires c κs = search needs
-
-enum-known-end : tie.Need-enum-known-end
-enum-known-end c = search needs
+end-of-requires : tie.Need-end-of-requires
+end-of-requires c κs = search needs
 
 enum-told : tie.Need-enum-told
 enum-told c = search needs
+
+enum-told-2 : tie.Need-enum-told-2
+enum-told-2 c = search needs
 
 same-length : tie.Need-same-length
 same-length c = search needs
 
 returns : tie.Need-returns
-returns c = both-past (c .before .before .before .before .before .before .before .args .out .now) (c .before .before .before .before .before .before .before .args .at) (c .before .before .before .before .before .before .before .args .head .now) (octetsText (c .before .before .before .before .before .before .before .args .octets .now)) (sym (c .enum-told .given .1) ∙ c .before .before .read-run .ensures)
+returns c = both-none (c .before .before .before .before .before .before .before .args .out .now) (c .before .before .before .before .before .before .before .args .at) (c .before .before .before .before .before .before .before .args .head .now) (octetsText (c .before .before .before .before .before .before .before .args .octets .now) (c .before .before .before .before .before .before .before .args .behind)) (sym (c .enum-told2 .given .1) ∙ c .before .before .end-of .ensures (c .before .before .before .before .before .before .before .args .behind))
 
-sub-fit : tie.Need-sub-fit
-sub-fit c = omega (arith, run-end (c .before .before .before .before .before .before .before .before .args .out .now) (c .before .before .before .before .before .before .before .before .args .at) (c .before .before .before .before .before .before .before .before .args .head .now) (octetsText (c .before .before .before .before .before .before .before .before .args .octets .now)) _ (sym (c .before .end .given .1) ∙ c .before .before .before .read-run .ensures))
+write-octets-requires : tie.Need-write-octets-requires
+write-octets-requires c κs = search needs
 
-fit-requires : tie.Need-fit-requires
-fit-requires c κs = search needs
+add-put : tie.Need-add-put
+add-put c = omega (arith, second-fits (c .before .before .before .before .before .before .before .before .before .before .before .before .args .out .now) (c .before .before .before .before .before .before .before .before .before .before .before .before .args .at) (c .before .before .before .before .before .before .before .before .before .before .before .before .args .head .now) (octetsText (c .before .before .before .before .before .before .before .before .before .before .before .before .args .octets .now) (c .before .before .before .before .before .before .before .before .before .before .before .before .args .behind)) _ (sym (c .before .before .before .before .before .enum-told .given .1) ∙ c .before .before .before .before .before .before .before .end-of .ensures (c .before .before .before .before .before .before .before .before .before .before .before .before .args .behind)) _ _ (c .before .before .before .write-octets .ensures), c .before .before .before .write-octets .kept .0)
+
+put-requires : tie.Need-put-requires
+put-requires c κs = second-fits (c .before .before .before .before .before .before .before .before .before .before .before .before .args .out .now) (c .before .before .before .before .before .before .before .before .before .before .before .before .args .at) (c .before .before .before .before .before .before .before .before .before .before .before .before .args .head .now) (octetsText (c .before .before .before .before .before .before .before .before .before .before .before .before .args .octets .now) (c .before .before .before .before .before .before .before .before .before .before .before .before .args .behind)) _ (sym (c .before .before .before .before .before .enum-told .given .1) ∙ c .before .before .before .before .before .before .before .end-of .ensures (c .before .before .before .before .before .before .before .before .before .before .before .before .args .behind)) _ _ (c .before .before .before .write-octets .ensures)
 
 same-length-2 : tie.Need-same-length-2
 same-length-2 c = search needs
 
 returns-2 : tie.Need-returns-2
-returns-2 c = both-over (c .before .before .before .before .before .before .before .before .before .before .args .out .now) (c .before .before .before .before .before .before .before .before .before .before .args .at) (c .before .before .before .before .before .before .before .before .before .before .args .head .now) (octetsText (c .before .before .before .before .before .before .before .before .before .before .args .octets .now)) _ (sym (c .before .before .before .end .given .1) ∙ c .before .before .before .before .before .read-run .ensures) (sym (not-true _ (c .if1 .taken)) ∙ c .before .fit .ensures)
-
-write-octets-requires : tie.Need-write-octets-requires
-write-octets-requires c κs = search needs
-
-put-requires : tie.Need-put-requires
-put-requires c κs = tail-fits (c .before .before .before .before .before .before .before .before .before .before .before .before .before .before .before .args .out .now) (c .before .before .before .before .before .before .before .before .before .before .before .before .before .before .before .args .at) (c .before .before .before .before .before .before .before .before .before .before .before .before .before .before .before .args .head .now) (octetsText (c .before .before .before .before .before .before .before .before .before .before .before .before .before .before .before .args .octets .now)) _ (sym (c .before .before .before .before .before .before .before .before .end .given .1) ∙ c .before .before .before .before .before .before .before .before .before .before .read-run .ensures) (sym (not-false _ (c .before .before .before .before .before .if1 .left)) ∙ c .before .before .before .before .before .before .fit .ensures) _ _ (c .before .before .before .write-octets .ensures)
-
-same-length-3 : tie.Need-same-length-3
-same-length-3 c = search needs
-
-returns-3 : tie.Need-returns-3
-returns-3 c = both-stored (c .before .before .before .before .before .before .before .before .before .before .before .before .before .before .before .before .before .before .args .out .now) (c .before .before .before .before .before .before .before .before .before .before .before .before .before .before .before .before .before .before .args .at) (c .before .before .before .before .before .before .before .before .before .before .before .before .before .before .before .before .before .before .args .head .now) (octetsText (c .before .before .before .before .before .before .before .before .before .before .before .before .before .before .before .before .before .before .args .octets .now)) _ (sym (c .before .before .before .before .before .before .before .before .before .before .before .end .given .1) ∙ c .before .before .before .before .before .before .before .before .before .before .before .before .before .read-run .ensures) (sym (not-false _ (c .before .before .before .before .before .before .before .before .if1 .left)) ∙ c .before .before .before .before .before .before .before .before .before .fit .ensures) _ _ (c .before .before .before .before .before .before .write-octets .ensures) _ _ (c .before .before .put .ensures)
+returns-2 c = both-put (c .before .before .before .before .before .before .before .before .before .before .before .before .before .before .before .args .out .now) (c .before .before .before .before .before .before .before .before .before .before .before .before .before .before .before .args .at) (c .before .before .before .before .before .before .before .before .before .before .before .before .before .before .before .args .head .now) (octetsText (c .before .before .before .before .before .before .before .before .before .before .before .before .before .before .before .args .octets .now) (c .before .before .before .before .before .before .before .before .before .before .before .before .before .before .before .args .behind)) _ (sym (c .before .before .before .before .before .before .before .before .enum-told .given .1) ∙ c .before .before .before .before .before .before .before .before .before .before .end-of .ensures (c .before .before .before .before .before .before .before .before .before .before .before .before .before .before .before .args .behind)) _ _ (c .before .before .before .before .before .before .write-octets .ensures) _ _ (c .before .before .put .ensures)
 
 pub write-spec : {M : Type 1} → statement M
 write-spec =
     tie.close
     (tie.spec
-    read-run-requires
-    enum-known-end
+    end-of-requires
     enum-told
+    enum-told-2
     same-length
     returns
-    sub-fit
-    fit-requires
-    same-length-2
-    returns-2
     write-octets-requires
+    add-put
     put-requires
-    same-length-3
-    returns-3)
+    same-length-2
+    returns-2)

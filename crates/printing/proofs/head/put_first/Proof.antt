@@ -4,8 +4,8 @@ use native.Mathlib.Omega.{arith}
 use Rattle.decimals.proofs.Puts.{put-then, put-stored}
 use Rattle.printing.specs.Replies.{space}
 use borrow.Author.Needs.{needs}
-use Rattle.printing.proofs.head.put_rewritten.Statement.{statement}
-use Rattle.printing.proofs.head.put_rewritten.Tie as tie
+use Rattle.printing.proofs.head.put_first.Statement.{statement}
+use Rattle.printing.proofs.head.put_first.Tie as tie
 
 slice-aggregate-write-octets : tie.Need-slice-aggregate-write-octets
 slice-aggregate-write-octets c = search needs
@@ -22,8 +22,8 @@ same-length c = search needs
 returns : tie.Need-returns
 returns c = put-then (put-stored (c .before .before .before .before .before .before .before .before .before .before .args .out .now) 0 (111 ∷ 107 ∷ space ∷ []) _ _ (omega (arith, c .before .before .before .before .before .before .before .before .before .before .pre)) (c .before .before .before .before .before .before .write-octets .ensures)) (c .before .before .put-number .ensures)
 
-pub put-rewritten-spec : {M : Type 1} → statement M
-put-rewritten-spec =
+pub put-first-spec : {M : Type 1} → statement M
+put-first-spec =
     tie.close
     (tie.spec
     slice-aggregate-write-octets

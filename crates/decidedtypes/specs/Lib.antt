@@ -1,0 +1,4 @@
+-- What the definitions of types decide.
+pub mod Kinds
+pub mod Met
+pub mod Fields

@@ -1,0 +1,43 @@
+-- No octets are one character; of others half the room is enough, or there is none.
+use mathlib.Core.Path.{_∙_}
+use Rattle.printing.proofs.Digits.{end-none, end-past, end-some}
+use borrow.Author.Needs.{needs}
+use Rattle.printing.proofs.octets.text_end.Statement.{statement}
+use Rattle.printing.proofs.octets.text_end.Tie as tie
+
+read-run-requires : tie.Need-read-run-requires
+read-run-requires c κs = search needs
+
+returns : tie.Need-returns
+returns c = λ b. c .read-run .ensures ∙ end-none (c .before .before .before .before .args .out .now) (c .before .before .before .before .args .octets .now) (c .before .before .before .before .args .at) b (c .before .if1 .taken)
+
+sub-if2 : tie.Need-sub-if2
+sub-if2 c = search needs
+
+returns-2 : tie.Need-returns-2
+returns-2 c = λ b. end-past (c .before .before .before .before .args .out .now) (c .before .before .before .before .args .octets .now) (c .before .before .before .before .args .at) b (c .before .if1 .left) (c .before .before .before .before .pre) (c .if2 .taken)
+
+mul-read-run : tie.Need-mul-read-run
+mul-read-run c = search needs
+
+add-read-run : tie.Need-add-read-run
+add-read-run c = search needs
+
+read-run-requires-2 : tie.Need-read-run-requires-2
+read-run-requires-2 c κs = search needs
+
+returns-3 : tie.Need-returns-3
+returns-3 c = λ b. c .read-run2 .ensures ∙ end-some (c .before .before .before .before .before .args .out .now) (c .before .before .before .before .before .args .octets .now) (c .before .before .before .before .before .args .at) b (c .before .before .if1 .left)
+
+pub text-end-spec : {M : Type 1} → statement M
+text-end-spec =
+    tie.close
+    (tie.spec
+    read-run-requires
+    returns
+    sub-if2
+    returns-2
+    mul-read-run
+    add-read-run
+    read-run-requires-2
+    returns-3)

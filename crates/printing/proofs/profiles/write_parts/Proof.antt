@@ -1,0 +1,93 @@
+-- All of it fits, or nothing is written.
+use mathlib.Core.Path.{sym, _∙_}
+use mathlib.Core.List.{_++_}
+use Rattle.printing.specs.Replies.{space, octetsText}
+use Rattle.printing.proofs.Together.{past-first, past-second, past-third, all-stored}
+use borrow.Author.Needs.{needs}
+use Rattle.printing.proofs.profiles.write_parts.Statement.{statement}
+use Rattle.printing.proofs.profiles.write_parts.Tie as tie
+
+end-of-requires : tie.Need-end-of-requires
+end-of-requires c κs = search needs
+
+enum-known-next : tie.Need-enum-known-next
+enum-known-next c = search needs
+
+enum-told : tie.Need-enum-told
+enum-told c = search needs
+
+same-length : tie.Need-same-length
+same-length c = search needs
+
+returns : tie.Need-returns
+returns c = past-first (c .before .before .before .before .before .before .before .before .before .before .args .out .now) (c .before .before .before .before .before .before .before .before .before .before .args .at) (c .before .before .before .before .before .before .before .before .before .before .args .head .now ++ octetsText (c .before .before .before .before .before .before .before .before .before .before .args .host .now) space) (c .before .before .before .before .before .before .before .before .before .before .args .port .now ++ octetsText (c .before .before .before .before .before .before .before .before .before .before .args .key .now) space) (c .before .before .before .before .before .before .before .before .before .before .args .counts .now) (sym (c .enum-told .given .1) ∙ c .before .before .end-of .ensures space)
+
+end-of-requires-2 : tie.Need-end-of-requires-2
+end-of-requires-2 c κs = search needs
+
+enum-known-last : tie.Need-enum-known-last
+enum-known-last c = search needs
+
+enum-told-2 : tie.Need-enum-told-2
+enum-told-2 c = search needs
+
+same-length-2 : tie.Need-same-length-2
+same-length-2 c = search needs
+
+returns-2 : tie.Need-returns-2
+returns-2 c = past-second (c .before .before .before .before .before .before .before .before .before .before .before .before .before .before .before .args .out .now) (c .before .before .before .before .before .before .before .before .before .before .before .before .before .before .before .args .at) (c .before .before .before .before .before .before .before .before .before .before .before .before .before .before .before .args .head .now ++ octetsText (c .before .before .before .before .before .before .before .before .before .before .before .before .before .before .before .args .host .now) space) (c .before .before .before .before .before .before .before .before .before .before .before .before .before .before .before .args .port .now ++ octetsText (c .before .before .before .before .before .before .before .before .before .before .before .before .before .before .before .args .key .now) space) (c .before .before .before .before .before .before .before .before .before .before .before .before .before .before .before .args .counts .now) _ (sym (c .before .before .before .before .before .next .given .1) ∙ c .before .before .before .before .before .before .before .end-of .ensures space) (sym (c .enum-told2 .given .1) ∙ c .before .before .end-of2 .ensures space)
+
+read-run-requires : tie.Need-read-run-requires
+read-run-requires c κs = search needs
+
+enum-told-3 : tie.Need-enum-told-3
+enum-told-3 c = search needs
+
+enum-told-4 : tie.Need-enum-told-4
+enum-told-4 c = search needs
+
+same-length-3 : tie.Need-same-length-3
+same-length-3 c = search needs
+
+returns-3 : tie.Need-returns-3
+returns-3 c = past-third (c .before .before .before .before .before .before .before .before .before .before .before .before .before .before .before .before .before .before .before .before .args .out .now) (c .before .before .before .before .before .before .before .before .before .before .before .before .before .before .before .before .before .before .before .before .args .at) (c .before .before .before .before .before .before .before .before .before .before .before .before .before .before .before .before .before .before .before .before .args .head .now ++ octetsText (c .before .before .before .before .before .before .before .before .before .before .before .before .before .before .before .before .before .before .before .before .args .host .now) space) (c .before .before .before .before .before .before .before .before .before .before .before .before .before .before .before .before .before .before .before .before .args .port .now ++ octetsText (c .before .before .before .before .before .before .before .before .before .before .before .before .before .before .before .before .before .before .before .before .args .key .now) space) (c .before .before .before .before .before .before .before .before .before .before .before .before .before .before .before .before .before .before .before .before .args .counts .now) _ (sym (c .before .before .before .before .before .before .before .before .before .before .next .given .1) ∙ c .before .before .before .before .before .before .before .before .before .before .before .before .end-of .ensures space) _ (sym (c .before .before .before .before .before .last .given .1) ∙ c .before .before .before .before .before .before .before .end-of2 .ensures space) (sym (c .enum-told4 .given .1) ∙ c .before .before .read-run .ensures)
+
+write-requires : tie.Need-write-requires
+write-requires c κs = search needs
+
+write-requires-2 : tie.Need-write-requires-2
+write-requires-2 c κs = search needs
+
+write-octets-requires : tie.Need-write-octets-requires
+write-octets-requires c κs = search needs
+
+same-length-4 : tie.Need-same-length-4
+same-length-4 c = search needs
+
+returns-4 : tie.Need-returns-4
+returns-4 c = all-stored (c .before .before .before .before .before .before .before .before .before .before .before .before .before .before .before .before .before .before .before .before .before .before .before .before .before .before .before .before .before .before .before .before .args .out .now) (c .before .before .before .before .before .before .before .before .before .before .before .before .before .before .before .before .before .before .before .before .before .before .before .before .before .before .before .before .before .before .before .before .args .at) (c .before .before .before .before .before .before .before .before .before .before .before .before .before .before .before .before .before .before .before .before .before .before .before .before .before .before .before .before .before .before .before .before .args .head .now ++ octetsText (c .before .before .before .before .before .before .before .before .before .before .before .before .before .before .before .before .before .before .before .before .before .before .before .before .before .before .before .before .before .before .before .before .args .host .now) space) (c .before .before .before .before .before .before .before .before .before .before .before .before .before .before .before .before .before .before .before .before .before .before .before .before .before .before .before .before .before .before .before .before .args .port .now ++ octetsText (c .before .before .before .before .before .before .before .before .before .before .before .before .before .before .before .before .before .before .before .before .before .before .before .before .before .before .before .before .before .before .before .before .args .key .now) space) (c .before .before .before .before .before .before .before .before .before .before .before .before .before .before .before .before .before .before .before .before .before .before .before .before .before .before .before .before .before .before .before .before .args .counts .now) _ (sym (c .before .before .before .before .before .before .before .before .before .before .before .before .before .before .before .before .before .before .before .before .before .before .next .given .1) ∙ c .before .before .before .before .before .before .before .before .before .before .before .before .before .before .before .before .before .before .before .before .before .before .before .before .end-of .ensures space) _ (sym (c .before .before .before .before .before .before .before .before .before .before .before .before .before .before .before .before .before .last .given .1) ∙ c .before .before .before .before .before .before .before .before .before .before .before .before .before .before .before .before .before .before .before .end-of2 .ensures space) _ (sym (c .before .before .before .before .before .before .before .before .before .before .before .before .enum-told3 .given .1) ∙ c .before .before .before .before .before .before .before .before .before .before .before .before .before .before .read-run .ensures) _ _ (c .before .before .before .before .before .before .before .before .before .before .write .ensures) _ _ (c .before .before .before .before .before .before .write2 .ensures) _ _ (c .before .before .write-octets .ensures)
+
+pub write-parts-spec : {M : Type 1} → statement M
+write-parts-spec =
+    tie.close
+    (tie.spec
+    end-of-requires
+    enum-known-next
+    enum-told
+    same-length
+    returns
+    end-of-requires-2
+    enum-known-last
+    enum-told-2
+    same-length-2
+    returns-2
+    read-run-requires
+    enum-told-3
+    enum-told-4
+    same-length-3
+    returns-3
+    write-requires
+    write-requires-2
+    write-octets-requires
+    same-length-4
+    returns-4)

@@ -1,0 +1,68 @@
+// The questions `profile OCTETS` and `component OCTETS NUMBER`.
+ghost use Prim.Native.Nat.{_≤_};
+ghost use lib.ListN.{length};
+ghost use Rattle.words.specs.Words.{words};
+ghost use Rattle.words.specs.Fields.{numberedFieldsOf};
+ghost use Rattle.questions.specs.Questions.{lineMost, profileIn, componentIn, profileQuestion, componentQuestion};
+ghost use Rattle.questions.specs.Inner.{octetsMost, Held};
+use crate::octets;
+use octets::Octets;
+use printing::Reply;
+use profile::ComponentAnswer;
+use profile::ProfileAnswer;
+use words::Numbered;
+
+// Answers the word behind `profile`, and leaves the body in the lent memory.
+pub(crate) fn reply_profile(rest: &[u8], memory: &mut [u8]) -> Reply
+    requires { ⌜ (length (now rest) ≤ lineMost) × (octetsMost ≤ length (now memory)) ⌝ }
+    ensures { λ r. ⌜ Held (profileQuestion (words (now (rest .entry)))) r (now (memory .exit)) ⌝ }
+{
+    let mut v = [0u8; octets::MOST];
+    let Octets::Count(n) = octets::read_lone(rest, &mut v) else {
+        return Reply::NoQuestion;
+    };
+    read_profile(&v[..n], memory)
+}
+
+// Answers with what a body says.
+fn read_profile(v: &[u8], memory: &mut [u8]) -> Reply
+    requires { ⌜ octetsMost ≤ length (now memory) ⌝ }
+    ensures { λ r. ⌜ Held (profileIn (now (v .entry))) r (now (memory .exit)) ⌝ }
+{
+    match profile::read(v) {
+        ProfileAnswer::Read(said) => {
+            writing::write_octets(memory, 0, v);
+            Reply::Profiled(said, v.len())
+        }
+        ProfileAnswer::Refused(refusal) => Reply::Refused(refusal.number()),
+    }
+}
+
+// Answers the words behind `component`, and leaves the body in the lent memory.
+pub(crate) fn reply_component(rest: &[u8], memory: &mut [u8]) -> Reply
+    requires { ⌜ (length (now rest) ≤ lineMost) × (octetsMost ≤ length (now memory)) ⌝ }
+    ensures { λ r. ⌜ Held (componentQuestion (numberedFieldsOf (words (now (rest .entry))))) r (now (memory .exit)) ⌝ }
+{
+    let Numbered::Is { end, number } = words::read_numbered(rest) else {
+        return Reply::NoQuestion;
+    };
+    let mut v = [0u8; octets::MOST];
+    let Octets::Count(n) = octets::read(&rest[..end], &mut v) else {
+        return Reply::NoQuestion;
+    };
+    read_component(&v[..n], number, memory)
+}
+
+// Answers with a component of a body.
+fn read_component(v: &[u8], number: u64, memory: &mut [u8]) -> Reply
+    requires { ⌜ octetsMost ≤ length (now memory) ⌝ }
+    ensures { λ r. ⌜ Held (componentIn (now (v .entry)) number) r (now (memory .exit)) ⌝ }
+{
+    match profile::component(v, number) {
+        ComponentAnswer::Found { tag, octets } => {
+            writing::write_octets(memory, 0, v);
+            Reply::Component(tag, octets, v.len())
+        }
+        ComponentAnswer::Refused(refusal) => Reply::Refused(refusal.number()),
+    }
+}
