@@ -1,5 +1,6 @@
 -- The listing of a recording: what the definitions answer where a wrong program would answer otherwise.
 --   nothing-begun      a recording begins with no character of a line
+--   no-line-read       a recording begins with no line read
 --   first-is-line-1    the text for `47` and LF is `1 12 -`, and then `end 1 0`, whatever memory is lent
 --   lines-then-open    the closing line after five lines, with one message open, is `end 5 1`
 use mathlib.Core.Path.{_≡_, refl}
@@ -21,6 +22,9 @@ use Rattle.listing.specs.Blocks.{freshState, listingAfter, endOf}
 
 pub nothing-begun : freshState .kept ≡ 0
 nothing-begun = refl
+
+pub no-line-read : freshState .lines ≡ 0
+no-line-read = refl
 
 pub first-is-line-1 : (line places : List ℕ) → listingAfter freshState line places (52 ∷ 55 ∷ 10 ∷ []) ≡ octetsOf Big 15 0x31203132202D0A656E64203120300A
 unfolding choose littleOctets octetsOf isDigit allDigits lineOctets digitsDecoded decodedOf linesFrom decimalWithin messageOf frameOf openCount stepOf lineText endText entryOf listingFrom

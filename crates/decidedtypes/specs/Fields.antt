@@ -5,16 +5,20 @@
 --   top-before-depth      40 comes before 38
 --   depth-before-kinds    38 comes before 37
 --   text-of-none          a text of length 0 is 32
+--   text-is-passed        what follows a text is after its final zero
 --   id-and-name           what follows the names is after both
 --   struct-has-members    a struct's count is not 0
 --   exception-has-none    an exception's count may be 0
 --   names-are-read        an enum's names are read after their count
 --   bound-of-0            a bound may be 0
 --   length-of-0           an array's length is not 0
+--   length-is-passed      what follows a length is after it
 --   count-of-0            a count of 0 is 34
 --   missing-count         a count whose octets end is 30
 --   order-octet-2         an order octet of 2 is 33
+--   part-beyond-end       an encapsulation that ends beyond its surroundings is 33
 --   default-below-none    a default of -2 is 35
+--   default-at-count      a default that is the count is 35
 --   boolean-label-2       a boolean's label of 2 is 35
 use Prim.Native.Nat.{ℕ, _+_}
 use mathlib.Core.Path.{_≡_, refl}
@@ -58,6 +62,10 @@ pub text-of-none : textStep (octetsOf Big 4 0) (indexOf 0) Big ≡ Refused BadTe
 unfolding littleNumber littleOctets numberOf octetsOf numberAt readOf textOf fieldOf stringOf textStep
 text-of-none = refl
 
+pub text-is-passed : textStep (octetsOf Big 5 0x0000000100) (indexOf 0) Big ≡ Next (indexOf 5)
+unfolding littleNumber littleOctets numberOf octetsOf numberAt readOf overBound endsText textOf fieldOf stringOf textStep
+text-is-passed = refl
+
 pub id-and-name : namesStep (headed 0) Big ≡ Next (indexOf 17)
 unfolding littleNumber littleOctets numberOf octetsOf numberAt readOf overBound endsText textOf fieldOf stringOf textStep namesStep
 id-and-name = refl
@@ -82,6 +90,10 @@ pub length-of-0 : lengthStep (octetsOf Big 4 0) (indexOf 0) Big ≡ Refused NoCo
 unfolding littleNumber littleOctets numberOf octetsOf numberAt readOf fieldOf countStep lengthStep
 length-of-0 = refl
 
+pub length-is-passed : lengthStep (octetsOf Big 4 5) (indexOf 0) Big ≡ Next (indexOf 4)
+unfolding littleNumber littleOctets numberOf octetsOf numberAt readOf fieldOf countStep lengthStep
+length-is-passed = refl
+
 pub count-of-0 : countStep (octetsOf Big 4 0) (indexOf 0) Big ≡ Wrong NoCount
 unfolding littleNumber littleOctets numberOf octetsOf numberAt readOf fieldOf countStep
 count-of-0 = refl
@@ -94,9 +106,17 @@ pub order-octet-2 : partOf (octetsOf Big 5 0x0000000102) (indexOf 0) Big ≡ NoP
 unfolding littleNumber littleOctets numberOf octetsOf numberAt readOf fieldOf partOf
 order-octet-2 = refl
 
+pub part-beyond-end : partOf (octetsOf Big 6 0x000000030000) (indexOf 0) Big ≡ NoPart BadEncapsulation
+unfolding littleNumber littleOctets numberOf octetsOf numberAt readOf fieldOf partOf
+part-beyond-end = refl
+
 pub default-below-none : switchStep (octetsOf Big 8 0xFFFFFFFE00000001) (indexOf 0) Big ≡ Wrong BadUnion
 unfolding littleNumber littleOctets numberOf octetsOf numberAt readOf fieldOf countStep badDefault switchStep
 default-below-none = refl
+
+pub default-at-count : switchStep (octetsOf Big 8 0x0000000100000001) (indexOf 0) Big ≡ Wrong BadUnion
+unfolding littleNumber littleOctets numberOf octetsOf numberAt readOf fieldOf countStep badDefault switchStep
+default-at-count = refl
 
 pub boolean-label-2 : labelStep (Of One 2) [] (2 ∷ []) (placeOf 0) Big 0 (indexOf 0) (indexOf 0) ≡ Refused BadUnion
 unfolding littleNumber numberOf numberAt readOf fieldOf outOfKind

@@ -1,6 +1,7 @@
 -- Kinds and their parameters: what the definitions answer where a wrong program would answer otherwise.
 --   alias-is-alias       kind 21 is an alias
 --   any-is-unlisted      kind 11 is not listed
+--   aligned-in-own       a number of eight octets is aligned in its own encapsulation
 --   next-of-own          the index after a number is counted in its own encapsulation
 --   half-leads-back      an offset of 2^31 is negative
 --   before-is-outside    a target before the first octet is none
@@ -8,6 +9,7 @@
 --   name-after-label     a member's name is after its label
 --   label-of-eight       a label of eight octets is passed over whole
 --   order-of-own         a kind's parameters are in the order of its own encapsulation
+--   kind-at-place        a kind is read at its place, and not where its encapsulation starts
 use Prim.Native.Nat.{_^_}
 use mathlib.Core.Path.{_≡_, refl}
 use Rattle.cdr.specs.declared.Order.the-variants.{Big}
@@ -15,14 +17,14 @@ use Rattle.cdr.specs.declared.Size.the-variants.{Four, Eight}
 use Rattle.cdr.specs.Align.{indexOf}
 use Rattle.cdr.specs.Number.{littleNumber, littleOctets, numberOf, octetsOf, numberAt, readOf}
 use Rattle.texts.specs.Text.{runOf}
-use Rattle.encapsulation.specs.declared.Field.the-variants.{Value}
+use Rattle.encapsulation.specs.declared.Field.the-variants.{Value, NoField}
 use Rattle.encapsulation.specs.Encapsulation.{fieldOf, countedOf}
 use Rattle.kinds.specs.declared.Form.the-variants.{Unlisted, Plain, Composite}
 use Rattle.kinds.specs.declared.Layout.the-variants.{Struct, Alias}
 use Rattle.kinds.specs.declared.Labels.the-variants.{Of}
 use Rattle.kinds.specs.declared.Target.the-variants.{To, Outside}
 use Rattle.kinds.specs.declared.Spot.the-variants.{At}
-use Rattle.kinds.specs.declared.Parameters.the-variants.{Fault, Sequence}
+use Rattle.kinds.specs.declared.Parameters.the-variants.{Fault, Leaf, Sequence}
 use Rattle.kinds.specs.Forms.{formOf}
 use Rattle.kinds.specs.Parts.{placeOf, fieldIn, skipField, skipCounted, targetOf, aimed, spotAt, memberAt}
 use Rattle.kinds.specs.Parameters.{elementIn, encapsulated, parametersAt}
@@ -34,6 +36,10 @@ alias-is-alias = refl
 pub any-is-unlisted : formOf 11 ≡ Unlisted
 unfolding formOf
 any-is-unlisted = refl
+
+pub aligned-in-own : fieldIn (octetsOf Big 12 0x000000000000000000000007) (placeOf 4) (indexOf 0) Eight Big ≡ Value 7 (indexOf 8)
+unfolding littleNumber littleOctets numberOf octetsOf numberAt readOf fieldOf fieldIn
+aligned-in-own = refl
 
 pub next-of-own : fieldIn (octetsOf Big 8 0x0000000500000007) (placeOf 4) (indexOf 0) Four Big ≡ Value 7 (indexOf 4)
 unfolding littleNumber littleOctets numberOf octetsOf numberAt readOf fieldOf fieldIn
@@ -62,3 +68,7 @@ label-of-eight = refl
 pub order-of-own : parametersAt (octetsOf Big 20 0x000000130000000C010000000300000005000000) (placeOf 0) Big (placeOf 0) ≡ Sequence (placeOf 12) 5
 unfolding littleNumber littleOctets numberOf octetsOf numberAt readOf fieldOf formOf fieldIn spotAt elementIn encapsulated parametersAt
 order-of-own = refl
+
+pub kind-at-place : parametersAt (octetsOf Big 8 0x0000000300000005) (placeOf 0) Big (placeOf 4) ≡ Leaf 5
+unfolding littleNumber littleOctets numberOf octetsOf numberAt readOf fieldOf formOf fieldIn parametersAt
+kind-at-place = refl

@@ -2,7 +2,9 @@
 --   one                 a list with one kind, little-endian, at place 8 in an encapsulation that starts at 4
 --   none-is-met         at first no kind is met
 --   none-is-little      at first every order is big
+--   start-is-noted      a kind is noted with the start of its encapsulation
 --   order-is-noted      a kind is noted with its order
+--   first-is-found      the first kind is found by its place
 --   place-0-is-none     an entry beyond the count is no kind
 --   second-is-read      the kind at a position is the one that is read
 --   boolean-below-2     a boolean's labels are below 2
@@ -11,6 +13,7 @@
 --   below-is-another    a smaller label is another
 --   missing-is-none     a label whose octets end is none
 --   none-is-among       of no members none has a label
+--   last-is-among       the last member's label is looked at
 use mathlib.Core.Path.{_≡_, refl}
 use mathlib.Core.List.{[]}
 use mathlib.Core.Bool.{true, false}
@@ -40,9 +43,17 @@ none-is-met = refl
 pub none-is-little : getD (noKinds .orders) 63 0 ≡ 0
 none-is-little = refl
 
+pub start-is-noted : getD (one .starts) 0 0 ≡ 4
+unfolding added
+start-is-noted = refl
+
 pub order-is-noted : getD (one .orders) 0 0 ≡ 1
 unfolding added
 order-is-noted = refl
+
+pub first-is-found : positionOf one (placeOf 8) ≡ Is 0
+unfolding choose added findIn findPlace positionOf
+first-is-found = refl
 
 pub place-0-is-none : positionOf one (placeOf 0) ≡ NoPosition
 unfolding choose added findIn findPlace positionOf
@@ -75,3 +86,7 @@ missing-is-none = refl
 pub none-is-among : labelAmong (Of Four 0) (octetsOf Big 4 5) (placeOf 0) Big 5 0 (indexOf 0) ≡ false
 unfolding labelAmong
 none-is-among = refl
+
+pub last-is-among : labelAmong (Of Four 0) (octetsOf Big 4 5) (placeOf 0) Big 5 1 (indexOf 0) ≡ true
+unfolding choose littleNumber littleOctets numberOf octetsOf numberAt readOf fieldOf fieldIn labelAmong
+last-is-among = refl

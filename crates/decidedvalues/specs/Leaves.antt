@@ -16,6 +16,9 @@
 --   bound-is-1            a count of 2 is over its bound of 1
 --   bound-is-none         a count of 2 is not over its bound of 0
 --   count-is-item         the number of an empty reference's profiles is an item
+--   short-is-signed       a short's content is sign-extended
+--   count-is-no-name      an enum that is the number of its names is 52
+--   run-at-octets         a run is told at its first octet
 use Prim.Native.Nat.{ℕ}
 use mathlib.Core.Path.{_≡_, refl}
 use mathlib.Core.List.{List, [], _∷_}
@@ -25,10 +28,10 @@ use Rattle.choices.specs.Branch.{choose}
 use Rattle.cdr.specs.declared.Order.the-variants.{Big}
 use Rattle.cdr.specs.declared.Size.the-variants.{One, Two, Eight}
 use Rattle.cdr.specs.Align.{indexOf}
-use Rattle.cdr.specs.Number.{littleNumber, littleOctets, numberOf, octetsOf, numberAt, readOf}
+use Rattle.cdr.specs.Number.{littleNumber, littleOctets, numberOf, octetsOf, numberAt, readOf, signExtended}
 use Rattle.texts.specs.Text.{overBound, endsText}
 use Rattle.reading.specs.Sinks.{St, st, failed, after, repeats, begun, taken, done, numberStep, octetsStep}
-use Rattle.reading.specs.Visit.{sizeOf, contentOf, leafDone, leafAt, enumDone, enumAt, textDone, textGot, textAt, countDone, countAt, profilesAt, objrefAt}
+use Rattle.reading.specs.Visit.{sizeOf, contentOf, leafDone, leafAt, enumDone, enumAt, textDone, textGot, textAt, countDone, countAt, tagDone, tagAt, runDone, runGot, runAt, profileAt, profilesAt, objrefAt}
 use Rattle.leaves.specs.declared.Mode.{Mode}
 use Rattle.leaves.specs.declared.Cursor.{Cursor}
 use Rattle.leaves.specs.Lent.{Lent, lentOf, rowPut}
@@ -94,3 +97,16 @@ bound-is-none = refl
 pub count-is-item : objrefAt (sinkOf filling) (sourceOf filling (octetsOf Big 12 0x000000010000000000000000)) (from-start (replicate 6 9)) .kept .items ≡ 2
 unfolding choose littleNumber littleOctets numberOf octetsOf numberAt readOf overBound endsText after repeats taken done numberStep octetsStep textDone textGot textAt countDone countAt profilesAt objrefAt rowPut
 count-is-item = refl
+
+pub short-is-signed : leafAt (sinkOf filling) (sourceOf filling (255 ∷ 255 ∷ [])) 2 (from-start (replicate 3 9)) .kept .table ≡ 2 ∷ 0 ∷ 0xFFFFFFFFFFFFFFFF ∷ []
+unfolding choose littleNumber numberOf numberAt readOf signExtended taken done numberStep sizeOf contentOf leafDone leafAt rowPut
+short-is-signed = refl
+
+pub count-is-no-name : enumAt (sinkOf filling) (sourceOf filling (octetsOf Big 4 2)) 2 (from-start (replicate 3 9)) .fault ≡ 52
+unfolding choose littleNumber littleOctets numberOf octetsOf numberAt readOf taken done numberStep enumDone enumAt rowPut
+count-is-no-name = refl
+
+pub run-at-octets : objrefAt (sinkOf filling) (sourceOf filling (octetsOf Big 21 0x00000001000000000000000100000000000000015A)) (from-start (replicate 12 9)) .kept .table
+    ≡ 18 ∷ 4 ∷ 0 ∷ 19 ∷ 8 ∷ 1 ∷ 5 ∷ 12 ∷ 0 ∷ 256 ∷ 20 ∷ 1 ∷ []
+unfolding choose littleNumber littleOctets numberOf octetsOf numberAt readOf overBound endsText after repeats taken done numberStep octetsStep textDone textGot textAt countDone countAt tagDone tagAt runDone runGot runAt profileAt profilesAt objrefAt rowPut
+run-at-octets = refl
