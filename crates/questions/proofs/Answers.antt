@@ -24,7 +24,7 @@ use Rattle.hexline.proofs.Laws.{octets-length}
 use Rattle.hexline.proofs.Decoded.{the-type as decoded-type}
 use Rattle.typecode.specs.declared.TypeAnswer.{TypeAnswer}
 use Rattle.typecode.specs.declared.TypeAnswer.the-variants.{Accepted as ok, Refused as refused, Loop}
-use Rattle.typecode.specs.TypeCode.{answerNumber, checkedType}
+use Rattle.typecode.specs.TypeCode.{answerNumber}
 use Rattle.typecode.proofs.TypeAnswer.{the-type as answer-type}
 use Rattle.words.specs.Words.{space, wordsFrom, words, sameWord, orderWord}
 use Rattle.words.specs.Found.{FirstWord}

@@ -63,10 +63,10 @@ module _ (v : List ℕ) where
   -- by the answer about the body
   module _ (a : ProfileAnswer) (e : a ≡ profileOf v) where
     pub profile-held : (p : Profile) → a ≡ Read p → (memory : List ℕ) → octetsMost ≤ length memory → (w : Written) (last : List ℕ) → Stored memory 0 v w last
-        → Held (profileIn v) (Profiled p (length v)) last
-    profile-held p f memory h w last s =
+        → (n : ℕ) → length v ≡ n → Held (profileIn v) (Profiled p n) last
+    profile-held p f memory h w last s n g =
         let k : length v ≤ 16384 = read-short p (cc) in
-        record { reply = rw (← e, f); octets = rw (← e, f) (body-taken memory h w last s k); within = body-within memory h w last s k }
+        rw (← g) (record { reply = rw (← e, f); octets = rw (← e, f) (body-taken memory h w last s k); within = body-within memory h w last s k })
 
     pub profile-refused : (why : Refusal) → a ≡ Refused why → (n : ℕ) → n ≡ refusalNumber why → (memory : List ℕ) → Held (profileIn v) (NotRead n) memory
     profile-refused why f n g memory = record { reply = rw (← e, f, g); octets = rw (← e, f); within = omega arith }
@@ -74,10 +74,10 @@ module _ (v : List ℕ) where
   -- and about a component of it
   module _ (number : ℕ) (a : ComponentAnswer) (e : a ≡ componentOf v number) where
     pub component-held : (tag : ℕ) (part : Extent) → a ≡ Found tag part → (memory : List ℕ) → octetsMost ≤ length memory → (w : Written) (last : List ℕ)
-        → Stored memory 0 v w last → Held (componentIn v number) (Component tag part (length v)) last
-    component-held tag part f memory h w last s =
+        → Stored memory 0 v w last → (n : ℕ) → length v ≡ n → Held (componentIn v number) (Component tag part n) last
+    component-held tag part f memory h w last s n g =
         let k : length v ≤ 16384 = found-short number tag part (cc) in
-        record { reply = rw (← e, f); octets = rw (← e, f) (body-taken memory h w last s k); within = body-within memory h w last s k }
+        rw (← g) (record { reply = rw (← e, f); octets = rw (← e, f) (body-taken memory h w last s k); within = body-within memory h w last s k })
 
     pub component-refused : (why : Refusal) → a ≡ notFound why → (n : ℕ) → n ≡ refusalNumber why → (memory : List ℕ)
         → Held (componentIn v number) (NotRead n) memory

@@ -3,7 +3,7 @@ ghost use Prim.Native.Nat.{_≤_};
 ghost use lib.ListN.{length};
 ghost use Rattle.words.specs.Words.{words};
 ghost use Rattle.words.specs.Fields.{numberedFieldsOf};
-ghost use Rattle.questions.specs.Questions.{lineMost, profileIn, componentIn, profileQuestion, componentQuestion};
+ghost use Rattle.questions.specs.Questions.{lineMost, profileQuestion, componentQuestion};
 ghost use Rattle.questions.specs.Inner.{octetsMost, Held};
 use crate::octets;
 use octets::Octets;
@@ -21,18 +21,10 @@ pub(crate) fn reply_profile(rest: &[u8], memory: &mut [u8]) -> Reply
     let Octets::Count(n) = octets::read_lone(rest, &mut v) else {
         return Reply::NoQuestion;
     };
-    read_profile(&v[..n], memory)
-}
-
-// Answers with what a body says.
-fn read_profile(v: &[u8], memory: &mut [u8]) -> Reply
-    requires { ⌜ octetsMost ≤ length (now memory) ⌝ }
-    ensures { λ r. ⌜ Held (profileIn (now (v .entry))) r (now (memory .exit)) ⌝ }
-{
-    match profile::read(v) {
+    match profile::read(&v[..n]) {
         ProfileAnswer::Read(said) => {
-            writing::write_octets(memory, 0, v);
-            Reply::Profiled(said, v.len())
+            writing::write_octets(memory, 0, &v[..n]);
+            Reply::Profiled(said, n)
         }
         ProfileAnswer::Refused(refusal) => Reply::Refused(refusal.number()),
     }
@@ -50,18 +42,10 @@ pub(crate) fn reply_component(rest: &[u8], memory: &mut [u8]) -> Reply
     let Octets::Count(n) = octets::read(&rest[..end], &mut v) else {
         return Reply::NoQuestion;
     };
-    read_component(&v[..n], number, memory)
-}
-
-// Answers with a component of a body.
-fn read_component(v: &[u8], number: u64, memory: &mut [u8]) -> Reply
-    requires { ⌜ octetsMost ≤ length (now memory) ⌝ }
-    ensures { λ r. ⌜ Held (componentIn (now (v .entry)) number) r (now (memory .exit)) ⌝ }
-{
-    match profile::component(v, number) {
+    match profile::component(&v[..n], number) {
         ComponentAnswer::Found { tag, octets } => {
-            writing::write_octets(memory, 0, v);
-            Reply::Component(tag, octets, v.len())
+            writing::write_octets(memory, 0, &v[..n]);
+            Reply::Component(tag, octets, n)
         }
         ComponentAnswer::Refused(refusal) => Reply::Refused(refusal.number()),
     }

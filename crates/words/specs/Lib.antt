@@ -1,4 +1,4 @@
--- The words of a line, and those of a question about a value.
+-- The words of a line, and those of a question about a value or a component.
 pub mod Words
 pub mod Found
 pub mod Fields

@@ -1,8 +1,9 @@
--- The words are read, and the component.
+-- The words are read, and the body, which stands in the memory then, or the number of its refusal is told.
 use mathlib.Core.Path.{sym, _∙_}
 use lib.Seq.{length-take-le}
 use Rattle.questions.specs.Questions.{componentIn}
 use Rattle.questions.proofs.Answers.{octets-not, octets-asked, octets-within}
+use Rattle.questions.proofs.Bodies.{component-held, component-refused}
 use Rattle.questions.proofs.Readings.{numbered-none, numbered-within, numbered-fits, numbered-about}
 use Rattle.questions.proofs.Without.{none-held}
 use borrow.Author.Needs.{needs}
@@ -42,17 +43,38 @@ returns-2 c = none-held _ _ (numbered-about (c .before .before .before .before .
 array-share-prefix-v : tie.Need-array-share-prefix-v
 array-share-prefix-v c = octets-within (c .before .before .before .before .read .ensures) _ (c .before .n .given .1)
 
-slice-aggregate-read-component : tie.Need-slice-aggregate-read-component
-slice-aggregate-read-component c = sym (length-take-le _ _ (octets-within (c .before .before .before .before .before .read .ensures) _ (c .before .before .n .given .1)))
+slice-aggregate-component : tie.Need-slice-aggregate-component
+slice-aggregate-component c = sym (length-take-le _ _ (octets-within (c .before .before .before .before .before .read .ensures) _ (c .before .before .n .given .1)))
 
-read-component-requires : tie.Need-read-component-requires
-read-component-requires c κs = search needs
+component-requires : tie.Need-component-requires
+component-requires c κs = search needs
+
+enum-known-tag : tie.Need-enum-known-tag
+enum-known-tag c = search needs
+
+array-share-prefix-v-2 : tie.Need-array-share-prefix-v-2
+array-share-prefix-v-2 c = octets-within (c .before .before .before .before .before .before .before .before .before .before .read .ensures) _ (c .before .before .before .before .before .before .before .n .given .1)
+
+slice-aggregate-write-octets : tie.Need-slice-aggregate-write-octets
+slice-aggregate-write-octets c = sym (length-take-le _ _ (octets-within (c .before .before .before .before .before .before .before .before .before .before .before .read .ensures) _ (c .before .before .before .before .before .before .before .before .n .given .1)))
+
+write-octets-requires : tie.Need-write-octets-requires
+write-octets-requires c κs = search needs
+
+enum-known-refusal : tie.Need-enum-known-refusal
+enum-known-refusal c = search needs
+
+number-requires : tie.Need-number-requires
+number-requires c κs = search needs
 
 same-length : tie.Need-same-length
 same-length c = search needs
 
 returns-3 : tie.Need-returns-3
-returns-3 c = rw (numbered-about (c .before .before .before .before .before .before .before .before .before .before .before .before .before .before .before .before .before .before .args .rest .now) _ (c .before .before .before .before .before .before .before .before .before .before .before .before .before .before .before .read-numbered .ensures) _ _ (c .before .before .before .before .before .before .before .before .before .before .before .before .before .end .given .1) ∙ octets-asked (c .before .before .before .before .before .before .before .before .before .read .ensures) _ (c .before .before .before .before .before .before .n .given .1) (λ v. componentIn v (c .before .before .before .before .before .before .before .before .before .before .before .before .before .end .given .0 .1 .0))) (c .before .before .read-component .ensures)
+returns-3 c = rw (numbered-about (c .before .before .before .before .before .before .before .before .before .before .before .before .before .before .before .before .before .before .before .before .before .before .before .args .rest .now) _ (c .before .before .before .before .before .before .before .before .before .before .before .before .before .before .before .before .before .before .before .before .read-numbered .ensures) _ _ (c .before .before .before .before .before .before .before .before .before .before .before .before .before .before .before .before .before .before .end .given .1) ∙ octets-asked (c .before .before .before .before .before .before .before .before .before .before .before .before .before .before .read .ensures) _ (c .before .before .before .before .before .before .before .before .before .before .before .n .given .1) (λ v. componentIn v (c .before .before .before .before .before .before .before .before .before .before .before .before .before .before .before .before .before .before .end .given .0 .1 .0))) (component-held _ (c .before .before .before .before .before .before .before .before .before .before .before .before .before .before .before .before .before .before .end .given .0 .1 .0) _ (c .before .before .before .before .before .before .before .before .component .ensures) _ _ (c .before .before .before .before .before .before .tag .given .1) (c .before .before .before .before .before .before .before .before .before .before .before .before .before .before .before .before .before .before .before .before .before .before .before .args .memory .now) (c .before .before .before .before .before .before .before .before .before .before .before .before .before .before .before .before .before .before .before .before .before .before .before .pre .1) _ _ (c .before .before .write-octets .ensures) _ (length-take-le _ _ (octets-within (c .before .before .before .before .before .before .before .before .before .before .before .before .before .before .read .ensures) _ (c .before .before .before .before .before .before .before .before .before .before .before .n .given .1))))
+
+returns-4 : tie.Need-returns-4
+returns-4 c = rw (numbered-about (c .before .before .before .before .before .before .before .before .before .before .before .before .before .before .before .before .before .before .before .args .rest .now) _ (c .before .before .before .before .before .before .before .before .before .before .before .before .before .before .before .before .read-numbered .ensures) _ _ (c .before .before .before .before .before .before .before .before .before .before .before .before .before .before .end .given .1) ∙ octets-asked (c .before .before .before .before .before .before .before .before .before .before .read .ensures) _ (c .before .before .before .before .before .before .before .n .given .1) (λ v. componentIn v (c .before .before .before .before .before .before .before .before .before .before .before .before .before .before .end .given .0 .1 .0))) (component-refused _ (c .before .before .before .before .before .before .before .before .before .before .before .before .before .before .end .given .0 .1 .0) _ (c .before .before .before .before .component .ensures) _ (c .before .before .refusal .given .1) _ (c .number .ensures) _)
 
 pub reply-component-spec : {M : Type 1} → statement M
 reply-component-spec =
@@ -69,7 +91,14 @@ reply-component-spec =
     enum-told-2
     returns-2
     array-share-prefix-v
-    slice-aggregate-read-component
-    read-component-requires
+    slice-aggregate-component
+    component-requires
+    enum-known-tag
+    array-share-prefix-v-2
+    slice-aggregate-write-octets
+    write-octets-requires
+    enum-known-refusal
+    number-requires
     same-length
-    returns-3)
+    returns-3
+    returns-4)

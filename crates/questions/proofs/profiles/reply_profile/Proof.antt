@@ -1,8 +1,9 @@
--- The word is read, and the body.
+-- The word is read, and the body, which stands in the memory then, or the number of its refusal is told.
 use mathlib.Core.Path.{sym}
 use lib.Seq.{length-take-le}
 use Rattle.questions.specs.Questions.{profileIn}
 use Rattle.questions.proofs.Answers.{octets-not, octets-asked, octets-within}
+use Rattle.questions.proofs.Bodies.{profile-held, profile-refused}
 use Rattle.questions.proofs.Without.{none-held}
 use borrow.Author.Needs.{needs}
 use Rattle.questions.proofs.profiles.reply_profile.Statement.{statement}
@@ -26,17 +27,38 @@ returns c = none-held _ _ (octets-not (c .before .before .before .read-lone .ens
 array-share-prefix-v : tie.Need-array-share-prefix-v
 array-share-prefix-v c = octets-within (c .before .before .before .before .read-lone .ensures) _ (c .before .n .given .1)
 
-slice-aggregate-read-profile : tie.Need-slice-aggregate-read-profile
-slice-aggregate-read-profile c = sym (length-take-le _ _ (octets-within (c .before .before .before .before .before .read-lone .ensures) _ (c .before .before .n .given .1)))
+slice-aggregate-read : tie.Need-slice-aggregate-read
+slice-aggregate-read c = sym (length-take-le _ _ (octets-within (c .before .before .before .before .before .read-lone .ensures) _ (c .before .before .n .given .1)))
 
-read-profile-requires : tie.Need-read-profile-requires
-read-profile-requires c κs = search needs
+read-requires : tie.Need-read-requires
+read-requires c κs = search needs
+
+enum-known-said : tie.Need-enum-known-said
+enum-known-said c = search needs
+
+array-share-prefix-v-2 : tie.Need-array-share-prefix-v-2
+array-share-prefix-v-2 c = octets-within (c .before .before .before .before .before .before .before .before .before .before .read-lone .ensures) _ (c .before .before .before .before .before .before .before .n .given .1)
+
+slice-aggregate-write-octets : tie.Need-slice-aggregate-write-octets
+slice-aggregate-write-octets c = sym (length-take-le _ _ (octets-within (c .before .before .before .before .before .before .before .before .before .before .before .read-lone .ensures) _ (c .before .before .before .before .before .before .before .before .n .given .1)))
+
+write-octets-requires : tie.Need-write-octets-requires
+write-octets-requires c κs = search needs
+
+enum-known-refusal : tie.Need-enum-known-refusal
+enum-known-refusal c = search needs
+
+number-requires : tie.Need-number-requires
+number-requires c κs = search needs
 
 same-length : tie.Need-same-length
 same-length c = search needs
 
 returns-2 : tie.Need-returns-2
-returns-2 c = rw (octets-asked (c .before .before .before .before .before .before .before .before .before .read-lone .ensures) _ (c .before .before .before .before .before .before .n .given .1) (λ v. profileIn v)) (c .before .before .read-profile .ensures)
+returns-2 c = rw (octets-asked (c .before .before .before .before .before .before .before .before .before .before .before .before .before .before .read-lone .ensures) _ (c .before .before .before .before .before .before .before .before .before .before .before .n .given .1) (λ v. profileIn v)) (profile-held _ _ (c .before .before .before .before .before .before .before .before .read .ensures) _ (c .before .before .before .before .before .before .said .given .1) (c .before .before .before .before .before .before .before .before .before .before .before .before .before .before .before .before .before .before .args .memory .now) (c .before .before .before .before .before .before .before .before .before .before .before .before .before .before .before .before .before .before .pre .1) _ _ (c .before .before .write-octets .ensures) _ (length-take-le _ _ (octets-within (c .before .before .before .before .before .before .before .before .before .before .before .before .before .before .read-lone .ensures) _ (c .before .before .before .before .before .before .before .before .before .before .before .n .given .1))))
+
+returns-3 : tie.Need-returns-3
+returns-3 c = rw (octets-asked (c .before .before .before .before .before .before .before .before .before .before .read-lone .ensures) _ (c .before .before .before .before .before .before .before .n .given .1) (λ v. profileIn v)) (profile-refused _ _ (c .before .before .before .before .read .ensures) _ (c .before .before .refusal .given .1) _ (c .number .ensures) _)
 
 pub reply-profile-spec : {M : Type 1} → statement M
 reply-profile-spec =
@@ -48,7 +70,14 @@ reply-profile-spec =
     enum-told
     returns
     array-share-prefix-v
-    slice-aggregate-read-profile
-    read-profile-requires
+    slice-aggregate-read
+    read-requires
+    enum-known-said
+    array-share-prefix-v-2
+    slice-aggregate-write-octets
+    write-octets-requires
+    enum-known-refusal
+    number-requires
     same-length
-    returns-2)
+    returns-2
+    returns-3)
