@@ -1,7 +1,7 @@
 -- The parts of a profile body: what each answer rests on.
 use mathlib.Core.Path.{_≡_, refl, sym, ap, subst, _∙_}
 use mathlib.Core.List.{List}
-use mathlib.Core.Bool.{Bool, true, false, cond}
+use mathlib.Core.Bool.{Bool, cond}
 use Prim.Native.Nat.{ℕ, _+_, _≤_}
 use native.Mathlib.Omega.{arith}
 use lib.ListN.{length, getD}
@@ -13,7 +13,6 @@ use Rattle.cdr.specs.declared.Size.the-variants.{Four}
 use Rattle.cdr.specs.declared.Named.{Named}
 use Rattle.cdr.specs.Align.{indexOf}
 use Rattle.cdr.specs.Orders.{orderOf}
-use Rattle.texts.specs.declared.Run.{Run}
 use Rattle.texts.specs.declared.Run.the-variants.{To, Past}
 use Rattle.texts.specs.Text.{runOf}
 use Rattle.encapsulation.specs.declared.Field.{Field}
@@ -26,7 +25,6 @@ use Rattle.encapsulation.specs.Encapsulation.{fieldOf, stringOf, countedOf}
 use Rattle.version.specs.Versions.{majorExists, minorExists}
 use Rattle.parts.specs.declared.Refusal.the-variants.{Ends, NoSuchVersion}
 use Rattle.parts.specs.declared.OrderPart.the-variants.{Refused as noOrder}
-use Rattle.parts.specs.declared.VersionPart.{VersionPart}
 use Rattle.parts.specs.declared.VersionPart.the-variants.{Version, Refused as noVersion}
 use Rattle.parts.specs.declared.ComponentPart.the-variants.{Component, Refused as noComponent}
 use Rattle.parts.specs.declared.OctetsPart.the-variants.{Span}

@@ -1,5 +1,5 @@
 -- Components one after the other: turn by turn, and what an index after some of them tells.
-use mathlib.Core.Path.{_≡_, refl, sym, ap, subst, _∙_}
+use mathlib.Core.Path.{_≡_, refl, subst}
 use mathlib.Core.List.{List}
 use Prim.Native.Nat.{ℕ, zero, suc, _+_, _-_, _≤_, _<_}
 use native.Mathlib.Omega.{arith}
@@ -12,7 +12,6 @@ use Rattle.parts.specs.declared.ComponentPart.{ComponentPart}
 use Rattle.parts.specs.declared.ComponentPart.the-variants.{Component, Refused as noComponent}
 use Rattle.parts.specs.Parts.{componentAt}
 use Rattle.parts.proofs.Parts.{component-inside}
-use Rattle.profile.specs.declared.list.Skip.{Skip}
 use Rattle.profile.specs.declared.list.Skip.the-variants.{To, Refused as noSkip}
 use Rattle.profile.specs.List.{skipFrom, onComponent}
 

@@ -1,9 +1,8 @@
 -- What each stage of the reading of a body comes to, by the part that stands there.
-use mathlib.Core.Path.{_≡_, ap, _∙_}
+use mathlib.Core.Path.{_≡_, ap}
 use mathlib.Core.List.{List}
-use mathlib.Core.Bool.{Bool, true, false, cond}
+use mathlib.Core.Bool.{true, false}
 use Prim.Native.Nat.{ℕ, _≤_, _<_}
-use lib.Dec.{ltb, leb}
 use lib.ListN.{length}
 use borrow.Author.Tests.{lt-ltb, le-ltb, le-leb, lt-leb}
 use Rattle.choices.specs.Branch.{choose}
@@ -16,7 +15,7 @@ use Rattle.parts.specs.declared.VersionPart.{VersionPart}
 use Rattle.parts.specs.declared.OctetsPart.{OctetsPart}
 use Rattle.parts.specs.declared.NumberPart.{NumberPart}
 use Rattle.parts.specs.declared.ComponentPart.{ComponentPart}
-use Rattle.parts.specs.Parts.{orderAt, versionAt, hostAt, portAt, keyAt, countAt, componentAt}
+use Rattle.parts.specs.Parts.{orderAt, versionAt, hostAt, portAt, keyAt, countAt}
 use Rattle.version.specs.Versions.{hasComponents}
 use Rattle.profile.specs.declared.list.Skip.{Skip}
 use Rattle.profile.specs.declared.list.Components.{Components}

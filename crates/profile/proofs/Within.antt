@@ -1,8 +1,8 @@
 -- A body that was read: its parts are among its octets, and each component whose number is below their count is there.
-use mathlib.Core.Path.{_≡_, refl, sym, ap, subst, _∙_}
+use mathlib.Core.Path.{_≡_, refl, ap, subst, _∙_}
 use mathlib.Core.List.{List}
 use mathlib.Core.Bool.{Bool, true, false, cond}
-use Prim.Native.Nat.{ℕ, zero, suc, _+_, _-_, _≤_, _<_}
+use Prim.Native.Nat.{ℕ, zero, suc, _+_, _≤_, _<_}
 use native.Mathlib.Omega.{arith}
 use borrow.Author.Tests.{ltb-false}
 use lib.Dec.{ltb}
@@ -34,12 +34,11 @@ use Rattle.profile.specs.declared.list.Components.the-variants.{Listed, 
 use Rattle.profile.specs.declared.Extent.{Extent}
 use Rattle.profile.specs.declared.Head.{Head}
 use Rattle.profile.specs.declared.Profile.{Profile}
-use Rattle.profile.specs.declared.ProfileAnswer.{ProfileAnswer}
 use Rattle.profile.specs.declared.ProfileAnswer.the-variants.{Read, Refused}
-use Rattle.profile.specs.List.{onComponent, skipFrom, listed, listFrom, onCount, countedList, listAt, componentFrom, componentAfter}
+use Rattle.profile.specs.List.{onComponent, skipFrom, listed, listFrom, onCount, countedList, listAt}
 use Rattle.profile.specs.Profile.{extent, onOrder, onVersion, onOctets, onNumber, onList, profileOf}
 use Rattle.profile.specs.Inner.{listThen, keyThen, portThen, hostThen, versionThen}
-use Rattle.profile.specs.Within.{Within, ReadsWithin, FindsAll}
+use Rattle.profile.specs.Within.{ReadsWithin, FindsAll}
 use Rattle.profile.proofs.Stages.{component-is, component-there, component-from-is}
 
 -- the index after all components

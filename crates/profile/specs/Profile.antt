@@ -25,7 +25,6 @@
 --   componentOctets    the octets of the component of a number
 use Prim.Native.Nat.{ℕ}
 use mathlib.Core.List.{List, [], _∷_}
-use mathlib.Core.Bool.{cond}
 use lib.Dec.{ltb, leb}
 use lib.ListN.{length, take, drop, replicate}
 use Rattle.choices.specs.Branch.{choose}
