@@ -14,7 +14,9 @@ abbrev μ-loop : tie.MeasureT-loop
 μ-loop labels t label start order count at₀ k₀ at k = count - k
 
 loop-holds : tie.Need-loop-holds Inv-loop μ-loop
-loop-holds c = seeking-none (c .before .before .before .args .labels) (c .before .before .before .args .t .now) (c .before .before .before .args .fields .start) (c .before .before .before .args .fields .order) (c .before .before .before .args .label)
+loop-holds c =
+  let a = c .before .before .before .args in
+  seeking-none (a .labels) (a .t .now) (a .fields .start) (a .fields .order) (a .label)
 
 member-at-requires : tie.Need-member-at-requires Inv-loop μ-loop
 member-at-requires c κs = search needs
@@ -23,7 +25,10 @@ label-is-requires : tie.Need-label-is-requires Inv-loop μ-loop
 label-is-requires c κs = search needs
 
 returns : tie.Need-returns Inv-loop μ-loop
-returns c = c .before .before .member-at .ensures ∙ seeking-hit (c .before .before .before .before .before .before .before .before .args .labels) (c .before .before .before .before .before .before .before .before .args .t .now) (c .before .before .before .before .before .before .before .before .args .fields .start) (c .before .before .before .before .before .before .before .before .args .fields .order) (c .before .before .before .before .before .before .before .before .args .label) (c .before .before .before .before .loop .inv) (c .before .before .before .loop-test .taken) (sym (c .before .label-is .ensures) ∙ c .if1 .taken)
+returns c =
+  let a = c .before .before .before .before .before .before .before .before .args in
+  let loop = c .before .before .before .before .loop in
+  c .before .before .member-at .ensures ∙ seeking-hit (a .labels) (a .t .now) (a .fields .start) (a .fields .order) (a .label) (loop .inv) (c .before .before .before .loop-test .taken) (sym (c .before .label-is .ensures) ∙ c .if1 .taken)
 
 enum-known-member : tie.Need-enum-known-member Inv-loop μ-loop
 enum-known-member c = search needs
@@ -32,7 +37,12 @@ enum-told : tie.Need-enum-told Inv-loop μ-loop
 enum-told c = search needs
 
 returns-2 : tie.Need-returns-2 Inv-loop μ-loop
-returns-2 c = seeking-cut (c .before .before .before .before .before .before .before .before .before .before .args .labels) (c .before .before .before .before .before .before .before .before .before .before .args .t .now) (c .before .before .before .before .before .before .before .before .before .before .args .fields .start) (c .before .before .before .before .before .before .before .before .before .before .args .fields .order) (c .before .before .before .before .before .before .before .before .before .before .args .label) (c .before .before .before .before .before .before .loop .inv) (c .before .before .before .before .before .loop-test .taken) (sym (c .before .before .before .label-is .ensures) ∙ c .before .before .if1 .left) (sym (c .before .before .before .before .member-at .ensures) ∙ c .enum-told .given .1)
+returns-2 c =
+  let a = c .before .before .before .before .before .before .before .before .before .before .args in
+  let loop = c .before .before .before .before .before .before .loop in
+  let loop-test = c .before .before .before .before .before .loop-test in
+  let member-at = c .before .before .before .before .member-at in
+  seeking-cut (a .labels) (a .t .now) (a .fields .start) (a .fields .order) (a .label) (loop .inv) (loop-test .taken) (sym (c .before .before .before .label-is .ensures) ∙ c .before .before .if1 .left) (sym (member-at .ensures) ∙ c .enum-told .given .1)
 
 add-k : tie.Need-add-k Inv-loop μ-loop
 add-k c = search needs
@@ -41,10 +51,18 @@ loop-less : tie.Need-loop-less Inv-loop μ-loop
 loop-less c = omega arith
 
 loop-again : tie.Need-loop-again Inv-loop μ-loop
-loop-again c = seeking-more (c .before .before .before .before .before .before .before .before .before .before .before .args .labels) (c .before .before .before .before .before .before .before .before .before .before .before .args .t .now) (c .before .before .before .before .before .before .before .before .before .before .before .args .fields .start) (c .before .before .before .before .before .before .before .before .before .before .before .args .fields .order) (c .before .before .before .before .before .before .before .before .before .before .before .args .label) (c .before .before .before .before .before .before .before .loop .inv) _ _ (c .before .before .before .before .before .before .loop-test .taken) (sym (c .before .before .before .before .label-is .ensures) ∙ c .before .before .before .if1 .left) (sym (c .before .before .before .before .before .member-at .ensures) ∙ c .before .member .given .1)
+loop-again c =
+  let a = c .before .before .before .before .before .before .before .before .before .before .before .args in
+  let loop = c .before .before .before .before .before .before .before .loop in
+  let loop-test = c .before .before .before .before .before .before .loop-test in
+  let label-is = c .before .before .before .before .label-is in
+  let member-at = c .before .before .before .before .before .member-at in
+  seeking-more (a .labels) (a .t .now) (a .fields .start) (a .fields .order) (a .label) (loop .inv) _ _ (loop-test .taken) (sym (label-is .ensures) ∙ c .before .before .before .if1 .left) (sym (member-at .ensures) ∙ c .before .member .given .1)
 
 returns-3 : tie.Need-returns-3 Inv-loop μ-loop
-returns-3 c = seeking-all (c .before .before .before .before .before .args .labels) (c .before .before .before .before .before .args .t .now) (c .before .before .before .before .before .args .fields .start) (c .before .before .before .before .before .args .fields .order) (c .before .before .before .before .before .args .label) (c .before .loop .inv) (c .loop-test .left)
+returns-3 c =
+  let a = c .before .before .before .before .before .args in
+  seeking-all (a .labels) (a .t .now) (a .fields .start) (a .fields .order) (a .label) (c .before .loop .inv) (c .loop-test .left)
 
 pub case-of-spec : {M : Type 1} → statement M
 case-of-spec =

@@ -19,10 +19,14 @@ default-of-requires : tie.Need-default-of-requires
 default-of-requires c κs = search needs
 
 returns : tie.Need-returns
-returns c = chosen-case (c .before .before .before .before .before .args .labels) (c .before .before .before .before .before .args .t .now) (c .before .before .before .before .before .args .fields) (c .before .before .before .before .before .args .default) (c .before .before .before .before .before .args .label) _ _ (sym (c .before .before .before .case-of .ensures) ∙ c .before .place .given .1)
+returns c =
+  let a = c .before .before .before .before .before .args in
+  chosen-case (a .labels) (a .t .now) (a .fields) (a .default) (a .label) _ _ (sym (c .before .before .before .case-of .ensures) ∙ c .before .place .given .1)
 
 returns-2 : tie.Need-returns-2
-returns-2 c = c .default-of .ensures ∙ chosen-default (c .before .before .before .before .before .args .labels) (c .before .before .before .before .before .args .t .now) (c .before .before .before .before .before .args .fields) (c .before .before .before .before .before .args .default) (c .before .before .before .before .before .args .label) (sym (c .before .before .before .case-of .ensures) ∙ c .before .enum-told .given .1)
+returns-2 c =
+  let a = c .before .before .before .before .before .args in
+  c .default-of .ensures ∙ chosen-default (a .labels) (a .t .now) (a .fields) (a .default) (a .label) (sym (c .before .before .before .case-of .ensures) ∙ c .before .enum-told .given .1)
 
 pub chosen-of-spec : {M : Type 1} → statement M
 chosen-of-spec =

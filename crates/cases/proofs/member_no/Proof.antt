@@ -14,7 +14,9 @@ abbrev μ-loop : tie.MeasureT-loop
 μ-loop labels t number start order at₀ k₀ at k = number - k
 
 loop-holds : tie.Need-loop-holds Inv-loop μ-loop
-loop-holds c = counting-none (c .before .before .before .args .labels) (c .before .before .before .args .t .now) (c .before .before .before .args .fields .start) (c .before .before .before .args .fields .order)
+loop-holds c =
+  let a = c .before .before .before .args in
+  counting-none (a .labels) (a .t .now) (a .fields .start) (a .fields .order)
 
 member-at-requires : tie.Need-member-at-requires Inv-loop μ-loop
 member-at-requires c κs = search needs
@@ -26,7 +28,10 @@ enum-told : tie.Need-enum-told Inv-loop μ-loop
 enum-told c = search needs
 
 returns : tie.Need-returns Inv-loop μ-loop
-returns c = counting-cut (c .before .before .before .before .before .before .before .before .args .labels) (c .before .before .before .before .before .before .before .before .args .t .now) (c .before .before .before .before .before .before .before .before .args .fields .start) (c .before .before .before .before .before .before .before .before .args .fields .order) (c .before .before .before .before .loop .inv) (c .before .before .before .loop-test .taken) (sym (c .before .before .member-at .ensures) ∙ c .enum-told .given .1)
+returns c =
+  let a = c .before .before .before .before .before .before .before .before .args in
+  let loop = c .before .before .before .before .loop in
+  counting-cut (a .labels) (a .t .now) (a .fields .start) (a .fields .order) (loop .inv) (c .before .before .before .loop-test .taken) (sym (c .before .before .member-at .ensures) ∙ c .enum-told .given .1)
 
 add-k : tie.Need-add-k Inv-loop μ-loop
 add-k c = search needs
@@ -35,13 +40,19 @@ loop-less : tie.Need-loop-less Inv-loop μ-loop
 loop-less c = omega arith
 
 loop-again : tie.Need-loop-again Inv-loop μ-loop
-loop-again c = counting-more (c .before .before .before .before .before .before .before .before .before .args .labels) (c .before .before .before .before .before .before .before .before .before .args .t .now) (c .before .before .before .before .before .before .before .before .before .args .fields .start) (c .before .before .before .before .before .before .before .before .before .args .fields .order) (c .before .before .before .before .before .loop .inv) _ _ (c .before .before .before .before .loop-test .taken) (sym (c .before .before .before .member-at .ensures) ∙ c .before .next .given .1)
+loop-again c =
+  let a = c .before .before .before .before .before .before .before .before .before .args in
+  let loop = c .before .before .before .before .before .loop in
+  let loop-test = c .before .before .before .before .loop-test in
+  counting-more (a .labels) (a .t .now) (a .fields .start) (a .fields .order) (loop .inv) _ _ (loop-test .taken) (sym (c .before .before .before .member-at .ensures) ∙ c .before .next .given .1)
 
 member-at-requires-2 : tie.Need-member-at-requires-2 Inv-loop μ-loop
 member-at-requires-2 c κs = search needs
 
 returns-2 : tie.Need-returns-2 Inv-loop μ-loop
-returns-2 c = c .member-at2 .ensures ∙ counting-all (c .before .before .before .before .before .before .args .labels) (c .before .before .before .before .before .before .args .t .now) (c .before .before .before .before .before .before .args .fields .start) (c .before .before .before .before .before .before .args .fields .order) (c .before .before .loop .inv) (c .before .loop-test .left)
+returns-2 c =
+  let a = c .before .before .before .before .before .before .args in
+  c .member-at2 .ensures ∙ counting-all (a .labels) (a .t .now) (a .fields .start) (a .fields .order) (c .before .before .loop .inv) (c .before .loop-test .left)
 
 pub member-no-spec : {M : Type 1} → statement M
 member-no-spec =

@@ -19,7 +19,9 @@ enum-told c = search needs
 
 returns : tie.Need-returns
 unfolding labelsAt
-returns c = rw (sym (c .before .before .before .before .spot-at .ensures) ∙ c .before .before .place .given .1) (c .labels-for .ensures)
+returns c =
+  let spot-at = c .before .before .before .before .spot-at in
+  rw (sym (spot-at .ensures) ∙ c .before .before .place .given .1) (c .labels-for .ensures)
 
 returns-2 : tie.Need-returns-2
 unfolding labelsAt

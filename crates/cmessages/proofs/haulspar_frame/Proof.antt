@@ -21,13 +21,15 @@ number-requires c κs = search needs
 
 returns : tie.Need-returns
 returns c =
-    let at-judge = c .before .before .before .before in
-    judges-c _ _ _ _ _ (at-judge .judge .ensures) (rw (c .before .before .h .given .1)) (rw (c .before .before .h .given .1) (c .numbers .ensures))
+  let h = c .before .before .h in
+  let at-judge = c .before .before .before .before in
+    judges-c _ _ _ _ _ (at-judge .judge .ensures) (rw (h .given .1)) (rw (h .given .1) (c .numbers .ensures))
 
 returns-2 : tie.Need-returns-2
 returns-2 c =
-    let at-judge = c .before .before .before .before in
-    judges-c _ _ _ _ _ (at-judge .judge .ensures) (rw (c .before .before .row .given .1) (c .number .ensures)) (rw (c .before .before .row .given .1))
+  let row = c .before .before .row in
+  let at-judge = c .before .before .before .before in
+    judges-c _ _ _ _ _ (at-judge .judge .ensures) (rw (row .given .1) (c .number .ensures)) (rw (row .given .1))
 
 pub haulspar-frame-spec : {M : Type 1} → statement M
 haulspar-frame-spec =

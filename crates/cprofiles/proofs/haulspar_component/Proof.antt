@@ -21,10 +21,14 @@ number-requires : tie.Need-number-requires
 number-requires c κs = search needs
 
 returns : tie.Need-returns
-returns c = finds-c _ _ _ _ _ _ (sym (c .before .before .before .before .component .ensures) ∙ c .before .before .tag .given .1) refl (c .component-row .ensures)
+returns c =
+  let component = c .before .before .before .before .component in
+  finds-c _ _ _ _ _ _ (sym (component .ensures) ∙ c .before .before .tag .given .1) refl (c .component-row .ensures)
 
 returns-2 : tie.Need-returns-2
-returns-2 c = finds-c _ _ _ _ _ _ (sym (c .before .before .before .before .component .ensures) ∙ c .before .before .refusal .given .1) (c .number .ensures) refl
+returns-2 c =
+  let component = c .before .before .before .before .component in
+  finds-c _ _ _ _ _ _ (sym (component .ensures) ∙ c .before .before .refusal .given .1) (c .number .ensures) refl
 
 pub haulspar-component-spec : {M : Type 1} → statement M
 haulspar-component-spec =

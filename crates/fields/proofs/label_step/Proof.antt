@@ -23,22 +23,35 @@ enum-told-2 : tie.Need-enum-told-2
 enum-told-2 c = search needs
 
 returns-2 : tie.Need-returns-2
-returns-2 c = rw (c .before .before .before .before .labels .given .1, sym (c .before .before .read-field .ensures) ∙ c .enum-told2 .given .1)
+returns-2 c =
+  let labels = c .before .before .before .before .labels in
+  rw (labels .given .1, sym (c .before .before .read-field .ensures) ∙ c .enum-told2 .given .1)
 
 out-of-kind-requires : tie.Need-out-of-kind-requires
 out-of-kind-requires c κs = search needs
 
 returns-3 : tie.Need-returns-3
-returns-3 c = rw (c .before .before .before .before .before .before .before .labels .given .1, sym (c .before .before .before .before .before .read-field .ensures) ∙ c .before .before .before .label .given .1, sym (c .before .out-of-kind .ensures) ∙ c .if1 .taken)
+returns-3 c =
+  let labels = c .before .before .before .before .before .before .before .labels in
+  let read-field = c .before .before .before .before .before .read-field in
+  rw (labels .given .1, sym (read-field .ensures) ∙ c .before .before .before .label .given .1, sym (c .before .out-of-kind .ensures) ∙ c .if1 .taken)
 
 label-among-requires : tie.Need-label-among-requires
 label-among-requires c κs = search needs
 
 returns-4 : tie.Need-returns-4
-returns-4 c = rw (c .before .before .before .before .before .before .before .before .before .labels .given .1, sym (c .before .before .before .before .before .before .before .read-field .ensures) ∙ c .before .before .before .before .before .label .given .1, sym (c .before .before .before .out-of-kind .ensures) ∙ c .before .before .if1 .left, sym (c .before .label-among .ensures) ∙ c .if2 .taken)
+returns-4 c =
+  let labels = c .before .before .before .before .before .before .before .before .before .labels in
+  let read-field = c .before .before .before .before .before .before .before .read-field in
+  let label = c .before .before .before .before .before .label in
+  rw (labels .given .1, sym (read-field .ensures) ∙ label .given .1, sym (c .before .before .before .out-of-kind .ensures) ∙ c .before .before .if1 .left, sym (c .before .label-among .ensures) ∙ c .if2 .taken)
 
 returns-5 : tie.Need-returns-5
-returns-5 c = rw (c .before .before .before .before .before .before .before .before .before .labels .given .1, sym (c .before .before .before .before .before .before .before .read-field .ensures) ∙ c .before .before .before .before .before .label .given .1, sym (c .before .before .before .out-of-kind .ensures) ∙ c .before .before .if1 .left, sym (c .before .label-among .ensures) ∙ c .if2 .left)
+returns-5 c =
+  let labels = c .before .before .before .before .before .before .before .before .before .labels in
+  let read-field = c .before .before .before .before .before .before .before .read-field in
+  let label = c .before .before .before .before .before .label in
+  rw (labels .given .1, sym (read-field .ensures) ∙ label .given .1, sym (c .before .before .before .out-of-kind .ensures) ∙ c .before .before .if1 .left, sym (c .before .label-among .ensures) ∙ c .if2 .left)
 
 pub label-step-spec : {M : Type 1} → statement M
 label-step-spec =

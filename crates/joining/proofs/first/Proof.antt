@@ -23,14 +23,18 @@ refused-requires : tie.Need-refused-requires
 refused-requires c κs = search needs
 
 returns : tie.Need-returns
-returns c = λ out.
-    refuses (c .before .before .before .before .before .before .args .octets .now) (c .before .before .before .before .before .before .args .before) (c .before .before .before .before .before .before .args .places .now) out _ FourOpen _
-    (no-place (c .before .before .before .before .before .before .args .before) (c .before .before .before .before .before .before .args .id) _ (c .before .before .before .lowest-free .ensures) (c .before .enum-told .given .1))
+returns c =
+  let a = c .before .before .before .before .before .before .args in
+  λ out.
+    refuses (a .octets .now) (a .before) (a .places .now) out _ FourOpen _
+    (no-place (a .before) (a .id) _ (c .before .before .before .lowest-free .ensures) (c .before .enum-told .given .1))
     (c .refused .ensures)
 
 -- the place is one of the four
 place : (c : tie.After-i) → c .i .given .0 .0 < placesCount
-place c = free-place (c .before .before .before .before .before .args .before) _ _ (c .before .before .lowest-free .ensures) (c .i .given .1)
+place c =
+  let a = c .before .before .before .before .before .args in
+  free-place (a .before) _ _ (c .before .before .lowest-free .ensures) (c .i .given .1)
 
 mul-write-octets : tie.Need-mul-write-octets
 mul-write-octets c = record { fits = let p = place (c .before .before) in omega arith }
@@ -45,17 +49,22 @@ same-length : tie.Need-same-length
 same-length c = search needs
 
 returns-2 : tie.Need-returns-2
-returns-2 c = λ out.
-    let octets = c .before .before .before .before .before .before .before .before .before .before .before .args .octets .now in
-    let r = c .before .before .before .before .before .before .before .before .before .before .before .args .before in
-    let places = c .before .before .before .before .before .before .before .before .before .before .before .args .places .now in
-    let i = c .before .before .before .before .before .before .i .given .0 .0 in
+returns-2 c =
+  let a = c .before .before .before .before .before .before .before .before .before .before .before .args in
+  let i2 = c .before .before .before .before .before .before .i in
+  let pre = c .before .before .before .before .before .before .before .before .before .before .before .pre in
+  let lowest-free = c .before .before .before .before .before .before .before .before .lowest-free in
+  λ out.
+    let octets = a .octets .now in
+    let r = a .before in
+    let places = a .places .now in
+    let i = i2 .given .0 .0 in
     let p = place (c .before .before .before .before .before .before) in
-    let l = c .before .before .before .before .before .before .before .before .before .before .before .pre .lent in
-    let n = c .before .before .before .before .before .before .before .before .before .before .before .pre .short in
-    by-step octets r places out _ (Opens i (c .before .before .before .before .before .before .before .before .before .before .before .args .id)) _ _ out
-    (opens-place r (c .before .before .before .before .before .before .before .before .before .before .before .args .id) _ i (c .before .before .before .before .before .before .before .before .lowest-free .ensures) (c .before .before .before .before .before .before .i .given .1))
-    (opens octets r places out i (c .before .before .before .before .before .before .before .before .before .before .before .args .id) (c .opened .result) _ _ (omega arith) (c .opened .ensures) (c .before .before .before .write-octets .ensures))
+    let l = pre .lent in
+    let n = pre .short in
+    by-step octets r places out _ (Opens i (a .id)) _ _ out
+    (opens-place r (a .id) _ i (lowest-free .ensures) (i2 .given .1))
+    (opens octets r places out i (a .id) (c .opened .result) _ _ (omega arith) (c .opened .ensures) (c .before .before .before .write-octets .ensures))
 
 pub first-spec : {M : Type 1} → statement M
 first-spec =

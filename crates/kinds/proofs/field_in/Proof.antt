@@ -8,7 +8,9 @@ use Rattle.kinds.proofs.Reading.{rest, field-beyond}
 
 returns : tie.Need-returns
 unfolding fieldIn
-returns c = sym (field-beyond (c .before .before .args .v .now) (c .before .before .args .start) (c .before .before .args .at) (c .before .before .args .size) (c .before .before .args .order) (c .if1 .taken))
+returns c =
+  let a = c .before .before .args in
+  sym (field-beyond (a .v .now) (a .start) (a .at) (a .size) (a .order) (c .if1 .taken))
 
 sub-read-field : tie.Need-sub-read-field
 sub-read-field c = search needs
@@ -24,7 +26,9 @@ read-field-requires c κs = search needs
 
 returns-2 : tie.Need-returns-2
 unfolding fieldIn
-returns-2 c = rw (← rest (c .before .before .before .before .args .v .now) (c .before .before .before .before .args .start .0)) (c .read-field .ensures)
+returns-2 c =
+  let a = c .before .before .before .before .args in
+  rw (← rest (a .v .now) (a .start .0)) (c .read-field .ensures)
 
 pub field-in-spec : {M : Type 1} → statement M
 field-in-spec =

@@ -27,7 +27,9 @@ aimed-requires c κs = search needs
 
 returns-2 : tie.Need-returns-2
 unfolding spotAt
-returns-2 c = rw (sym (c .before .before .before .before .before .field-in .ensures) ∙ c .before .before .before .kind .given .1, eq-eqb _ _ (c .before .if1 .taken)) (c .aimed .ensures)
+returns-2 c =
+  let field-in = c .before .before .before .before .before .field-in in
+  rw (sym (field-in .ensures) ∙ c .before .before .before .kind .given .1, eq-eqb _ _ (c .before .if1 .taken)) (c .aimed .ensures)
 
 form-of-requires : tie.Need-form-of-requires
 form-of-requires c κs = search needs
@@ -39,21 +41,39 @@ enum-known-over : tie.Need-enum-known-over
 enum-known-over c = search needs
 
 sub-t14 : tie.Need-sub-t14
-sub-t14 c = omega (arith, field-inside (c .before .before .before .before .before .before .before .before .before .before .before .before .args .v .now) (c .before .before .before .before .before .before .before .before .before .before .before .before .args .start) (c .before .before .before .before .before .before .before .before .before .before .before .before .args .at) Four (c .before .before .before .before .before .before .before .before .before .before .before .before .args .order) _ _ (sym (c .before .before .before .before .before .before .before .before .before .before .field-in .ensures) ∙ c .before .before .before .before .before .before .before .before .kind .given .1) .0)
+sub-t14 c =
+  let a = c .before .before .before .before .before .before .before .before .before .before .before .before .args in
+  let field-in = c .before .before .before .before .before .before .before .before .before .before .field-in in
+  let kind = c .before .before .before .before .before .before .before .before .kind in
+  omega (arith, field-inside (a .v .now) (a .start) (a .at) Four (a .order) _ _ (sym (field-in .ensures) ∙ kind .given .1) .0)
 
 add-t15 : tie.Need-add-t15
-add-t15 c = omega (arith, field-inside (c .before .before .before .before .before .before .before .before .before .before .before .before .before .args .v .now) (c .before .before .before .before .before .before .before .before .before .before .before .before .before .args .start) (c .before .before .before .before .before .before .before .before .before .before .before .before .before .args .at) Four (c .before .before .before .before .before .before .before .before .before .before .before .before .before .args .order) _ _ (sym (c .before .before .before .before .before .before .before .before .before .before .before .field-in .ensures) ∙ c .before .before .before .before .before .before .before .before .before .kind .given .1) .1)
+add-t15 c =
+  let a = c .before .before .before .before .before .before .before .before .before .before .before .before .before .args in
+  let field-in = c .before .before .before .before .before .before .before .before .before .before .before .field-in in
+  let kind = c .before .before .before .before .before .before .before .before .before .kind in
+  omega (arith, field-inside (a .v .now) (a .start) (a .at) Four (a .order) _ _ (sym (field-in .ensures) ∙ kind .given .1) .1)
 
 enum-told-2 : tie.Need-enum-told-2
 enum-told-2 c = search needs
 
 returns-3 : tie.Need-returns-3
 unfolding spotAt
-returns-3 c = rw (sym (c .before .before .before .before .before .before .before .before .before .before .before .field-in .ensures) ∙ c .before .before .before .before .before .before .before .before .before .kind .given .1, ne-eqb _ _ (c .before .before .before .before .before .before .before .if1 .left), ← c .before .before .before .before .before .before .form-of .ensures, sym (c .before .before .before .before .before .skip-kind .ensures) ∙ c .before .before .before .over .given .1)
+returns-3 c =
+  let field-in = c .before .before .before .before .before .before .before .before .before .before .before .field-in in
+  let kind = c .before .before .before .before .before .before .before .before .before .kind in
+  let if1 = c .before .before .before .before .before .before .before .if1 in
+  let form-of = c .before .before .before .before .before .before .form-of in
+  let skip-kind = c .before .before .before .before .before .skip-kind in
+  rw (sym (field-in .ensures) ∙ kind .given .1, ne-eqb _ _ (if1 .left), ← form-of .ensures, sym (skip-kind .ensures) ∙ c .before .before .before .over .given .1)
 
 returns-4 : tie.Need-returns-4
 unfolding spotAt
-returns-4 c = rw (sym (c .before .before .before .before .before .before .before .before .field-in .ensures) ∙ c .before .before .before .before .before .before .kind .given .1, ne-eqb _ _ (c .before .before .before .before .if1 .left), ← c .before .before .before .form-of .ensures, sym (c .before .before .skip-kind .ensures) ∙ c .enum-told2 .given .1)
+returns-4 c =
+  let field-in = c .before .before .before .before .before .before .before .before .field-in in
+  let kind = c .before .before .before .before .before .before .kind in
+  let if1 = c .before .before .before .before .if1 in
+  rw (sym (field-in .ensures) ∙ kind .given .1, ne-eqb _ _ (if1 .left), ← c .before .before .before .form-of .ensures, sym (c .before .before .skip-kind .ensures) ∙ c .enum-told2 .given .1)
 
 pub spot-at-spec : {M : Type 1} → statement M
 spot-at-spec =

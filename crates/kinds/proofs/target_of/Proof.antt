@@ -13,19 +13,28 @@ add-t11 : tie.Need-add-t11
 add-t11 c = search needs
 
 returns : tie.Need-returns
-returns c = sym (target-forward (c .before .before .args .at) (c .before .before .args .offset) (c .before .if1 .taken) (omega (arith, c .if2 .taken)))
+returns c =
+  let a = c .before .before .args in
+  sym (target-forward (a .at) (a .offset) (c .before .if1 .taken) (omega (arith, c .if2 .taken)))
 
 returns-2 : tie.Need-returns-2
-returns-2 c = sym (target-over (c .before .before .args .at) (c .before .before .args .offset) (c .before .if1 .taken) (omega (arith, c .if2 .left)))
+returns-2 c =
+  let a = c .before .before .args in
+  sym (target-over (a .at) (a .offset) (c .before .if1 .taken) (omega (arith, c .if2 .left)))
 
 back-requires : tie.Need-back-requires
 back-requires c κs = search needs
 
 returns-3 : tie.Need-returns-3
-returns-3 c = sym (target-under (c .before .before .before .args .at) (c .before .before .before .args .offset) (c .before .before .if1 .left) (rw (← c .before .back .ensures) (c .if3 .taken)))
+returns-3 c =
+  let a = c .before .before .before .args in
+  sym (target-under (a .at) (a .offset) (c .before .before .if1 .left) (rw (← c .before .back .ensures) (c .if3 .taken)))
 
 returns-4 : tie.Need-returns-4
-returns-4 c = rw (c .before .back .ensures) (sym (target-back (c .before .before .before .args .at) (c .before .before .before .args .offset) (c .before .before .if1 .left) (rw (← c .before .back .ensures) (c .if3 .left))))
+returns-4 c =
+  let back = c .before .back in
+  let a = c .before .before .before .args in
+  rw (back .ensures) (sym (target-back (a .at) (a .offset) (c .before .before .if1 .left) (rw (← back .ensures) (c .if3 .left))))
 
 pub target-of-spec : {M : Type 1} → statement M
 target-of-spec =

@@ -13,7 +13,9 @@ use Rattle.leaves.specs.Walk.{sinkOf, sourceOf, stateOf}
 use Rattle.cdr.specs.Align.{octets}
 
 returns : tie.Need-returns
-returns c = sym (way.leaf-nothing (sinkOf (c .before .before .before .args .m)) (sourceOf (c .before .before .before .args .m) (c .before .before .before .args .v .now)) (c .before .before .before .args .kind) (stateOf (c .before .before .before .args .c) (c .before .before .before .args .table .now)) (c .if1 .taken))
+returns c =
+  let a = c .before .before .before .args in
+  sym (way.leaf-nothing (sinkOf (a .m)) (sourceOf (a .m) (a .v .now)) (a .kind) (stateOf (a .c) (a .table .now)) (c .if1 .taken))
 
 size-of-requires : tie.Need-size-of-requires
 size-of-requires c κs = search needs
@@ -28,7 +30,11 @@ octets-requires : tie.Need-octets-requires
 octets-requires c κs = search needs
 
 add-next : tie.Need-add-next
-add-next c = omega (arith, read-facts (c .before .before .before .before .before .before .before .before .before .args .v .now) (c .before .before .before .before .before .before .before .before .before .args .m .start) (c .before .before .before .before .before .before .before .before .before .args .c .at) (c .before .before .before .before .before .size-of .result) (c .before .before .before .before .before .before .before .before .before .args .m .order) _ _ (sym (c .before .before .before .before .number-at .ensures) ∙ c .before .before .at .given .1) .fits, c .octets .ensures)
+add-next c =
+  let a = c .before .before .before .before .before .before .before .before .before .args in
+  let size-of = c .before .before .before .before .before .size-of in
+  let number-at = c .before .before .before .before .number-at in
+  omega (arith, read-facts (a .v .now) (a .m .start) (a .c .at) (size-of .result) (a .m .order) _ _ (sym (number-at .ensures) ∙ c .before .before .at .given .1) .fits, c .octets .ensures)
 
 took-requires : tie.Need-took-requires
 took-requires c κs = search needs
@@ -46,10 +52,21 @@ same-length : tie.Need-same-length
 same-length c = search needs
 
 returns-2 : tie.Need-returns-2
-returns-2 c = c .before .before .leaf-done .ensures (c .before .before .before .before .before .before .before .before .before .before .before .before .before .before .args .v .now) ∙ ap (leafDone (sinkOf (c .before .before .before .before .before .before .before .before .before .before .before .before .before .before .args .m)) (sourceOf (c .before .before .before .before .before .before .before .before .before .before .before .before .before .before .args .m) (c .before .before .before .before .before .before .before .before .before .before .before .before .before .before .args .v .now)) (c .before .before .before .before .before .before .before .before .before .before .before .before .before .before .args .kind) _ _) (c .before .before .before .took .ensures (c .before .before .before .before .before .before .before .before .before .before .before .before .before .before .args .m) (c .before .before .before .before .before .before .before .before .before .before .before .before .before .before .args .table .now) _ _ _) ∙ sym (way.leaf-read (sinkOf (c .before .before .before .before .before .before .before .before .before .before .before .before .before .before .args .m)) (sourceOf (c .before .before .before .before .before .before .before .before .before .before .before .before .before .before .args .m) (c .before .before .before .before .before .before .before .before .before .before .before .before .before .before .args .v .now)) (c .before .before .before .before .before .before .before .before .before .before .before .before .before .before .args .kind) (c .before .before .before .before .before .before .before .before .before .before .size-of .result) _ _ (c .before .before .before .before .before .octets .result) (stateOf (c .before .before .before .before .before .before .before .before .before .before .before .before .before .before .args .c) (c .before .before .before .before .before .before .before .before .before .before .before .before .before .before .args .table .now)) (c .before .before .before .before .before .before .before .before .before .before .before .if1 .left) (c .before .before .before .before .before .before .before .before .before .before .size-of .ensures) (c .before .before .before .before .before .octets .ensures) (sym (c .before .before .before .before .before .before .before .before .before .number-at .ensures) ∙ c .before .before .before .before .before .before .before .at .given .1))
+returns-2 c =
+  let a = c .before .before .before .before .before .before .before .before .before .before .before .before .before .before .args in
+  let size-of = c .before .before .before .before .before .before .before .before .before .before .size-of in
+  let octets = c .before .before .before .before .before .octets in
+  let if1 = c .before .before .before .before .before .before .before .before .before .before .before .if1 in
+  let number-at = c .before .before .before .before .before .before .before .before .before .number-at in
+  let at2 = c .before .before .before .before .before .before .before .at in
+  c .before .before .leaf-done .ensures (a .v .now) ∙ ap (leafDone (sinkOf (a .m)) (sourceOf (a .m) (a .v .now)) (a .kind) _ _) (c .before .before .before .took .ensures (a .m) (a .table .now) _ _ _) ∙ sym (way.leaf-read (sinkOf (a .m)) (sourceOf (a .m) (a .v .now)) (a .kind) (size-of .result) _ _ (octets .result) (stateOf (a .c) (a .table .now)) (if1 .left) (size-of .ensures) (octets .ensures) (sym (number-at .ensures) ∙ at2 .given .1))
 
 returns-3 : tie.Need-returns-3
-returns-3 c = c .refused .ensures (c .before .before .before .before .before .before .before .before .args .table .now) ∙ sym (way.leaf-ends (sinkOf (c .before .before .before .before .before .before .before .before .args .m)) (sourceOf (c .before .before .before .before .before .before .before .before .args .m) (c .before .before .before .before .before .before .before .before .args .v .now)) (c .before .before .before .before .before .before .before .before .args .kind) (c .before .before .before .before .size-of .result) (stateOf (c .before .before .before .before .before .before .before .before .args .c) (c .before .before .before .before .before .before .before .before .args .table .now)) (c .before .before .before .before .before .if1 .left) (c .before .before .before .before .size-of .ensures) (sym (c .before .before .before .number-at .ensures) ∙ c .before .enum-told .given .1))
+returns-3 c =
+  let a = c .before .before .before .before .before .before .before .before .args in
+  let size-of = c .before .before .before .before .size-of in
+  let if1 = c .before .before .before .before .before .if1 in
+  c .refused .ensures (a .table .now) ∙ sym (way.leaf-ends (sinkOf (a .m)) (sourceOf (a .m) (a .v .now)) (a .kind) (size-of .result) (stateOf (a .c) (a .table .now)) (if1 .left) (size-of .ensures) (sym (c .before .before .before .number-at .ensures) ∙ c .before .enum-told .given .1))
 
 pub leaf-spec : {M : Type 1} → statement M
 leaf-spec =

@@ -16,9 +16,10 @@ stops : (c : tie.After-find-lf) →
     let at-start = at-least .before .before .before in
     (at-least .least .result ≤ c .find-lf .result) × (c .find-lf .result ≤ length (at-start .args .block .now))
 stops c =
-    let at-start = c .before .before .before .before .before in
-    let s = c .before .before .least .ensures in
-    let w = up-within (c .before .before .least .result) (at-start .args .block .now) (omega arith) in
+  let least = c .before .before .least in
+  let at-start = c .before .before .before .before .before in
+    let s = least .ensures in
+    let w = up-within (least .result) (at-start .args .block .now) (omega arith) in
     let e = c .find-lf .ensures in
     (omega (arith, e), omega (arith, e, w))
 

@@ -34,7 +34,9 @@ loop-again c =
     (search needs, done .long, closed-more _ _ _ _ _ (at-test .loop-test .taken) (at-test .before .loop .inv .2) done)
 
 returns : tie.Need-returns Inv-loop μ-loop
-returns c = closed-all _ _ _ _ (c .before .loop .inv .0) (c .loop-test .left) (c .before .loop .inv .2)
+returns c =
+  let loop = c .before .loop in
+  closed-all _ _ _ _ (loop .inv .0) (c .loop-test .left) (loop .inv .2)
 
 pub closed-spec : {M : Type 1} → statement M
 closed-spec =

@@ -41,7 +41,9 @@ loop-again c =
     (search needs, none-more _ _ (at-loop .loop .inv .1) (sym (c .before .has-bit .ensures) ∙ c .if1 .left))
 
 returns-2 : tie.Need-returns-2 Inv-loop μ-loop
-returns-2 c = none-at-all _ _ _ (c .before .loop .inv .0) (c .loop-test .left) (c .before .loop .inv .1)
+returns-2 c =
+  let loop = c .before .loop in
+  none-at-all _ _ _ (loop .inv .0) (c .loop-test .left) (loop .inv .1)
 
 pub some-returns-spec : {M : Type 1} → statement M
 some-returns-spec =

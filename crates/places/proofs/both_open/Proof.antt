@@ -10,7 +10,9 @@ element-copy-out-if1 c = search needs
 
 returns : tie.Need-returns
 unfolding bothOpen
-returns c = rw (not-true (isOpen (c .before .before .args .t1) (c .before .before .args .i)) (c .if1 .taken))
+returns c =
+  let a = c .before .before .args in
+  rw (not-true (isOpen (a .t1) (a .i)) (c .if1 .taken))
 
 element-copy-out-if2 : tie.Need-element-copy-out-if2
 element-copy-out-if2 c = search needs

@@ -19,11 +19,16 @@ enum-told c = search needs
 
 returns : tie.Need-returns
 unfolding inside
-returns c = c .parameters-of .ensures ∙ ap (atPosition (checked (c .before .before .before .before .before .before .args .t .now) (c .before .before .before .before .before .before .args .met))) (sym (c .before .before .j .given .1) ∙ c .before .before .before .before .position .ensures)
+returns c =
+  let a = c .before .before .before .before .before .before .args in
+  let position = c .before .before .before .before .position in
+  c .parameters-of .ensures ∙ ap (atPosition (checked (a .t .now) (a .met))) (sym (c .before .before .j .given .1) ∙ position .ensures)
 
 returns-2 : tie.Need-returns-2
 unfolding inside
-returns-2 c = ap (atPosition (checked (c .before .before .before .before .args .t .now) (c .before .before .before .before .args .met))) (sym (c .enum-told .given .1) ∙ c .before .before .position .ensures)
+returns-2 c =
+  let a = c .before .before .before .before .args in
+  ap (atPosition (checked (a .t .now) (a .met))) (sym (c .enum-told .given .1) ∙ c .before .before .position .ensures)
 
 pub anywhere-spec : {M : Type 1} → statement M
 anywhere-spec =

@@ -13,7 +13,9 @@ refused-requires : tie.Need-refused-requires
 refused-requires c κs = search needs
 
 returns : tie.Need-returns
-returns c = λ t. c .refused .ensures (c .before .before .before .before .args .table .now) ∙ sym (ap (λ (l : ℕ). reads (sinkOf (c .before .before .before .before .args .m)) (sourceOf (c .before .before .before .before .args .m) (c .before .before .before .before .args .v .now)) t l (c .before .before .before .before .args .e) (stateOf (c .before .before .before .before .args .c) (c .before .before .before .before .args .table .now))) (c .before .if1 .taken) ∙ way.reads-none (sinkOf (c .before .before .before .before .args .m)) (sourceOf (c .before .before .before .before .args .m) (c .before .before .before .before .args .v .now)) t (c .before .before .before .before .args .e) (stateOf (c .before .before .before .before .args .c) (c .before .before .before .before .args .table .now)))
+returns c =
+  let a = c .before .before .before .before .args in
+  λ t. c .refused .ensures (a .table .now) ∙ sym (ap (λ (l : ℕ). reads (sinkOf (a .m)) (sourceOf (a .m) (a .v .now)) t l (a .e) (stateOf (a .c) (a .table .now))) (c .before .if1 .taken) ∙ way.reads-none (sinkOf (a .m)) (sourceOf (a .m) (a .v .now)) t (a .e) (stateOf (a .c) (a .table .now)))
 
 enum-known-e : tie.Need-enum-known-e
 enum-known-e c = search needs
@@ -56,28 +58,44 @@ same-length c = c .before .before .leaf .kept .1 .1 .0
 
 returns-2 : tie.Need-returns-2
 unfolding enter
-returns-2 c = λ t. c .before .before .leaf .ensures ∙ sym (way.visit-some (sinkOf (c .before .before .before .before .before .before .before .before .before .before .before .args .m)) (sourceOf (c .before .before .before .before .before .before .before .before .before .before .before .args .m) (c .before .before .before .before .before .before .before .before .before .before .before .args .v .now)) t (c .before .before .before .before .before .before .before .before .before .before .before .args .left) (c .before .before .before .before .before .before .before .before .before .before .before .args .e) _ (stateOf (c .before .before .before .before .before .before .before .before .before .before .before .args .c) (c .before .before .before .before .before .before .before .before .before .before .before .args .table .now)) _ (c .before .before .before .before .before .before .before .before .if1 .left) (c .before .before .before .before .before .before .e .given .1) (c .before .before .before .visit .ensures (c .before .before .before .before .before .before .before .before .before .before .before .args .m) (c .before .before .before .before .before .before .before .before .before .before .before .args .table .now)))
+returns-2 c =
+  let a = c .before .before .before .before .before .before .before .before .before .before .before .args in
+  let if1 = c .before .before .before .before .before .before .before .before .if1 in
+  let e = c .before .before .before .before .before .before .e in
+  λ t. c .before .before .leaf .ensures ∙ sym (way.visit-some (sinkOf (a .m)) (sourceOf (a .m) (a .v .now)) t (a .left) (a .e) _ (stateOf (a .c) (a .table .now)) _ (if1 .left) (e .given .1) (c .before .before .before .visit .ensures (a .m) (a .table .now)))
 
 same-length-2 : tie.Need-same-length-2
 same-length-2 c = c .before .before .text .kept .1 .1 .0
 
 returns-3 : tie.Need-returns-3
 unfolding enter
-returns-3 c = λ t. c .before .before .text .ensures ∙ sym (way.visit-some (sinkOf (c .before .before .before .before .before .before .before .before .before .before .before .args .m)) (sourceOf (c .before .before .before .before .before .before .before .before .before .before .before .args .m) (c .before .before .before .before .before .before .before .before .before .before .before .args .v .now)) t (c .before .before .before .before .before .before .before .before .before .before .before .args .left) (c .before .before .before .before .before .before .before .before .before .before .before .args .e) _ (stateOf (c .before .before .before .before .before .before .before .before .before .before .before .args .c) (c .before .before .before .before .before .before .before .before .before .before .before .args .table .now)) _ (c .before .before .before .before .before .before .before .before .if1 .left) (c .before .before .before .before .before .before .e2 .given .1) (c .before .before .before .visit2 .ensures (c .before .before .before .before .before .before .before .before .before .before .before .args .m) (c .before .before .before .before .before .before .before .before .before .before .before .args .table .now)))
+returns-3 c =
+  let a = c .before .before .before .before .before .before .before .before .before .before .before .args in
+  let if1 = c .before .before .before .before .before .before .before .before .if1 in
+  let e2 = c .before .before .before .before .before .before .e2 in
+  λ t. c .before .before .text .ensures ∙ sym (way.visit-some (sinkOf (a .m)) (sourceOf (a .m) (a .v .now)) t (a .left) (a .e) _ (stateOf (a .c) (a .table .now)) _ (if1 .left) (e2 .given .1) (c .before .before .before .visit2 .ensures (a .m) (a .table .now)))
 
 same-length-3 : tie.Need-same-length-3
 same-length-3 c = c .before .before .enumerated .kept .1 .1 .0
 
 returns-4 : tie.Need-returns-4
 unfolding enter
-returns-4 c = λ t. c .before .before .enumerated .ensures ∙ sym (way.visit-some (sinkOf (c .before .before .before .before .before .before .before .before .before .before .before .args .m)) (sourceOf (c .before .before .before .before .before .before .before .before .before .before .before .args .m) (c .before .before .before .before .before .before .before .before .before .before .before .args .v .now)) t (c .before .before .before .before .before .before .before .before .before .before .before .args .left) (c .before .before .before .before .before .before .before .before .before .before .before .args .e) _ (stateOf (c .before .before .before .before .before .before .before .before .before .before .before .args .c) (c .before .before .before .before .before .before .before .before .before .before .before .args .table .now)) _ (c .before .before .before .before .before .before .before .before .if1 .left) (c .before .before .before .before .before .before .e3 .given .1) (c .before .before .before .visit3 .ensures (c .before .before .before .before .before .before .before .before .before .before .before .args .m) (c .before .before .before .before .before .before .before .before .before .before .before .args .table .now)))
+returns-4 c =
+  let a = c .before .before .before .before .before .before .before .before .before .before .before .args in
+  let if1 = c .before .before .before .before .before .before .before .before .if1 in
+  let e3 = c .before .before .before .before .before .before .e3 in
+  λ t. c .before .before .enumerated .ensures ∙ sym (way.visit-some (sinkOf (a .m)) (sourceOf (a .m) (a .v .now)) t (a .left) (a .e) _ (stateOf (a .c) (a .table .now)) _ (if1 .left) (e3 .given .1) (c .before .before .before .visit3 .ensures (a .m) (a .table .now)))
 
 same-length-4 : tie.Need-same-length-4
 same-length-4 c = c .before .before .reference .kept .1 .1 .0
 
 returns-5 : tie.Need-returns-5
 unfolding enter
-returns-5 c = λ t. c .before .before .reference .ensures ∙ sym (way.visit-some (sinkOf (c .before .before .before .before .before .before .before .before .before .before .args .m)) (sourceOf (c .before .before .before .before .before .before .before .before .before .before .args .m) (c .before .before .before .before .before .before .before .before .before .before .args .v .now)) t (c .before .before .before .before .before .before .before .before .before .before .args .left) (c .before .before .before .before .before .before .before .before .before .before .args .e) _ (stateOf (c .before .before .before .before .before .before .before .before .before .before .args .c) (c .before .before .before .before .before .before .before .before .before .before .args .table .now)) _ (c .before .before .before .before .before .before .before .if1 .left) (c .before .before .before .before .before .enum-told .given .1) (c .before .before .before .visit4 .ensures (c .before .before .before .before .before .before .before .before .before .before .args .m) (c .before .before .before .before .before .before .before .before .before .before .args .table .now)))
+returns-5 c =
+  let a = c .before .before .before .before .before .before .before .before .before .before .args in
+  let if1 = c .before .before .before .before .before .before .before .if1 in
+  let enum-told = c .before .before .before .before .before .enum-told in
+  λ t. c .before .before .reference .ensures ∙ sym (way.visit-some (sinkOf (a .m)) (sourceOf (a .m) (a .v .now)) t (a .left) (a .e) _ (stateOf (a .c) (a .table .now)) _ (if1 .left) (enum-told .given .1) (c .before .before .before .visit4 .ensures (a .m) (a .table .now)))
 
 returns-6 : tie.Need-returns-6
 returns-6 c = search needs

@@ -17,7 +17,9 @@ abbrev μ-loop : tie.MeasureT-loop
 μ-loop v m table₀ kinds count d₀ k₀ table d k = count - k
 
 loop-holds : tie.Need-loop-holds Inv-loop μ-loop
-loop-holds c = stepping-none (sinkOf (c .before .before .before .args .m)) (sourceOf (c .before .before .before .args .m) (c .before .before .before .args .v .now)) (c .before .before .before .args .plan .kinds)
+loop-holds c =
+  let a = c .before .before .before .args in
+  stepping-none (sinkOf (a .m)) (sourceOf (a .m) (a .v .now)) (a .plan .kinds)
 
 kind-at-requires : tie.Need-kind-at-requires Inv-loop μ-loop
 kind-at-requires c κs = search needs
@@ -29,10 +31,20 @@ leaf-requires : tie.Need-leaf-requires Inv-loop μ-loop
 leaf-requires c κs = search needs
 
 same-length : tie.Need-same-length Inv-loop μ-loop
-same-length c = c .before .before .before .before .leaf .kept .1 .1 .0 ∙ c .before .before .before .before .before .before .before .before .before .loop .inv .same
+same-length c =
+  let leaf = c .before .before .before .before .leaf in
+  let loop = c .before .before .before .before .before .before .before .before .before .loop in
+  leaf .kept .1 .1 .0 ∙ loop .inv .same
 
 returns : tie.Need-returns Inv-loop μ-loop
-returns c = stepping-stop (sinkOf (c .before .before .before .before .before .before .before .before .before .before .before .before .before .args .m)) (sourceOf (c .before .before .before .before .before .before .before .before .before .before .before .before .before .args .m) (c .before .before .before .before .before .before .before .before .before .before .before .before .before .args .v .now)) (c .before .before .before .before .before .before .before .before .before .before .before .before .before .args .plan .kinds) (c .before .before .before .before .before .before .before .before .before .loop .inv) (c .before .before .before .before .before .before .before .before .loop-test .taken) (c .before .before .before .before .leaf .ensures ∙ ap (leafAt (sinkOf (c .before .before .before .before .before .before .before .before .before .before .before .before .before .args .m)) (sourceOf (c .before .before .before .before .before .before .before .before .before .before .before .before .before .args .m) (c .before .before .before .before .before .before .before .before .before .before .before .before .before .args .v .now)) (c .before .before .before .before .before .before .kind-at .result)) (c .before .before .before .before .before .visit .ensures (c .before .before .before .before .before .before .before .before .before .before .before .before .before .args .m) (c .before .before .before .before .before .before .before .before .before .loop .table)) ∙ ap (λ (i : ℕ). leafAt (sinkOf (c .before .before .before .before .before .before .before .before .before .before .before .before .before .args .m)) (sourceOf (c .before .before .before .before .before .before .before .before .before .before .before .before .before .args .m) (c .before .before .before .before .before .before .before .before .before .before .before .before .before .args .v .now)) i (begun (sinkOf (c .before .before .before .before .before .before .before .before .before .before .before .before .before .args .m)) (stateOf (c .before .before .before .before .before .before .before .before .before .loop .d) (c .before .before .before .before .before .before .before .before .before .loop .table)))) (c .before .before .before .before .before .before .kind-at .ensures)) (c .if1 .taken)
+returns c =
+  let a = c .before .before .before .before .before .before .before .before .before .before .before .before .before .args in
+  let loop = c .before .before .before .before .before .before .before .before .before .loop in
+  let loop-test = c .before .before .before .before .before .before .before .before .loop-test in
+  let leaf = c .before .before .before .before .leaf in
+  let kind-at = c .before .before .before .before .before .before .kind-at in
+  let visit = c .before .before .before .before .before .visit in
+  stepping-stop (sinkOf (a .m)) (sourceOf (a .m) (a .v .now)) (a .plan .kinds) (loop .inv) (loop-test .taken) (leaf .ensures ∙ ap (leafAt (sinkOf (a .m)) (sourceOf (a .m) (a .v .now)) (kind-at .result)) (visit .ensures (a .m) (loop .table)) ∙ ap (λ (i : ℕ). leafAt (sinkOf (a .m)) (sourceOf (a .m) (a .v .now)) i (begun (sinkOf (a .m)) (stateOf (loop .d) (loop .table)))) (kind-at .ensures)) (c .if1 .taken)
 
 add-k : tie.Need-add-k Inv-loop μ-loop
 add-k c = search (needs, c .before .before .before .before .before .before .before .before .before .before .before .before .before .good .1 .1 .1 .0)
@@ -41,13 +53,22 @@ loop-less : tie.Need-loop-less Inv-loop μ-loop
 loop-less c = omega arith
 
 loop-again : tie.Need-loop-again Inv-loop μ-loop
-loop-again c = stepping-more (sinkOf (c .before .before .before .before .before .before .before .before .before .before .before .before .before .args .m)) (sourceOf (c .before .before .before .before .before .before .before .before .before .before .before .before .before .args .m) (c .before .before .before .before .before .before .before .before .before .before .before .before .before .args .v .now)) (c .before .before .before .before .before .before .before .before .before .before .before .before .before .args .plan .kinds) (c .before .before .before .before .before .before .before .before .before .loop .inv) (c .before .before .before .before .before .before .before .before .loop-test .taken) (c .before .before .before .before .leaf .ensures ∙ ap (leafAt (sinkOf (c .before .before .before .before .before .before .before .before .before .before .before .before .before .args .m)) (sourceOf (c .before .before .before .before .before .before .before .before .before .before .before .before .before .args .m) (c .before .before .before .before .before .before .before .before .before .before .before .before .before .args .v .now)) (c .before .before .before .before .before .before .kind-at .result)) (c .before .before .before .before .before .visit .ensures (c .before .before .before .before .before .before .before .before .before .before .before .before .before .args .m) (c .before .before .before .before .before .before .before .before .before .loop .table)) ∙ ap (λ (i : ℕ). leafAt (sinkOf (c .before .before .before .before .before .before .before .before .before .before .before .before .before .args .m)) (sourceOf (c .before .before .before .before .before .before .before .before .before .before .before .before .before .args .m) (c .before .before .before .before .before .before .before .before .before .before .before .before .before .args .v .now)) i (begun (sinkOf (c .before .before .before .before .before .before .before .before .before .before .before .before .before .args .m)) (stateOf (c .before .before .before .before .before .before .before .before .before .loop .d) (c .before .before .before .before .before .before .before .before .before .loop .table)))) (c .before .before .before .before .before .before .kind-at .ensures)) (c .before .before .before .before .leaf .kept .1 .1 .0) (c .if1 .left)
+loop-again c =
+  let a = c .before .before .before .before .before .before .before .before .before .before .before .before .before .args in
+  let loop = c .before .before .before .before .before .before .before .before .before .loop in
+  let loop-test = c .before .before .before .before .before .before .before .before .loop-test in
+  let leaf = c .before .before .before .before .leaf in
+  let kind-at = c .before .before .before .before .before .before .kind-at in
+  let visit = c .before .before .before .before .before .visit in
+  stepping-more (sinkOf (a .m)) (sourceOf (a .m) (a .v .now)) (a .plan .kinds) (loop .inv) (loop-test .taken) (leaf .ensures ∙ ap (leafAt (sinkOf (a .m)) (sourceOf (a .m) (a .v .now)) (kind-at .result)) (visit .ensures (a .m) (loop .table)) ∙ ap (λ (i : ℕ). leafAt (sinkOf (a .m)) (sourceOf (a .m) (a .v .now)) i (begun (sinkOf (a .m)) (stateOf (loop .d) (loop .table)))) (kind-at .ensures)) (leaf .kept .1 .1 .0) (c .if1 .left)
 
 same-length-2 : tie.Need-same-length-2 Inv-loop μ-loop
 same-length-2 c = c .before .loop .inv .same
 
 returns-2 : tie.Need-returns-2 Inv-loop μ-loop
-returns-2 c = stepping-all (sinkOf (c .before .before .before .before .before .args .m)) (sourceOf (c .before .before .before .before .before .args .m) (c .before .before .before .before .before .args .v .now)) (c .before .before .before .before .before .args .plan .kinds) (c .before .loop .inv) (c .loop-test .left)
+returns-2 c =
+  let a = c .before .before .before .before .before .args in
+  stepping-all (sinkOf (a .m)) (sourceOf (a .m) (a .v .now)) (a .plan .kinds) (c .before .loop .inv) (c .loop-test .left)
 
 pub plan-members-spec : {M : Type 1} → statement M
 plan-members-spec =

@@ -29,7 +29,9 @@ returns-2 : tie.Need-returns-2 Inv-loop μ-loop
 returns-2 c = λ e. absurd (never-both _ e (c .no-plan2 .ensures))
 
 loop-holds : tie.Need-loop-holds Inv-loop μ-loop
-loop-holds c = planning-none (checked (c .before .before .before .before .before .args .t .now) (c .before .before .before .before .before .args .met)) (c .before .before .before .before .before .args .fields) refl refl
+loop-holds c =
+  let a = c .before .before .before .before .before .args in
+  planning-none (checked (a .t .now) (a .met)) (a .fields) refl refl
 
 member-at-requires : tie.Need-member-at-requires Inv-loop μ-loop
 member-at-requires c κs = search needs
@@ -68,10 +70,20 @@ loop-less : tie.Need-loop-less Inv-loop μ-loop
 loop-less c = omega arith
 
 loop-again : tie.Need-loop-again Inv-loop μ-loop
-loop-again c = planning-more (checked (c .before .before .before .before .before .before .before .before .before .before .before .before .before .before .args .t .now) (c .before .before .before .before .before .before .before .before .before .before .before .before .before .before .args .met)) (c .before .before .before .before .before .before .before .before .before .before .before .before .before .before .args .fields) (c .before .before .before .before .before .before .before .before .loop .inv) _ _ _ (c .before .before .before .before .before .before .before .loop-test .taken) (omega (arith, c .before .before .before .before .before .before .before .before .before .before .before .if1 .left)) (sym (c .before .before .before .before .before .before .member-at .ensures) ∙ c .before .before .before .before .place .given .1) (sym (c .before .before .within .ensures) ∙ c .before .leaf-of .ensures (c .if3 .left)) _ refl refl
+loop-again c =
+  let a = c .before .before .before .before .before .before .before .before .before .before .before .before .before .before .args in
+  let loop = c .before .before .before .before .before .before .before .before .loop in
+  let loop-test = c .before .before .before .before .before .before .before .loop-test in
+  let if1 = c .before .before .before .before .before .before .before .before .before .before .before .if1 in
+  let member-at = c .before .before .before .before .before .before .member-at in
+  let place = c .before .before .before .before .place in
+  planning-more (checked (a .t .now) (a .met)) (a .fields) (loop .inv) _ _ _ (loop-test .taken) (omega (arith, if1 .left)) (sym (member-at .ensures) ∙ place .given .1) (sym (c .before .before .within .ensures) ∙ c .before .leaf-of .ensures (c .if3 .left)) _ refl refl
 
 returns-5 : tie.Need-returns-5 Inv-loop μ-loop
-returns-5 c = λ e. record { levels = omega (arith, c .before .before .before .if2 .left); right = planning-all (checked (c .before .before .before .before .before .before .before .args .t .now) (c .before .before .before .before .before .before .before .args .met)) (c .before .before .before .before .before .before .before .args .fields) (c .before .loop .inv) (c .loop-test .left); whole = c .before .loop .inv .all }
+returns-5 c =
+  let a = c .before .before .before .before .before .before .before .args in
+  let loop = c .before .loop in
+  λ e. record { levels = omega (arith, c .before .before .before .if2 .left); right = planning-all (checked (a .t .now) (a .met)) (a .fields) (loop .inv) (c .loop-test .left); whole = loop .inv .all }
 
 pub plan-of-spec : {M : Type 1} → statement M
 plan-of-spec =

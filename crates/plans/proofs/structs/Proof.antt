@@ -25,10 +25,19 @@ plan-members-requires : tie.Need-plan-members-requires Inv-loop μ-loop
 plan-members-requires c κs = search needs
 
 same-length : tie.Need-same-length Inv-loop μ-loop
-same-length c = c .before .before .before .before .plan-members .kept .1 .1 .0 ∙ c .before .before .before .before .before .before .before .before .loop .inv .same
+same-length c =
+  let plan-members = c .before .before .before .before .plan-members in
+  let loop = c .before .before .before .before .before .before .before .before .loop in
+  plan-members .kept .1 .1 .0 ∙ loop .inv .same
 
 returns : tie.Need-returns Inv-loop μ-loop
-returns c = going-stop (c .before .before .before .before .before .before .before .before .loop .inv) (c .before .before .before .before .before .before .before .loop-test .taken) (c .before .before .before .before .plan-members .ensures ∙ ap (planSteps (sinkOf (c .before .before .before .before .before .before .before .before .before .before .before .args .m)) (sourceOf (c .before .before .before .before .before .before .before .before .before .before .before .args .m) (c .before .before .before .before .before .before .before .before .before .before .before .args .v .now)) (c .before .before .before .before .before .before .before .before .before .before .before .args .plan .kinds) 0 (c .before .before .before .before .before .before .before .before .before .before .before .args .plan .count)) (c .before .before .before .before .before .visit .ensures (c .before .before .before .before .before .before .before .before .before .before .before .args .m) (c .before .before .before .before .before .before .before .before .loop .table))) (c .if1 .taken)
+returns c =
+  let loop = c .before .before .before .before .before .before .before .before .loop in
+  let loop-test = c .before .before .before .before .before .before .before .loop-test in
+  let plan-members = c .before .before .before .before .plan-members in
+  let a = c .before .before .before .before .before .before .before .before .before .before .before .args in
+  let visit = c .before .before .before .before .before .visit in
+  going-stop (loop .inv) (loop-test .taken) (plan-members .ensures ∙ ap (planSteps (sinkOf (a .m)) (sourceOf (a .m) (a .v .now)) (a .plan .kinds) 0 (a .plan .count)) (visit .ensures (a .m) (loop .table))) (c .if1 .taken)
 
 add-k : tie.Need-add-k Inv-loop μ-loop
 add-k c = search needs
@@ -37,7 +46,13 @@ loop-less : tie.Need-loop-less Inv-loop μ-loop
 loop-less c = omega arith
 
 loop-again : tie.Need-loop-again Inv-loop μ-loop
-loop-again c = going-more (c .before .before .before .before .before .before .before .before .loop .inv) (c .before .before .before .before .before .before .before .loop-test .taken) (c .before .before .before .before .plan-members .ensures ∙ ap (planSteps (sinkOf (c .before .before .before .before .before .before .before .before .before .before .before .args .m)) (sourceOf (c .before .before .before .before .before .before .before .before .before .before .before .args .m) (c .before .before .before .before .before .before .before .before .before .before .before .args .v .now)) (c .before .before .before .before .before .before .before .before .before .before .before .args .plan .kinds) 0 (c .before .before .before .before .before .before .before .before .before .before .before .args .plan .count)) (c .before .before .before .before .before .visit .ensures (c .before .before .before .before .before .before .before .before .before .before .before .args .m) (c .before .before .before .before .before .before .before .before .loop .table))) (c .before .before .before .before .plan-members .kept .1 .1 .0) (c .if1 .left)
+loop-again c =
+  let loop = c .before .before .before .before .before .before .before .before .loop in
+  let loop-test = c .before .before .before .before .before .before .before .loop-test in
+  let plan-members = c .before .before .before .before .plan-members in
+  let a = c .before .before .before .before .before .before .before .before .before .before .before .args in
+  let visit = c .before .before .before .before .before .visit in
+  going-more (loop .inv) (loop-test .taken) (plan-members .ensures ∙ ap (planSteps (sinkOf (a .m)) (sourceOf (a .m) (a .v .now)) (a .plan .kinds) 0 (a .plan .count)) (visit .ensures (a .m) (loop .table))) (plan-members .kept .1 .1 .0) (c .if1 .left)
 
 same-length-2 : tie.Need-same-length-2 Inv-loop μ-loop
 same-length-2 c = c .before .loop .inv .same

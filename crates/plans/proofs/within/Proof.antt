@@ -27,7 +27,9 @@ returns : tie.Need-returns Inv-loop μ-loop
 returns c = c .anywhere .ensures
 
 loop-holds : tie.Need-loop-holds Inv-loop μ-loop
-loop-holds c = (omega arith, ap (λ (x : ℕ). findIn (c .before .before .args .t2 .places) (c .before .before .args .place .0) x 0) (sub-zero (c .before .before .args .t2 .count)))
+loop-holds c =
+  let a = c .before .before .args in
+  (omega arith, ap (λ (x : ℕ). findIn (a .t2 .places) (a .place .0) x 0) (sub-zero (a .t2 .count)))
 
 mul-if2 : tie.Need-mul-if2 Inv-loop μ-loop
 mul-if2 c = search needs
@@ -58,10 +60,15 @@ parameters-at-requires c κs = search needs
 
 returns-2 : tie.Need-returns-2 Inv-loop μ-loop
 unfolding inside parametersOf findPlace
-returns-2 c = c .parameters-at .ensures
-    ∙ ap (λ (o : Order). parametersAt (c .before .before .before .before .before .before .before .before .before .before .before .args .t .now) (placeOf (getD (c .before .before .before .before .before .before .before .before .before .before .before .args .t2 .starts) (c .before .before .before .before .before .before .before .before .loop .i) 0)) o (c .before .before .before .before .before .before .before .before .before .before .before .args .place)) (c .before .order-in .ensures)
-    ∙ ap (λ (p : ℕ). parametersAt (c .before .before .before .before .before .before .before .before .before .before .before .args .t .now) (placeOf (getD (c .before .before .before .before .before .before .before .before .before .before .before .args .t2 .starts) (c .before .before .before .before .before .before .before .before .loop .i) 0)) (orderIn (getD (c .before .before .before .before .before .before .before .before .before .before .before .args .t2 .orders) (c .before .before .before .before .before .before .before .before .loop .i) 0)) (placeOf p)) (sym (c .before .before .before .before .if2 .taken))
-    ∙ ap (atPosition (checked (c .before .before .before .before .before .before .before .before .before .before .before .args .t .now) (c .before .before .before .before .before .before .before .before .before .before .before .args .t2))) (sym (position-is (c .before .before .before .before .before .before .before .before .before .before .before .args .t2) (c .before .before .before .before .before .before .before .before .before .before .before .args .place) (c .before .before .before .before .before .before .before .before .loop .i) (sym (c .before .before .before .before .before .before .before .before .loop .inv .1) ∙ find-hit (c .before .before .before .before .before .before .before .before .before .before .before .args .t2 .places) (c .before .before .before .before .before .before .before .before .before .before .before .args .place .0) (c .before .before .before .before .before .before .before .before .before .before .before .args .t2 .count) (c .before .before .before .before .before .before .before .before .loop .i) (c .before .before .before .before .before .before .before .loop-test .taken) (c .before .before .before .before .if2 .taken)) (c .before .before .before .before .before .before .before .loop-test .taken)))
+returns-2 c =
+  let a = c .before .before .before .before .before .before .before .before .before .before .before .args in
+  let loop = c .before .before .before .before .before .before .before .before .loop in
+  let if2 = c .before .before .before .before .if2 in
+  let loop-test = c .before .before .before .before .before .before .before .loop-test in
+  c .parameters-at .ensures
+    ∙ ap (λ (o : Order). parametersAt (a .t .now) (placeOf (getD (a .t2 .starts) (loop .i) 0)) o (a .place)) (c .before .order-in .ensures)
+    ∙ ap (λ (p : ℕ). parametersAt (a .t .now) (placeOf (getD (a .t2 .starts) (loop .i) 0)) (orderIn (getD (a .t2 .orders) (loop .i) 0)) (placeOf p)) (sym (if2 .taken))
+    ∙ ap (atPosition (checked (a .t .now) (a .t2))) (sym (position-is (a .t2) (a .place) (loop .i) (sym (loop .inv .1) ∙ find-hit (a .t2 .places) (a .place .0) (a .t2 .count) (loop .i) (loop-test .taken) (if2 .taken)) (loop-test .taken)))
 
 add-i : tie.Need-add-i Inv-loop μ-loop
 add-i c = search needs
@@ -70,7 +77,11 @@ loop-less : tie.Need-loop-less Inv-loop μ-loop
 loop-less c = omega arith
 
 loop-again : tie.Need-loop-again Inv-loop μ-loop
-loop-again c = (omega (arith, c .before .before .before .loop-test .taken), sym (find-miss (c .before .before .before .before .before .before .before .args .t2 .places) (c .before .before .before .before .before .before .before .args .place .0) (c .before .before .before .before .before .before .before .args .t2 .count) (c .before .before .before .before .loop .i) (c .before .before .before .loop-test .taken) (c .if2 .left)) ∙ c .before .before .before .before .loop .inv .1)
+loop-again c =
+  let loop-test = c .before .before .before .loop-test in
+  let a = c .before .before .before .before .before .before .before .args in
+  let loop = c .before .before .before .before .loop in
+  (omega (arith, loop-test .taken), sym (find-miss (a .t2 .places) (a .place .0) (a .t2 .count) (loop .i) (loop-test .taken) (c .if2 .left)) ∙ loop .inv .1)
 
 anywhere-requires-2 : tie.Need-anywhere-requires-2 Inv-loop μ-loop
 anywhere-requires-2 c κs = search needs

@@ -22,10 +22,16 @@ enum-told : tie.Need-enum-told
 enum-told c = search needs
 
 array-share-prefix-head : tie.Need-array-share-prefix-head
-array-share-prefix-head c = omega (arith, c .before .before .before .before .put .kept .0, head-end (c .before .before .before .before .before .before .before .before .before .args .reply) _ refl _ _ (c .before .before .before .before .put .ensures))
+array-share-prefix-head c =
+  let put = c .before .before .before .before .put in
+  let a = c .before .before .before .before .before .before .before .before .before .args in
+  omega (arith, put .kept .0, head-end (a .reply) _ refl _ _ (put .ensures))
 
 slice-aggregate-write : tie.Need-slice-aggregate-write
-slice-aggregate-write c = sym (length-take-le _ _ (omega (arith, c .before .before .before .before .before .put .kept .0, head-end (c .before .before .before .before .before .before .before .before .before .before .args .reply) _ refl _ _ (c .before .before .before .before .before .put .ensures))))
+slice-aggregate-write c =
+  let put = c .before .before .before .before .before .put in
+  let a = c .before .before .before .before .before .before .before .before .before .before .args in
+  sym (length-take-le _ _ (omega (arith, put .kept .0, head-end (a .reply) _ refl _ _ (put .ensures))))
 
 write-requires : tie.Need-write-requires
 write-requires c κs = search needs
@@ -34,10 +40,16 @@ enum-told-2 : tie.Need-enum-told-2
 enum-told-2 c = search needs
 
 array-share-prefix-head-2 : tie.Need-array-share-prefix-head-2
-array-share-prefix-head-2 c = omega (arith, c .before .before .before .before .put .kept .0, head-end (c .before .before .before .before .before .before .before .before .before .args .reply) _ refl _ _ (c .before .before .before .before .put .ensures))
+array-share-prefix-head-2 c =
+  let put = c .before .before .before .before .put in
+  let a = c .before .before .before .before .before .before .before .before .before .args in
+  omega (arith, put .kept .0, head-end (a .reply) _ refl _ _ (put .ensures))
 
 slice-aggregate-write-2 : tie.Need-slice-aggregate-write-2
-slice-aggregate-write-2 c = sym (length-take-le _ _ (omega (arith, c .before .before .before .before .before .put .kept .0, head-end (c .before .before .before .before .before .before .before .before .before .before .args .reply) _ refl _ _ (c .before .before .before .before .before .put .ensures))))
+slice-aggregate-write-2 c =
+  let put = c .before .before .before .before .before .put in
+  let a = c .before .before .before .before .before .before .before .before .before .before .args in
+  sym (length-take-le _ _ (omega (arith, put .kept .0, head-end (a .reply) _ refl _ _ (put .ensures))))
 
 write-requires-2 : tie.Need-write-requires-2
 write-requires-2 c κs = search needs
@@ -46,10 +58,16 @@ enum-known-reply : tie.Need-enum-known-reply
 enum-known-reply c = search needs
 
 array-share-prefix-head-3 : tie.Need-array-share-prefix-head-3
-array-share-prefix-head-3 c = omega (arith, c .before .before .before .before .before .put .kept .0, head-end (c .before .before .before .before .before .before .before .before .before .before .args .reply) _ refl _ _ (c .before .before .before .before .before .put .ensures))
+array-share-prefix-head-3 c =
+  let put = c .before .before .before .before .before .put in
+  let a = c .before .before .before .before .before .before .before .before .before .before .args in
+  omega (arith, put .kept .0, head-end (a .reply) _ refl _ _ (put .ensures))
 
 slice-aggregate-write-3 : tie.Need-slice-aggregate-write-3
-slice-aggregate-write-3 c = sym (length-take-le _ _ (omega (arith, c .before .before .before .before .before .before .put .kept .0, head-end (c .before .before .before .before .before .before .before .before .before .before .before .args .reply) _ refl _ _ (c .before .before .before .before .before .before .put .ensures))))
+slice-aggregate-write-3 c =
+  let put = c .before .before .before .before .before .before .put in
+  let a = c .before .before .before .before .before .before .before .before .before .before .before .args in
+  sym (length-take-le _ _ (omega (arith, put .kept .0, head-end (a .reply) _ refl _ _ (put .ensures))))
 
 write-requires-3 : tie.Need-write-requires-3
 write-requires-3 c κs = search needs
@@ -58,10 +76,16 @@ enum-known-reply-2 : tie.Need-enum-known-reply-2
 enum-known-reply-2 c = search needs
 
 array-share-prefix-head-4 : tie.Need-array-share-prefix-head-4
-array-share-prefix-head-4 c = omega (arith, c .before .before .before .before .before .put .kept .0, head-end (c .before .before .before .before .before .before .before .before .before .before .args .reply) _ refl _ _ (c .before .before .before .before .before .put .ensures))
+array-share-prefix-head-4 c =
+  let put = c .before .before .before .before .before .put in
+  let a = c .before .before .before .before .before .before .before .before .before .before .args in
+  omega (arith, put .kept .0, head-end (a .reply) _ refl _ _ (put .ensures))
 
 slice-aggregate-write-4 : tie.Need-slice-aggregate-write-4
-slice-aggregate-write-4 c = sym (length-take-le _ _ (omega (arith, c .before .before .before .before .before .before .put .kept .0, head-end (c .before .before .before .before .before .before .before .before .before .before .before .args .reply) _ refl _ _ (c .before .before .before .before .before .before .put .ensures))))
+slice-aggregate-write-4 c =
+  let put = c .before .before .before .before .before .before .put in
+  let a = c .before .before .before .before .before .before .before .before .before .before .before .args in
+  sym (length-take-le _ _ (omega (arith, put .kept .0, head-end (a .reply) _ refl _ _ (put .ensures))))
 
 octets-in-requires : tie.Need-octets-in-requires
 octets-in-requires c κs = search needs
@@ -70,10 +94,16 @@ write-requires-4 : tie.Need-write-requires-4
 write-requires-4 c κs = search needs
 
 array-share-prefix-head-5 : tie.Need-array-share-prefix-head-5
-array-share-prefix-head-5 c = omega (arith, c .before .before .before .put .kept .0, head-end (c .before .before .before .before .before .before .before .before .args .reply) _ refl _ _ (c .before .before .before .put .ensures))
+array-share-prefix-head-5 c =
+  let put = c .before .before .before .put in
+  let a = c .before .before .before .before .before .before .before .before .args in
+  omega (arith, put .kept .0, head-end (a .reply) _ refl _ _ (put .ensures))
 
 slice-aggregate-write-octets : tie.Need-slice-aggregate-write-octets
-slice-aggregate-write-octets c = sym (length-take-le _ _ (omega (arith, c .before .before .before .before .put .kept .0, head-end (c .before .before .before .before .before .before .before .before .before .args .reply) _ refl _ _ (c .before .before .before .before .put .ensures))))
+slice-aggregate-write-octets c =
+  let put = c .before .before .before .before .put in
+  let a = c .before .before .before .before .before .before .before .before .before .args in
+  sym (length-take-le _ _ (omega (arith, put .kept .0, head-end (a .reply) _ refl _ _ (put .ensures))))
 
 write-octets-requires : tie.Need-write-octets-requires
 write-octets-requires c κs = search needs
@@ -82,41 +112,67 @@ same-length : tie.Need-same-length
 same-length c = search needs
 
 returns : tie.Need-returns
-returns c = subst (λ (xs : List ℕ). Stored (c .before .before .before .before .before .before .before .before .before .before .before .before .before .args .out .now) (c .before .before .before .before .before .before .before .before .before .before .before .before .before .args .at) xs (c .before .before .write .result) (c .before .before .write .last .0))
-    (ap (λ (xs : List ℕ). xs ++ itemsText (itemsOf (c .before .before .before .before .before .before .before .before .before .before .before .before .before .args .items .now))) (head-is (c .before .before .before .before .before .before .before .before .before .before .before .before .before .args .reply) _ refl _ _ (c .before .before .before .before .before .before .before .before .put .ensures)) ∙ read-text (c .before .before .before .before .before .before .before .before .before .before .before .before .before .args .reply) (itemsOf (c .before .before .before .before .before .before .before .before .before .before .before .before .before .args .items .now)) (c .before .before .before .before .before .before .before .before .before .before .before .before .before .args .octets .now) (c .before .before .before .before .before .before .match .keys1))
-    (c .before .before .write .ensures)
+returns c =
+  let a = c .before .before .before .before .before .before .before .before .before .before .before .before .before .args in
+  let write = c .before .before .write in
+  let put = c .before .before .before .before .before .before .before .before .put in
+  let match = c .before .before .before .before .before .before .match in
+  subst (λ (xs : List ℕ). Stored (a .out .now) (a .at) xs (write .result) (write .last .0))
+    (ap (λ (xs : List ℕ). xs ++ itemsText (itemsOf (a .items .now))) (head-is (a .reply) _ refl _ _ (put .ensures)) ∙ read-text (a .reply) (itemsOf (a .items .now)) (a .octets .now) (match .keys1))
+    (write .ensures)
 
 same-length-2 : tie.Need-same-length-2
 same-length-2 c = search needs
 
 returns-2 : tie.Need-returns-2
-returns-2 c = subst (λ (xs : List ℕ). Stored (c .before .before .before .before .before .before .before .before .before .before .before .before .before .args .out .now) (c .before .before .before .before .before .before .before .before .before .before .before .before .before .args .at) xs (c .before .before .write2 .result) (c .before .before .write2 .last .0))
-    (ap (λ (xs : List ℕ). xs ++ octetsText (c .before .before .before .before .before .before .before .before .before .before .before .before .before .args .octets .now) lf) (head-is (c .before .before .before .before .before .before .before .before .before .before .before .before .before .args .reply) _ refl _ _ (c .before .before .before .before .before .before .before .before .put .ensures)) ∙ rewritten-text (c .before .before .before .before .before .before .before .before .before .before .before .before .before .args .reply) (itemsOf (c .before .before .before .before .before .before .before .before .before .before .before .before .before .args .items .now)) (c .before .before .before .before .before .before .before .before .before .before .before .before .before .args .octets .now) (c .before .before .before .before .before .before .match .keys2))
-    (c .before .before .write2 .ensures)
+returns-2 c =
+  let a = c .before .before .before .before .before .before .before .before .before .before .before .before .before .args in
+  let write2 = c .before .before .write2 in
+  let put = c .before .before .before .before .before .before .before .before .put in
+  let match = c .before .before .before .before .before .before .match in
+  subst (λ (xs : List ℕ). Stored (a .out .now) (a .at) xs (write2 .result) (write2 .last .0))
+    (ap (λ (xs : List ℕ). xs ++ octetsText (a .octets .now) lf) (head-is (a .reply) _ refl _ _ (put .ensures)) ∙ rewritten-text (a .reply) (itemsOf (a .items .now)) (a .octets .now) (match .keys2))
+    (write2 .ensures)
 
 same-length-3 : tie.Need-same-length-3
 same-length-3 c = search needs
 
 returns-3 : tie.Need-returns-3
-returns-3 c = subst (λ (xs : List ℕ). Stored (c .before .before .before .before .before .before .before .before .before .before .before .before .before .before .args .out .now) (c .before .before .before .before .before .before .before .before .before .before .before .before .before .before .args .at) xs (c .before .before .write3 .result) (c .before .before .write3 .last .0))
-    (ap (λ (xs : List ℕ). xs ++ saidText (c .before .before .before .before .before .before .reply .given .0 .0) (c .before .before .before .before .before .before .before .before .before .before .before .before .before .before .args .octets .now)) (head-is (c .before .before .before .before .before .before .before .before .before .before .before .before .before .before .args .reply) _ refl _ _ (c .before .before .before .before .before .before .before .before .before .put .ensures)) ∙ profiled-text (c .before .before .before .before .before .before .before .before .before .before .before .before .before .before .args .reply) (itemsOf (c .before .before .before .before .before .before .before .before .before .before .before .before .before .before .args .items .now)) (c .before .before .before .before .before .before .before .before .before .before .before .before .before .before .args .octets .now) _ _ (c .before .before .before .before .before .before .reply .given .1))
-    (c .before .before .write3 .ensures)
+returns-3 c =
+  let a = c .before .before .before .before .before .before .before .before .before .before .before .before .before .before .args in
+  let write3 = c .before .before .write3 in
+  let reply = c .before .before .before .before .before .before .reply in
+  let put = c .before .before .before .before .before .before .before .before .before .put in
+  subst (λ (xs : List ℕ). Stored (a .out .now) (a .at) xs (write3 .result) (write3 .last .0))
+    (ap (λ (xs : List ℕ). xs ++ saidText (reply .given .0 .0) (a .octets .now)) (head-is (a .reply) _ refl _ _ (put .ensures)) ∙ profiled-text (a .reply) (itemsOf (a .items .now)) (a .octets .now) _ _ (reply .given .1))
+    (write3 .ensures)
 
 same-length-4 : tie.Need-same-length-4
 same-length-4 c = search needs
 
 returns-4 : tie.Need-returns-4
-returns-4 c = subst (λ (xs : List ℕ). Stored (c .before .before .before .before .before .before .before .before .before .before .before .before .before .before .before .args .out .now) (c .before .before .before .before .before .before .before .before .before .before .before .before .before .before .before .args .at) xs (c .before .before .write4 .result) (c .before .before .write4 .last .0))
-    (ap (λ (xs : List ℕ). xs ++ octetsText (c .before .before .before .octets-in .result .now) lf) (head-is (c .before .before .before .before .before .before .before .before .before .before .before .before .before .before .before .args .reply) _ refl _ _ (c .before .before .before .before .before .before .before .before .before .before .put .ensures)) ∙ ap (λ (ys : List ℕ). headText (c .before .before .before .before .before .before .before .before .before .before .before .before .before .before .before .args .reply) ++ octetsText ys lf) (c .before .before .before .octets-in .ensures) ∙ component-text (c .before .before .before .before .before .before .before .before .before .before .before .before .before .before .before .args .reply) (itemsOf (c .before .before .before .before .before .before .before .before .before .before .before .before .before .before .before .args .items .now)) (c .before .before .before .before .before .before .before .before .before .before .before .before .before .before .before .args .octets .now) _ _ _ (c .before .before .before .before .before .before .before .reply2 .given .1))
-    (c .before .before .write4 .ensures)
+returns-4 c =
+  let a = c .before .before .before .before .before .before .before .before .before .before .before .before .before .before .before .args in
+  let write4 = c .before .before .write4 in
+  let octets-in = c .before .before .before .octets-in in
+  let put = c .before .before .before .before .before .before .before .before .before .before .put in
+  let reply2 = c .before .before .before .before .before .before .before .reply2 in
+  subst (λ (xs : List ℕ). Stored (a .out .now) (a .at) xs (write4 .result) (write4 .last .0))
+    (ap (λ (xs : List ℕ). xs ++ octetsText (octets-in .result .now) lf) (head-is (a .reply) _ refl _ _ (put .ensures)) ∙ ap (λ (ys : List ℕ). headText (a .reply) ++ octetsText ys lf) (octets-in .ensures) ∙ component-text (a .reply) (itemsOf (a .items .now)) (a .octets .now) _ _ _ (reply2 .given .1))
+    (write4 .ensures)
 
 same-length-5 : tie.Need-same-length-5
 same-length-5 c = search needs
 
 returns-5 : tie.Need-returns-5
-returns-5 c = subst (λ (xs : List ℕ). Stored (c .before .before .before .before .before .before .before .before .before .before .before .before .args .out .now) (c .before .before .before .before .before .before .before .before .before .before .before .before .args .at) xs (c .before .before .write-octets .result) (c .before .before .write-octets .last .0))
-    (head-is (c .before .before .before .before .before .before .before .before .before .before .before .before .args .reply) _ refl _ _ (c .before .before .before .before .before .before .before .put .ensures) ∙ other-text (c .before .before .before .before .before .before .before .before .before .before .before .before .args .reply) (itemsOf (c .before .before .before .before .before .before .before .before .before .before .before .before .args .items .now)) (c .before .before .before .before .before .before .before .before .before .before .before .before .args .octets .now) (c .before .before .before .before .before .match .keys5))
-    (c .before .before .write-octets .ensures)
+returns-5 c =
+  let a = c .before .before .before .before .before .before .before .before .before .before .before .before .args in
+  let write-octets = c .before .before .write-octets in
+  let put = c .before .before .before .before .before .before .before .put in
+  let match = c .before .before .before .before .before .match in
+  subst (λ (xs : List ℕ). Stored (a .out .now) (a .at) xs (write-octets .result) (write-octets .last .0))
+    (head-is (a .reply) _ refl _ _ (put .ensures) ∙ other-text (a .reply) (itemsOf (a .items .now)) (a .octets .now) (match .keys5))
+    (write-octets .ensures)
 
 pub write-reply-spec : {M : Type 1} → statement M
 write-reply-spec =

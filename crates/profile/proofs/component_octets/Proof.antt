@@ -27,10 +27,15 @@ part-result-end : tie.Need-part-result-end
 part-result-end c = search needs
 
 returns : tie.Need-returns
-returns c = c .octets-in .ensures ∙ sym (component-octets-are (c .before .before .before .before .before .before .args .s .now) (c .before .before .before .before .before .before .args .number) _ (sym (c .before .before .before .before .component .ensures) ∙ c .before .before .octets .given .1))
+returns c =
+  let a = c .before .before .before .before .before .before .args in
+  let component = c .before .before .before .before .component in
+  c .octets-in .ensures ∙ sym (component-octets-are (a .s .now) (a .number) _ (sym (component .ensures) ∙ c .before .before .octets .given .1))
 
 returns-2 : tie.Need-returns-2
-returns-2 c = sym (component-octets-are (c .before .before .before .before .before .args .s .now) (c .before .before .before .before .before .args .number) _ (sym (c .before .before .before .component .ensures) ∙ c .before .enum-told .given .1))
+returns-2 c =
+  let a = c .before .before .before .before .before .args in
+  sym (component-octets-are (a .s .now) (a .number) _ (sym (c .before .before .before .component .ensures) ∙ c .before .enum-told .given .1))
 
 pub component-octets-spec : {M : Type 1} → statement M
 component-octets-spec =

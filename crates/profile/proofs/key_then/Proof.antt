@@ -18,10 +18,15 @@ enum-known-refusal : tie.Need-enum-known-refusal
 enum-known-refusal c = search needs
 
 returns : tie.Need-returns
-returns c = c .list-then .ensures ∙ sym (key-then-is (c .before .before .before .before .before .before .args .s .now) (c .before .before .before .before .before .before .args .head) (c .before .before .before .before .before .before .args .host) (c .before .before .before .before .before .before .args .port) (c .before .before .before .before .before .before .args .at) _ (sym (c .before .before .before .before .key-at .ensures) ∙ c .before .before .from .given .1))
+returns c =
+  let a = c .before .before .before .before .before .before .args in
+  let key-at = c .before .before .before .before .key-at in
+  c .list-then .ensures ∙ sym (key-then-is (a .s .now) (a .head) (a .host) (a .port) (a .at) _ (sym (key-at .ensures) ∙ c .before .before .from .given .1))
 
 returns-2 : tie.Need-returns-2
-returns-2 c = sym (key-then-is (c .before .before .before .before .before .args .s .now) (c .before .before .before .before .before .args .head) (c .before .before .before .before .before .args .host) (c .before .before .before .before .before .args .port) (c .before .before .before .before .before .args .at) _ (sym (c .before .before .before .key-at .ensures) ∙ c .before .refusal .given .1))
+returns-2 c =
+  let a = c .before .before .before .before .before .args in
+  sym (key-then-is (a .s .now) (a .head) (a .host) (a .port) (a .at) _ (sym (c .before .before .before .key-at .ensures) ∙ c .before .refusal .given .1))
 
 pub key-then-spec : {M : Type 1} → statement M
 key-then-spec =

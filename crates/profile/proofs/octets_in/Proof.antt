@@ -16,7 +16,9 @@ part-result-end : tie.Need-part-result-end
 part-result-end c = search needs
 
 returns : tie.Need-returns
-returns c = let h = c .before .if1 .taken in sym (octets-none (c .before .before .args .s .now) (c .before .before .args .part) (omega (arith, h)))
+returns c =
+  let a = c .before .before .args in
+  let h = c .before .if1 .taken in sym (octets-none (a .s .now) (a .part) (omega (arith, h)))
 
 sub-if2 : tie.Need-sub-if2
 sub-if2 c = search needs
@@ -31,7 +33,9 @@ part-result-end-2 : tie.Need-part-result-end-2
 part-result-end-2 c = search needs
 
 returns-2 : tie.Need-returns-2
-returns-2 c = sym (octets-rest (c .before .before .before .args .s .now) (c .before .before .before .args .part) (c .before .if2 .taken))
+returns-2 c =
+  let a = c .before .before .before .args in
+  sym (octets-rest (a .s .now) (a .part) (c .before .if2 .taken))
 
 add-result : tie.Need-add-result
 add-result c = search needs
@@ -46,7 +50,9 @@ part-result-end-3 : tie.Need-part-result-end-3
 part-result-end-3 c = search needs
 
 returns-3 : tie.Need-returns-3
-returns-3 c = sym (octets-all (c .before .before .before .args .s .now) (c .before .before .before .args .part))
+returns-3 c =
+  let a = c .before .before .before .args in
+  sym (octets-all (a .s .now) (a .part))
 
 pub octets-in-spec : {M : Type 1} → statement M
 octets-in-spec =

@@ -18,10 +18,15 @@ enum-known-refusal : tie.Need-enum-known-refusal
 enum-known-refusal c = search needs
 
 returns : tie.Need-returns
-returns c = c .host-then .ensures ∙ sym (version-then-is (c .before .before .before .before .before .before .args .s .now) (c .before .before .before .before .before .before .args .order) (c .before .before .before .before .before .before .args .at) _ (sym (c .before .before .before .before .version-at .ensures) ∙ c .before .before .major .given .1))
+returns c =
+  let a = c .before .before .before .before .before .before .args in
+  let version-at = c .before .before .before .before .version-at in
+  c .host-then .ensures ∙ sym (version-then-is (a .s .now) (a .order) (a .at) _ (sym (version-at .ensures) ∙ c .before .before .major .given .1))
 
 returns-2 : tie.Need-returns-2
-returns-2 c = sym (version-then-is (c .before .before .before .before .before .args .s .now) (c .before .before .before .before .before .args .order) (c .before .before .before .before .before .args .at) _ (sym (c .before .before .before .version-at .ensures) ∙ c .before .refusal .given .1))
+returns-2 c =
+  let a = c .before .before .before .before .before .args in
+  sym (version-then-is (a .s .now) (a .order) (a .at) _ (sym (c .before .before .before .version-at .ensures) ∙ c .before .refusal .given .1))
 
 pub version-then-spec : {M : Type 1} → statement M
 version-then-spec =

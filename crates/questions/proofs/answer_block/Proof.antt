@@ -25,13 +25,22 @@ goes-on-requires : tie.Need-goes-on-requires Inv-loop μ-loop
 goes-on-requires c κs = search needs
 
 turn-requires : tie.Need-turn-requires Inv-loop μ-loop
-turn-requires c κs = c .before .before .before .before .goes-on .ensures .0 (c .before .before .before .if1 .taken)
+turn-requires c κs =
+  let goes-on = c .before .before .before .before .goes-on in
+  goes-on .ensures .0 (c .before .before .before .if1 .taken)
 
 loop-less : tie.Need-loop-less Inv-loop μ-loop
-loop-less c = omega (arith, c .before .before .before .before .before .before .turn .ensures .0, c .before .before .before .before .before .before .before .before .before .before .before .goes-on .ensures .0 (c .before .before .before .before .before .before .before .before .before .before .if1 .taken) .more)
+loop-less c =
+  let turn = c .before .before .before .before .before .before .turn in
+  let goes-on = c .before .before .before .before .before .before .before .before .before .before .before .goes-on in
+  let if1 = c .before .before .before .before .before .before .before .before .before .before .if1 in
+  omega (arith, turn .ensures .0, goes-on .ensures .0 (if1 .taken) .more)
 
 loop-again : tie.Need-loop-again Inv-loop μ-loop
-loop-again c = (onto-then (c .before .before .before .before .before .before .before .before .before .before .before .before .loop .inv .0) (c .before .before .before .before .before .before .turn .ensures .1), c .before .before .before .before .before .before .turn .kept .1 .1 .1 .0 ∙ c .before .before .before .before .before .before .before .before .before .before .before .before .loop .inv .1)
+loop-again c =
+  let loop = c .before .before .before .before .before .before .before .before .before .before .before .before .loop in
+  let turn = c .before .before .before .before .before .before .turn in
+  (onto-then (loop .inv .0) (turn .ensures .1), turn .kept .1 .1 .1 .0 ∙ loop .inv .1)
 
 same-length : tie.Need-same-length Inv-loop μ-loop
 same-length c = c .before .before .loop .inv .0 .lined
@@ -43,10 +52,13 @@ same-length-3 : tie.Need-same-length-3 Inv-loop μ-loop
 same-length-3 c = c .before .before .loop .inv .1
 
 returns : tie.Need-returns Inv-loop μ-loop
-returns c = let o = c .before .before .before .before .before .before .before .before .args in
+returns c =
+  let a = c .before .before .before .before .before .before .before .before .args in
+  let loop = c .before .before .loop in
+  let o = a in
     block-answered (o .block .now) (o .from) (o .line .now) (o .out .now) (length (o .table .now)) (o .kept) _ _ _ _
-    (ap (λ (n : ℕ). record { kept = o .kept; next = n; filled = 0 }) (c .before .before .before .least .ensures)) (c .before .before .loop .inv .0)
-    (λ g. c .before .goes-on .ensures .1 (c .if1 .left) (rw (c .before .before .loop .inv .1) g))
+    (ap (λ (n : ℕ). record { kept = o .kept; next = n; filled = 0 }) (c .before .before .before .least .ensures)) (loop .inv .0)
+    (λ g. c .before .goes-on .ensures .1 (c .if1 .left) (rw (loop .inv .1) g))
 
 pub answer-block-spec : {M : Type 1} → statement M
 answer-block-spec =

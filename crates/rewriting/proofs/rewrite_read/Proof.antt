@@ -28,7 +28,9 @@ slice-aggregate-rewrite-with-2 c = search needs
 
 -- src/lib.rt:91:5
 rewrite-with-requires-2 : tie.Need-rewrite-with-requires-2
-rewrite-with-requires-2 c κs = (c .before .before .before .before .before .before .pre, omega (arith, c .before .before .before .before .before .before .pre .short))
+rewrite-with-requires-2 c κs =
+  let pre = c .before .before .before .before .before .before .pre in
+  (pre, omega (arith, pre .short))
 
 -- src/lib.rt:73:1
 same-length-2 : tie.Need-same-length-2

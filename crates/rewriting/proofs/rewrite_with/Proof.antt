@@ -17,19 +17,41 @@ same-length : tie.Need-same-length
 same-length c = search needs
 
 returns : tie.Need-returns
-returns c = walks.walk-refused (checked (c .before .before .before .before .before .before .before .before .before .before .args .t .now) (c .before .before .before .before .before .before .before .before .before .before .args .met)) (source (c .before .before .before .before .before .before .before .before .before .before .args .v .now) (c .before .before .before .before .before .before .before .before .before .before .args .order) (c .before .before .before .before .before .before .before .before .before .before .args .start)) (target (c .before .before .before .before .before .before .before .before .before .before .args .chosen) (c .before .before .before .before .before .before .before .before .before .before .args .index)) (λ k. omega (arith, c .before .before .before .before .before .before .before .before .shared-slice-known2 .given k)) (c .before .before .before .before .before .before .before .before .before .before .pre .0) (c .before .before .before .before .before .before .before .before .before .before .args .table .now) (c .before .before .before .before .before .before .before .before .before .before .pre .1) (c .before .before .before .before .walk .result) _ (c .before .before .before .before .walk .ensures) (c .before .before .before .before .before .before .before .before .before .before .args .out .now) (c .if1 .taken)
+returns c =
+  let a = c .before .before .before .before .before .before .before .before .before .before .args in
+  let shared-slice-known2 = c .before .before .before .before .before .before .before .before .shared-slice-known2 in
+  let pre = c .before .before .before .before .before .before .before .before .before .before .pre in
+  let walk = c .before .before .before .before .walk in
+  walks.walk-refused (checked (a .t .now) (a .met)) (source (a .v .now) (a .order) (a .start)) (target (a .chosen) (a .index)) (λ k. omega (arith, shared-slice-known2 .given k)) (pre .0) (a .table .now) (pre .1) (walk .result) _ (walk .ensures) (a .out .now) (c .if1 .taken)
 
 count-requires : tie.Need-count-requires
-count-requires c κs = walks.walk-rows (checked (c .before .before .before .before .before .before .before .before .before .before .before .args .t .now) (c .before .before .before .before .before .before .before .before .before .before .before .args .met)) (source (c .before .before .before .before .before .before .before .before .before .before .before .args .v .now) (c .before .before .before .before .before .before .before .before .before .before .before .args .order) (c .before .before .before .before .before .before .before .before .before .before .before .args .start)) (target (c .before .before .before .before .before .before .before .before .before .before .before .args .chosen) (c .before .before .before .before .before .before .before .before .before .before .before .args .index)) (λ k. omega (arith, c .before .before .before .before .before .before .before .before .before .shared-slice-known2 .given k)) (c .before .before .before .before .before .before .before .before .before .before .before .pre .0) (c .before .before .before .before .before .before .before .before .before .before .before .args .table .now) (c .before .before .before .before .before .before .before .before .before .before .before .pre .1) (c .before .before .before .before .before .walk .result) _ (c .before .before .before .before .before .walk .ensures) (c .before .before .before .before .before .before .before .before .before .before .before .args .out .now) (c .before .if1 .left) .sized
+count-requires c κs =
+  let a = c .before .before .before .before .before .before .before .before .before .before .before .args in
+  let shared-slice-known2 = c .before .before .before .before .before .before .before .before .before .shared-slice-known2 in
+  let pre = c .before .before .before .before .before .before .before .before .before .before .before .pre in
+  let walk = c .before .before .before .before .before .walk in
+  walks.walk-rows (checked (a .t .now) (a .met)) (source (a .v .now) (a .order) (a .start)) (target (a .chosen) (a .index)) (λ k. omega (arith, shared-slice-known2 .given k)) (pre .0) (a .table .now) (pre .1) (walk .result) _ (walk .ensures) (a .out .now) (c .before .if1 .left) .sized
 
 same-length-2 : tie.Need-same-length-2
 same-length-2 c = search needs
 
 returns-2 : tie.Need-returns-2
-returns-2 c = walks.walk-short (checked (c .before .before .before .before .before .before .before .before .before .before .before .before .before .args .t .now) (c .before .before .before .before .before .before .before .before .before .before .before .before .before .args .met)) (source (c .before .before .before .before .before .before .before .before .before .before .before .before .before .args .v .now) (c .before .before .before .before .before .before .before .before .before .before .before .before .before .args .order) (c .before .before .before .before .before .before .before .before .before .before .before .before .before .args .start)) (target (c .before .before .before .before .before .before .before .before .before .before .before .before .before .args .chosen) (c .before .before .before .before .before .before .before .before .before .before .before .before .before .args .index)) (λ k. omega (arith, c .before .before .before .before .before .before .before .before .before .before .before .shared-slice-known2 .given k)) (c .before .before .before .before .before .before .before .before .before .before .before .before .before .pre .0) (c .before .before .before .before .before .before .before .before .before .before .before .before .before .args .table .now) (c .before .before .before .before .before .before .before .before .before .before .before .before .before .pre .1) (c .before .before .before .before .before .before .before .walk .result) _ (c .before .before .before .before .before .before .before .walk .ensures) (c .before .before .before .before .before .before .before .before .before .before .before .before .before .args .out .now) (c .before .before .before .if1 .left) (c .before .count .result) (c .before .count .ensures) (c .if2 .taken)
+returns-2 c =
+  let a = c .before .before .before .before .before .before .before .before .before .before .before .before .before .args in
+  let shared-slice-known2 = c .before .before .before .before .before .before .before .before .before .before .before .shared-slice-known2 in
+  let pre = c .before .before .before .before .before .before .before .before .before .before .before .before .before .pre in
+  let walk = c .before .before .before .before .before .before .before .walk in
+  let count = c .before .count in
+  walks.walk-short (checked (a .t .now) (a .met)) (source (a .v .now) (a .order) (a .start)) (target (a .chosen) (a .index)) (λ k. omega (arith, shared-slice-known2 .given k)) (pre .0) (a .table .now) (pre .1) (walk .result) _ (walk .ensures) (a .out .now) (c .before .before .before .if1 .left) (count .result) (count .ensures) (c .if2 .taken)
 
 write-requires : tie.Need-write-requires
-write-requires c κs = (walks.walk-rows (checked (c .before .before .before .before .before .before .before .before .before .before .before .before .before .before .before .args .t .now) (c .before .before .before .before .before .before .before .before .before .before .before .before .before .before .before .args .met)) (source (c .before .before .before .before .before .before .before .before .before .before .before .before .before .before .before .args .v .now) (c .before .before .before .before .before .before .before .before .before .before .before .before .before .before .before .args .order) (c .before .before .before .before .before .before .before .before .before .before .before .before .before .before .before .args .start)) (target (c .before .before .before .before .before .before .before .before .before .before .before .before .before .before .before .args .chosen) (c .before .before .before .before .before .before .before .before .before .before .before .before .before .before .before .args .index)) (λ k. omega (arith, c .before .before .before .before .before .before .before .before .before .before .before .before .before .shared-slice-known2 .given k)) (c .before .before .before .before .before .before .before .before .before .before .before .before .before .before .before .pre .0) (c .before .before .before .before .before .before .before .before .before .before .before .before .before .before .before .args .table .now) (c .before .before .before .before .before .before .before .before .before .before .before .before .before .before .before .pre .1) (c .before .before .before .before .before .before .before .before .before .walk .result) _ (c .before .before .before .before .before .before .before .before .before .walk .ensures) (c .before .before .before .before .before .before .before .before .before .before .before .before .before .before .before .args .out .now) (c .before .before .before .before .before .if1 .left), omega (arith, c .before .before .before .count .ensures, c .before .before .if2 .left))
+write-requires c κs =
+  let a = c .before .before .before .before .before .before .before .before .before .before .before .before .before .before .before .args in
+  let shared-slice-known2 = c .before .before .before .before .before .before .before .before .before .before .before .before .before .shared-slice-known2 in
+  let pre = c .before .before .before .before .before .before .before .before .before .before .before .before .before .before .before .pre in
+  let walk = c .before .before .before .before .before .before .before .before .before .walk in
+  let if1 = c .before .before .before .before .before .if1 in
+  (walks.walk-rows (checked (a .t .now) (a .met)) (source (a .v .now) (a .order) (a .start)) (target (a .chosen) (a .index)) (λ k. omega (arith, shared-slice-known2 .given k)) (pre .0) (a .table .now) (pre .1) (walk .result) _ (walk .ensures) (a .out .now) (if1 .left), omega (arith, c .before .before .before .count .ensures, c .before .before .if2 .left))
 
 same-length-3 : tie.Need-same-length-3
 same-length-3 c = search needs
@@ -38,7 +60,15 @@ same-length-4 : tie.Need-same-length-4
 same-length-4 c = search needs
 
 returns-3 : tie.Need-returns-3
-returns-3 c = walks.walk-written (checked (c .before .before .before .before .before .before .before .before .before .before .before .before .before .before .before .before .before .before .args .t .now) (c .before .before .before .before .before .before .before .before .before .before .before .before .before .before .before .before .before .before .args .met)) (source (c .before .before .before .before .before .before .before .before .before .before .before .before .before .before .before .before .before .before .args .v .now) (c .before .before .before .before .before .before .before .before .before .before .before .before .before .before .before .before .before .before .args .order) (c .before .before .before .before .before .before .before .before .before .before .before .before .before .before .before .before .before .before .args .start)) (target (c .before .before .before .before .before .before .before .before .before .before .before .before .before .before .before .before .before .before .args .chosen) (c .before .before .before .before .before .before .before .before .before .before .before .before .before .before .before .before .before .before .args .index)) (λ k. omega (arith, c .before .before .before .before .before .before .before .before .before .before .before .before .before .before .before .before .shared-slice-known2 .given k)) (c .before .before .before .before .before .before .before .before .before .before .before .before .before .before .before .before .before .before .pre .0) (c .before .before .before .before .before .before .before .before .before .before .before .before .before .before .before .before .before .before .args .table .now) (c .before .before .before .before .before .before .before .before .before .before .before .before .before .before .before .before .before .before .pre .1) (c .before .before .before .before .before .before .before .before .before .before .before .before .walk .result) _ (c .before .before .before .before .before .before .before .before .before .before .before .before .walk .ensures) (c .before .before .before .before .before .before .before .before .before .before .before .before .before .before .before .before .before .before .args .out .now) (c .before .before .before .before .before .before .before .before .if1 .left) (c .before .before .before .before .before .before .count .result) (c .before .before .before .before .before .before .count .ensures) (c .before .before .before .before .before .if2 .left) _ (c .before .before .write .ensures)
+returns-3 c =
+  let a = c .before .before .before .before .before .before .before .before .before .before .before .before .before .before .before .before .before .before .args in
+  let shared-slice-known2 = c .before .before .before .before .before .before .before .before .before .before .before .before .before .before .before .before .shared-slice-known2 in
+  let pre = c .before .before .before .before .before .before .before .before .before .before .before .before .before .before .before .before .before .before .pre in
+  let walk = c .before .before .before .before .before .before .before .before .before .before .before .before .walk in
+  let if1 = c .before .before .before .before .before .before .before .before .if1 in
+  let count = c .before .before .before .before .before .before .count in
+  let if2 = c .before .before .before .before .before .if2 in
+  walks.walk-written (checked (a .t .now) (a .met)) (source (a .v .now) (a .order) (a .start)) (target (a .chosen) (a .index)) (λ k. omega (arith, shared-slice-known2 .given k)) (pre .0) (a .table .now) (pre .1) (walk .result) _ (walk .ensures) (a .out .now) (if1 .left) (count .result) (count .ensures) (if2 .left) _ (c .before .before .write .ensures)
 
 pub rewrite-with-spec : {M : Type 1} → statement M
 rewrite-with-spec =

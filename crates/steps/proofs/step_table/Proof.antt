@@ -35,7 +35,8 @@ loop-again c = (search needs, filled-more _ _ _ _ _ (c .before .before .loop .in
 
 returns : tie.Need-returns Inv-loop μ-loop
 returns c =
-    filled-all _ _ _ _ _ (c .before .before .before .kinds-in .ensures) (c .before .loop .inv .0) (c .loop-test .left) (c .before .loop .inv .1)
+  let loop = c .before .loop in
+  filled-all _ _ _ _ _ (c .before .before .before .kinds-in .ensures) (loop .inv .0) (c .loop-test .left) (loop .inv .1)
 
 pub step-table-spec : {M : Type 1} → statement M
 step-table-spec =

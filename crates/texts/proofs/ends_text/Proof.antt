@@ -43,7 +43,9 @@ loop-again c =
     (omega arith, ends-later (at-start .args .s .now) (at-loop .loop .i) (c .before .before .loop-test .taken) (c .if1 .left) ∙ at-loop .loop .inv .1)
 
 returns-2 : tie.Need-returns-2 Inv-loop μ-loop
-returns-2 c = sym (ends-never (c .before .before .args .s .now) (c .before .loop .i) (c .loop-test .left)) ∙ c .before .loop .inv .1
+returns-2 c =
+  let loop = c .before .loop in
+  sym (ends-never (c .before .before .args .s .now) (loop .i) (c .loop-test .left)) ∙ loop .inv .1
 
 pub ends-text-spec : {M : Type 1} → statement M
 ends-text-spec =

@@ -16,7 +16,9 @@ none-requires : tie.Need-none-requires
 none-requires c κs = search needs
 
 returns : tie.Need-returns
-returns c = ap (typed (Refused 42)) (c .none .ensures) ∙ answers.typed-long (c .before .before .before .before .args .t .now) (c .before .before .before .before .args .torder) (c .before .before .before .before .args .octets) (sym (c .before .before .over-long .ensures) ∙ c .before .if1 .taken)
+returns c =
+  let a = c .before .before .before .before .args in
+  ap (typed (Refused 42)) (c .none .ensures) ∙ answers.typed-long (a .t .now) (a .torder) (a .octets) (sym (c .before .before .over-long .ensures) ∙ c .before .if1 .taken)
 
 check-type-requires : tie.Need-check-type-requires
 check-type-requires c κs = search needs
@@ -25,7 +27,11 @@ judge-requires : tie.Need-judge-requires
 judge-requires c κs = search needs
 
 returns-2 : tie.Need-returns-2
-returns-2 c = ap (λ (j : Judged). typed j (c .before .before .check-type .result .met)) (c .judge .ensures) ∙ ap (λ (y : CheckedType). typed (judgedBy (y .answer)) (y .met)) (c .before .before .check-type .ensures) ∙ answers.typed-short (c .before .before .before .before .before .before .args .t .now) (c .before .before .before .before .before .before .args .torder) (c .before .before .before .before .before .before .args .octets) (sym (c .before .before .before .before .over-long .ensures) ∙ c .before .before .before .if1 .left)
+returns-2 c =
+  let check-type = c .before .before .check-type in
+  let a = c .before .before .before .before .before .before .args in
+  let over-long = c .before .before .before .before .over-long in
+  ap (λ (j : Judged). typed j (check-type .result .met)) (c .judge .ensures) ∙ ap (λ (y : CheckedType). typed (judgedBy (y .answer)) (y .met)) (check-type .ensures) ∙ answers.typed-short (a .t .now) (a .torder) (a .octets) (sym (over-long .ensures) ∙ c .before .before .before .if1 .left)
 
 pub check-spec : {M : Type 1} → statement M
 check-spec =

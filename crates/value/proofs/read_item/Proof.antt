@@ -14,16 +14,25 @@ enum-told : tie.Need-enum-told
 enum-told c = search needs
 
 pick-requires : tie.Need-pick-requires
-pick-requires c κs = answers.bounded (c .before .before .before .before .before .before .args .t .now) (c .before .before .before .before .before .before .args .torder) (source (c .before .before .before .before .before .before .args .v .now) (c .before .before .before .before .before .before .args .order) (c .before .before .before .before .before .before .args .start)) (c .before .before .before .check .result .met) (answers.under (c .before .before .before .before .before .before .args .t .now) (c .before .before .before .before .before .before .args .torder) (length (c .before .before .before .before .before .before .args .v .now)) (c .before .before .before .check .result) (c .before .before .before .check .ensures) (c .enum-told .given .1))
+pick-requires c κs =
+  let a = c .before .before .before .before .before .before .args in
+  let check = c .before .before .before .check in
+  answers.bounded (a .t .now) (a .torder) (source (a .v .now) (a .order) (a .start)) (check .result .met) (answers.under (a .t .now) (a .torder) (length (a .v .now)) (check .result) (check .ensures) (c .enum-told .given .1))
 
 enum-known-judged : tie.Need-enum-known-judged
 enum-known-judged c = search needs
 
 returns : tie.Need-returns
-returns c = c .pick .ensures ∙ answers.item-read (c .before .before .before .before .before .before .before .args .t .now) (c .before .before .before .before .before .before .before .args .torder) (source (c .before .before .before .before .before .before .before .args .v .now) (c .before .before .before .before .before .before .before .args .order) (c .before .before .before .before .before .before .before .args .start)) (c .before .before .before .before .check .result) (c .before .before .before .before .check .ensures) (c .before .before .before .before .before .before .before .args .number) (c .before .enum-told .given .1)
+returns c =
+  let a = c .before .before .before .before .before .before .before .args in
+  let check = c .before .before .before .before .check in
+  c .pick .ensures ∙ answers.item-read (a .t .now) (a .torder) (source (a .v .now) (a .order) (a .start)) (check .result) (check .ensures) (a .number) (c .before .enum-told .given .1)
 
 returns-2 : tie.Need-returns-2
-returns-2 c = answers.item-refused (c .before .before .before .before .before .before .before .args .t .now) (c .before .before .before .before .before .before .before .args .torder) (source (c .before .before .before .before .before .before .before .args .v .now) (c .before .before .before .before .before .before .before .args .order) (c .before .before .before .before .before .before .before .args .start)) (c .before .before .before .before .check .result) (c .before .before .before .before .check .ensures) (c .before .before .before .before .before .before .before .args .number) _ (c .before .judged .given .1)
+returns-2 c =
+  let a = c .before .before .before .before .before .before .before .args in
+  let check = c .before .before .before .before .check in
+  answers.item-refused (a .t .now) (a .torder) (source (a .v .now) (a .order) (a .start)) (check .result) (check .ensures) (a .number) _ (c .before .judged .given .1)
 
 pub read-item-spec : {M : Type 1} → statement M
 read-item-spec =

@@ -14,7 +14,10 @@ enum-told : tie.Need-enum-told
 enum-told c = search needs
 
 read-into-requires : tie.Need-read-into-requires
-read-into-requires c κs = answers.bounded (c .before .before .before .before .before .before .before .before .args .t .now) (c .before .before .before .before .before .before .before .before .args .torder) (source (c .before .before .before .before .before .before .before .before .args .v .now) (c .before .before .before .before .before .before .before .before .args .order) (c .before .before .before .before .before .before .before .before .args .start)) (c .before .before .before .before .check .result .met) (answers.under (c .before .before .before .before .before .before .before .before .args .t .now) (c .before .before .before .before .before .before .before .before .args .torder) (length (c .before .before .before .before .before .before .before .before .args .v .now)) (c .before .before .before .before .check .result) (c .before .before .before .before .check .ensures) (c .before .enum-told .given .1))
+read-into-requires c κs =
+  let a = c .before .before .before .before .before .before .before .before .args in
+  let check = c .before .before .before .before .check in
+  answers.bounded (a .t .now) (a .torder) (source (a .v .now) (a .order) (a .start)) (check .result .met) (answers.under (a .t .now) (a .torder) (length (a .v .now)) (check .result) (check .ensures) (c .before .enum-told .given .1))
 
 enum-known-judged : tie.Need-enum-known-judged
 enum-known-judged c = search needs
@@ -23,10 +26,17 @@ same-length : tie.Need-same-length
 same-length c = search needs
 
 returns : tie.Need-returns
-returns c = answers.value-read (c .before .before .before .before .before .before .before .before .before .before .before .args .t .now) (c .before .before .before .before .before .before .before .before .before .before .before .args .torder) (source (c .before .before .before .before .before .before .before .before .before .before .before .args .v .now) (c .before .before .before .before .before .before .before .before .before .before .before .args .order) (c .before .before .before .before .before .before .before .before .before .before .before .args .start)) (c .before .before .before .before .before .before .before .check .result) (c .before .before .before .before .before .before .before .check .ensures) (c .before .before .before .before .before .before .before .before .before .before .before .args .table .now) (c .before .before .before .before .enum-told .given .1) _ _ (c .before .before .read-into .ensures)
+returns c =
+  let a = c .before .before .before .before .before .before .before .before .before .before .before .args in
+  let check = c .before .before .before .before .before .before .before .check in
+  let enum-told = c .before .before .before .before .enum-told in
+  answers.value-read (a .t .now) (a .torder) (source (a .v .now) (a .order) (a .start)) (check .result) (check .ensures) (a .table .now) (enum-told .given .1) _ _ (c .before .before .read-into .ensures)
 
 returns-2 : tie.Need-returns-2
-returns-2 c = answers.value-refused (c .before .before .before .before .before .before .before .before .args .t .now) (c .before .before .before .before .before .before .before .before .args .torder) (source (c .before .before .before .before .before .before .before .before .args .v .now) (c .before .before .before .before .before .before .before .before .args .order) (c .before .before .before .before .before .before .before .before .args .start)) (c .before .before .before .before .check .result) (c .before .before .before .before .check .ensures) (c .before .before .before .before .before .before .before .before .args .table .now) _ (c .before .judged .given .1)
+returns-2 c =
+  let a = c .before .before .before .before .before .before .before .before .args in
+  let check = c .before .before .before .before .check in
+  answers.value-refused (a .t .now) (a .torder) (source (a .v .now) (a .order) (a .start)) (check .result) (check .ensures) (a .table .now) _ (c .before .judged .given .1)
 
 pub read-value-spec : {M : Type 1} → statement M
 read-value-spec =

@@ -155,14 +155,23 @@ each-loop-holds : (t : ℕ) → each-lts.Need-loop-holds (each-of t) (each-at t)
 each-loop-holds t c = going-none
 
 each-visit-requires : (t : ℕ) → each-lts.Need-visit-requires (each-of t) (each-at t) each.Post each-Inv-loop each-μ-loop
-each-visit-requires t c κs = (omega (arith, c .before .before .before .before .before .before .pre .0), tt)
+each-visit-requires t c κs =
+  let pre = c .before .before .before .before .before .before .pre in
+  (omega (arith, pre .0), tt)
 
 each-same-length : (t : ℕ) → each-lts.Need-same-length (each-of t) (each-at t) each.Post each-Inv-loop each-μ-loop
-each-same-length t c = c .before .before .before .before .visit .kept .1 .1 .1 .1 .0 ∙ c .before .before .before .before .before .before .before .loop .inv .same
+each-same-length t c =
+  let visit = c .before .before .before .before .visit in
+  let loop = c .before .before .before .before .before .before .before .loop in
+  visit .kept .1 .1 .1 .1 .0 ∙ loop .inv .same
 
 each-returns : (t : ℕ) → each-lts.Need-returns (each-of t) (each-at t) each.Post each-Inv-loop each-μ-loop
 unfolding elementsAt
-each-returns t c = going-stop (c .before .before .before .before .before .before .before .loop .inv) (c .before .before .before .before .before .before .loop-test .taken) (c .before .before .before .before .visit .ensures) (c .if1 .taken)
+each-returns t c =
+  let loop = c .before .before .before .before .before .before .before .loop in
+  let loop-test = c .before .before .before .before .before .before .loop-test in
+  let visit = c .before .before .before .before .visit in
+  going-stop (loop .inv) (loop-test .taken) (visit .ensures) (c .if1 .taken)
 
 each-add-k : (t : ℕ) → each-lts.Need-add-k (each-of t) (each-at t) each.Post each-Inv-loop each-μ-loop
 each-add-k t c = omega arith
@@ -171,7 +180,11 @@ each-loop-less : (t : ℕ) → each-lts.Need-loop-less (each-of t) (each-at t) e
 each-loop-less t c = omega arith
 
 each-loop-again : (t : ℕ) → each-lts.Need-loop-again (each-of t) (each-at t) each.Post each-Inv-loop each-μ-loop
-each-loop-again t c = going-more (c .before .before .before .before .before .before .before .loop .inv) (c .before .before .before .before .before .before .loop-test .taken) (c .before .before .before .before .visit .ensures) (c .before .before .before .before .visit .kept .1 .1 .1 .1 .0) (c .if1 .left)
+each-loop-again t c =
+  let loop = c .before .before .before .before .before .before .before .loop in
+  let loop-test = c .before .before .before .before .before .before .loop-test in
+  let visit = c .before .before .before .before .visit in
+  going-more (loop .inv) (loop-test .taken) (visit .ensures) (visit .kept .1 .1 .1 .1 .0) (c .if1 .left)
 
 each-same-length-2 : (t : ℕ) → each-lts.Need-same-length-2 (each-of t) (each-at t) each.Post each-Inv-loop each-μ-loop
 each-same-length-2 t c = c .before .loop .inv .same
@@ -193,13 +206,18 @@ elements-enum-known-e-2 : (t : ℕ) → elements-lts.Need-enum-known-e-2 (elemen
 elements-enum-known-e-2 t c = search needs
 
 elements-each-requires : (t : ℕ) → elements-lts.Need-each-requires (elements-of t) (elements-at t) elements.Post
-elements-each-requires t c κs = (omega (arith, c .before .before .before .before .before .before .before .before .pre .0), tt)
+elements-each-requires t c κs =
+  let pre = c .before .before .before .before .before .before .before .before .pre in
+  (omega (arith, pre .0), tt)
 
 elements-same-length : (t : ℕ) → elements-lts.Need-same-length (elements-of t) (elements-at t) elements.Post
 elements-same-length t c = c .before .before .each .kept .1 .1 .1 .1 .0
 
 elements-returns : (t : ℕ) → elements-lts.Need-returns (elements-of t) (elements-at t) elements.Post
-elements-returns t c = c .before .before .each .ensures ∙ ap (λ (p : Parameters). elementsAt (sinkOf (c .before .before .before .before .before .before .before .before .before .before .before .args .m)) (sourceOf (c .before .before .before .before .before .before .before .before .before .before .before .args .m) (c .before .before .before .before .before .before .before .before .before .before .before .args .v .now)) (reads (sinkOf (c .before .before .before .before .before .before .before .before .before .before .before .args .m)) (sourceOf (c .before .before .before .before .before .before .before .before .before .before .before .args .m) (c .before .before .before .before .before .before .before .before .before .before .before .args .v .now)) (checked (c .before .before .before .before .before .before .before .before .before .before .before .args .t .now) (c .before .before .before .before .before .before .before .before .before .before .before .args .met)) (c .before .before .before .before .before .before .before .before .before .before .before .args .left)) p (c .before .before .before .before .before .before .before .before .before .before .before .args .count) (stateOf (c .before .before .before .before .before .before .before .before .before .before .before .args .c) (c .before .before .before .before .before .before .before .before .before .before .before .args .table .now))) (sym (c .before .before .before .before .before .before .e2 .given .1))
+elements-returns t c =
+  let a = c .before .before .before .before .before .before .before .before .before .before .before .args in
+  let e2 = c .before .before .before .before .before .before .e2 in
+  c .before .before .each .ensures ∙ ap (λ (p : Parameters). elementsAt (sinkOf (a .m)) (sourceOf (a .m) (a .v .now)) (reads (sinkOf (a .m)) (sourceOf (a .m) (a .v .now)) (checked (a .t .now) (a .met)) (a .left)) p (a .count) (stateOf (a .c) (a .table .now))) (sym (e2 .given .1))
 
 elements-plan-of-requires : (t : ℕ) → elements-lts.Need-plan-of-requires (elements-of t) (elements-at t) elements.Post
 elements-plan-of-requires t c κs = search needs
@@ -211,25 +229,40 @@ elements-same-length-2 : (t : ℕ) → elements-lts.Need-same-length-2 (elements
 elements-same-length-2 t c = c .before .before .structs .kept .1 .1 .0
 
 elements-returns-2 : (t : ℕ) → elements-lts.Need-returns-2 (elements-of t) (elements-at t) elements.Post
-elements-returns-2 t c = c .before .before .structs .ensures ∙ sym (plan-elements (sinkOf (c .before .before .before .before .before .before .before .before .before .before .before .before .before .args .m)) (sourceOf (c .before .before .before .before .before .before .before .before .before .before .before .before .before .args .m) (c .before .before .before .before .before .before .before .before .before .before .before .before .before .args .v .now)) (checked (c .before .before .before .before .before .before .before .before .before .before .before .before .before .args .t .now) (c .before .before .before .before .before .before .before .before .before .before .before .before .before .args .met)) (c .before .before .before .before .before .before .before .before .before .before .before .before .before .args .e) _ (c .before .before .before .before .before .before .before .before .before .before .before .before .before .args .left) (c .before .before .before .before .before .plan-of .result) (c .before .before .before .before .before .before .before .before .e2 .given .1) (c .before .before .before .before .before .plan-of .ensures (c .before .before .before .before .if2 .taken)) (c .before .before .before .before .before .before .before .before .before .before .before .before .before .args .count) (stateOf (c .before .before .before .before .before .before .before .before .before .before .before .before .before .args .c) (c .before .before .before .before .before .before .before .before .before .before .before .before .before .args .table .now)))
+elements-returns-2 t c =
+  let a = c .before .before .before .before .before .before .before .before .before .before .before .before .before .args in
+  let plan-of = c .before .before .before .before .before .plan-of in
+  let e2 = c .before .before .before .before .before .before .before .before .e2 in
+  let if2 = c .before .before .before .before .if2 in
+  c .before .before .structs .ensures ∙ sym (plan-elements (sinkOf (a .m)) (sourceOf (a .m) (a .v .now)) (checked (a .t .now) (a .met)) (a .e) _ (a .left) (plan-of .result) (e2 .given .1) (plan-of .ensures (if2 .taken)) (a .count) (stateOf (a .c) (a .table .now)))
 
 elements-each-requires-2 : (t : ℕ) → elements-lts.Need-each-requires-2 (elements-of t) (elements-at t) elements.Post
-elements-each-requires-2 t c κs = (omega (arith, c .before .before .before .before .before .before .before .before .before .before .pre .0), tt)
+elements-each-requires-2 t c κs =
+  let pre = c .before .before .before .before .before .before .before .before .before .before .pre in
+  (omega (arith, pre .0), tt)
 
 elements-each-requires-3 : (t : ℕ) → elements-lts.Need-each-requires-3 (elements-of t) (elements-at t) elements.Post
-elements-each-requires-3 t c κs = (omega (arith, c .before .before .before .before .before .pre .0), tt)
+elements-each-requires-3 t c κs =
+  let pre = c .before .before .before .before .before .pre in
+  (omega (arith, pre .0), tt)
 
 elements-same-length-3 : (t : ℕ) → elements-lts.Need-same-length-3 (elements-of t) (elements-at t) elements.Post
 elements-same-length-3 t c = search needs
 
 elements-returns-3 : (t : ℕ) → elements-lts.Need-returns-3 (elements-of t) (elements-at t) elements.Post
-elements-returns-3 t c = c .before .before .leaf-elements .ensures (checked (c .before .before .before .before .before .before .before .before .before .before .args .t .now) (c .before .before .before .before .before .before .before .before .before .before .args .met)) ∙ ap (λ (p : Parameters). elementsAt (sinkOf (c .before .before .before .before .before .before .before .before .before .before .args .m)) (sourceOf (c .before .before .before .before .before .before .before .before .before .before .args .m) (c .before .before .before .before .before .before .before .before .before .before .args .v .now)) (reads (sinkOf (c .before .before .before .before .before .before .before .before .before .before .args .m)) (sourceOf (c .before .before .before .before .before .before .before .before .before .before .args .m) (c .before .before .before .before .before .before .before .before .before .before .args .v .now)) (checked (c .before .before .before .before .before .before .before .before .before .before .args .t .now) (c .before .before .before .before .before .before .before .before .before .before .args .met)) (c .before .before .before .before .before .before .before .before .before .before .args .left)) p (c .before .before .before .before .before .before .before .before .before .before .args .count) (stateOf (c .before .before .before .before .before .before .before .before .before .before .args .c) (c .before .before .before .before .before .before .before .before .before .before .args .table .now))) (sym (c .before .before .before .before .before .e .given .1))
+elements-returns-3 t c =
+  let a = c .before .before .before .before .before .before .before .before .before .before .args in
+  let e = c .before .before .before .before .before .e in
+  c .before .before .leaf-elements .ensures (checked (a .t .now) (a .met)) ∙ ap (λ (p : Parameters). elementsAt (sinkOf (a .m)) (sourceOf (a .m) (a .v .now)) (reads (sinkOf (a .m)) (sourceOf (a .m) (a .v .now)) (checked (a .t .now) (a .met)) (a .left)) p (a .count) (stateOf (a .c) (a .table .now))) (sym (e .given .1))
 
 elements-same-length-4 : (t : ℕ) → elements-lts.Need-same-length-4 (elements-of t) (elements-at t) elements.Post
 elements-same-length-4 t c = c .before .before .each2 .kept .1 .1 .1 .1 .0
 
 elements-returns-4 : (t : ℕ) → elements-lts.Need-returns-4 (elements-of t) (elements-at t) elements.Post
-elements-returns-4 t c = c .before .before .each2 .ensures ∙ ap (λ (p : Parameters). elementsAt (sinkOf (c .before .before .before .before .before .before .before .before .before .before .before .before .before .args .m)) (sourceOf (c .before .before .before .before .before .before .before .before .before .before .before .before .before .args .m) (c .before .before .before .before .before .before .before .before .before .before .before .before .before .args .v .now)) (reads (sinkOf (c .before .before .before .before .before .before .before .before .before .before .before .before .before .args .m)) (sourceOf (c .before .before .before .before .before .before .before .before .before .before .before .before .before .args .m) (c .before .before .before .before .before .before .before .before .before .before .before .before .before .args .v .now)) (checked (c .before .before .before .before .before .before .before .before .before .before .before .before .before .args .t .now) (c .before .before .before .before .before .before .before .before .before .before .before .before .before .args .met)) (c .before .before .before .before .before .before .before .before .before .before .before .before .before .args .left)) p (c .before .before .before .before .before .before .before .before .before .before .before .before .before .args .count) (stateOf (c .before .before .before .before .before .before .before .before .before .before .before .before .before .args .c) (c .before .before .before .before .before .before .before .before .before .before .before .before .before .args .table .now))) (sym (c .before .before .before .before .before .before .before .before .e2 .given .1))
+elements-returns-4 t c =
+  let a = c .before .before .before .before .before .before .before .before .before .before .before .before .before .args in
+  let e2 = c .before .before .before .before .before .before .before .before .e2 in
+  c .before .before .each2 .ensures ∙ ap (λ (p : Parameters). elementsAt (sinkOf (a .m)) (sourceOf (a .m) (a .v .now)) (reads (sinkOf (a .m)) (sourceOf (a .m) (a .v .now)) (checked (a .t .now) (a .met)) (a .left)) p (a .count) (stateOf (a .c) (a .table .now))) (sym (e2 .given .1))
 
 elements-same-length-5 : (t : ℕ) → elements-lts.Need-same-length-5 (elements-of t) (elements-at t) elements.Post
 elements-same-length-5 t c = c .before .before .each3 .kept .1 .1 .1 .1 .0
@@ -244,19 +277,32 @@ exception-text-requires : (t : ℕ) → exception-lts.Need-text-requires (except
 exception-text-requires t c κs = search needs
 
 exception-same-length : (t : ℕ) → exception-lts.Need-same-length (exception-of t) (exception-at t) exception.Post
-exception-same-length t c = c .before .before .before .before .text .kept .1 .1 .0
+exception-same-length t c =
+  let text = c .before .before .before .before .text in
+  text .kept .1 .1 .0
 
 exception-returns : (t : ℕ) → exception-lts.Need-returns (exception-of t) (exception-at t) exception.Post
-exception-returns t c = sym (way.exception-stop (sinkOf (c .before .before .before .before .before .before .before .before .before .args .m)) (sourceOf (c .before .before .before .before .before .before .before .before .before .args .m) (c .before .before .before .before .before .before .before .before .before .args .v .now)) (reads (sinkOf (c .before .before .before .before .before .before .before .before .before .args .m)) (sourceOf (c .before .before .before .before .before .before .before .before .before .args .m) (c .before .before .before .before .before .before .before .before .before .args .v .now)) (checked (c .before .before .before .before .before .before .before .before .before .args .t .now) (c .before .before .before .before .before .before .before .before .before .args .met)) (c .before .before .before .before .before .before .before .before .before .args .left)) (checked (c .before .before .before .before .before .before .before .before .before .args .t .now) (c .before .before .before .before .before .before .before .before .before .args .met)) (c .before .before .before .before .before .before .before .before .before .args .fields) (stateOf (c .before .before .before .before .before .before .before .before .before .args .c) (c .before .before .before .before .before .before .before .before .before .args .table .now)) _ (c .before .before .before .before .text .ensures) (c .if1 .taken))
+exception-returns t c =
+  let a = c .before .before .before .before .before .before .before .before .before .args in
+  let text = c .before .before .before .before .text in
+  sym (way.exception-stop (sinkOf (a .m)) (sourceOf (a .m) (a .v .now)) (reads (sinkOf (a .m)) (sourceOf (a .m) (a .v .now)) (checked (a .t .now) (a .met)) (a .left)) (checked (a .t .now) (a .met)) (a .fields) (stateOf (a .c) (a .table .now)) _ (text .ensures) (c .if1 .taken))
 
 exception-struct-members-requires : (t : ℕ) → exception-lts.Need-struct-members-requires (exception-of t) (exception-at t) exception.Post
-exception-struct-members-requires t c κs = (omega (arith, c .before .before .before .before .before .before .before .before .before .before .pre .0), tt)
+exception-struct-members-requires t c κs =
+  let pre = c .before .before .before .before .before .before .before .before .before .before .pre in
+  (omega (arith, pre .0), tt)
 
 exception-same-length-2 : (t : ℕ) → exception-lts.Need-same-length-2 (exception-of t) (exception-at t) exception.Post
-exception-same-length-2 t c = c .before .before .struct-members .kept .1 .1 .1 .1 .0 ∙ c .before .before .before .before .before .before .before .before .text .kept .1 .1 .0
+exception-same-length-2 t c =
+  let text = c .before .before .before .before .before .before .before .before .text in
+  c .before .before .struct-members .kept .1 .1 .1 .1 .0 ∙ text .kept .1 .1 .0
 
 exception-returns-2 : (t : ℕ) → exception-lts.Need-returns-2 (exception-of t) (exception-at t) exception.Post
-exception-returns-2 t c = c .before .before .struct-members .ensures ∙ sym (way.exception-go (sinkOf (c .before .before .before .before .before .before .before .before .before .before .before .before .before .args .m)) (sourceOf (c .before .before .before .before .before .before .before .before .before .before .before .before .before .args .m) (c .before .before .before .before .before .before .before .before .before .before .before .before .before .args .v .now)) (reads (sinkOf (c .before .before .before .before .before .before .before .before .before .before .before .before .before .args .m)) (sourceOf (c .before .before .before .before .before .before .before .before .before .before .before .before .before .args .m) (c .before .before .before .before .before .before .before .before .before .before .before .before .before .args .v .now)) (checked (c .before .before .before .before .before .before .before .before .before .before .before .before .before .args .t .now) (c .before .before .before .before .before .before .before .before .before .before .before .before .before .args .met)) (c .before .before .before .before .before .before .before .before .before .before .before .before .before .args .left)) (checked (c .before .before .before .before .before .before .before .before .before .before .before .before .before .args .t .now) (c .before .before .before .before .before .before .before .before .before .before .before .before .before .args .met)) (c .before .before .before .before .before .before .before .before .before .before .before .before .before .args .fields) (stateOf (c .before .before .before .before .before .before .before .before .before .before .before .before .before .args .c) (c .before .before .before .before .before .before .before .before .before .before .before .before .before .args .table .now)) _ (c .before .before .before .before .before .before .before .before .text .ensures) (c .before .before .before .before .if1 .left))
+exception-returns-2 t c =
+  let a = c .before .before .before .before .before .before .before .before .before .before .before .before .before .args in
+  let text = c .before .before .before .before .before .before .before .before .text in
+  let if1 = c .before .before .before .before .if1 in
+  c .before .before .struct-members .ensures ∙ sym (way.exception-go (sinkOf (a .m)) (sourceOf (a .m) (a .v .now)) (reads (sinkOf (a .m)) (sourceOf (a .m) (a .v .now)) (checked (a .t .now) (a .met)) (a .left)) (checked (a .t .now) (a .met)) (a .fields) (stateOf (a .c) (a .table .now)) _ (text .ensures) (if1 .left))
 
 abbrev sequence-of : ℕ → sequence-lts.Claims
 sequence-of t = (count-reads.Asked, count-reads.Learnt, within-reads.Asked, within-reads.Learnt, elements-below t, elements.Post)
@@ -265,28 +311,47 @@ sequence-count-requires : (t : ℕ) → sequence-lts.Need-count-requires (sequen
 sequence-count-requires t c κs = search needs
 
 sequence-same-length : (t : ℕ) → sequence-lts.Need-same-length (sequence-of t) (sequence-at t) sequence.Post
-sequence-same-length t c = c .before .before .before .before .count .kept .1 .1 .0
+sequence-same-length t c =
+  let count = c .before .before .before .before .count in
+  count .kept .1 .1 .0
 
 sequence-returns : (t : ℕ) → sequence-lts.Need-returns (sequence-of t) (sequence-at t) sequence.Post
-sequence-returns t c = sym (way.sequence-stop (sinkOf (c .before .before .before .before .before .before .before .before .before .args .m)) (sourceOf (c .before .before .before .before .before .before .before .before .before .args .m) (c .before .before .before .before .before .before .before .before .before .args .v .now)) (reads (sinkOf (c .before .before .before .before .before .before .before .before .before .args .m)) (sourceOf (c .before .before .before .before .before .before .before .before .before .args .m) (c .before .before .before .before .before .before .before .before .before .args .v .now)) (checked (c .before .before .before .before .before .before .before .before .before .args .t .now) (c .before .before .before .before .before .before .before .before .before .args .met)) (c .before .before .before .before .before .before .before .before .before .args .left)) (inside (checked (c .before .before .before .before .before .before .before .before .before .args .t .now) (c .before .before .before .before .before .before .before .before .before .args .met)) (c .before .before .before .before .before .before .before .before .before .args .element)) (c .before .before .before .before .before .before .before .before .before .args .bound) (stateOf (c .before .before .before .before .before .before .before .before .before .args .c) (c .before .before .before .before .before .before .before .before .before .args .table .now)) _ (c .before .before .before .before .count .ensures) (c .if1 .taken))
+sequence-returns t c =
+  let a = c .before .before .before .before .before .before .before .before .before .args in
+  let count = c .before .before .before .before .count in
+  sym (way.sequence-stop (sinkOf (a .m)) (sourceOf (a .m) (a .v .now)) (reads (sinkOf (a .m)) (sourceOf (a .m) (a .v .now)) (checked (a .t .now) (a .met)) (a .left)) (inside (checked (a .t .now) (a .met)) (a .element)) (a .bound) (stateOf (a .c) (a .table .now)) _ (count .ensures) (c .if1 .taken))
 
 sequence-same-length-2 : (t : ℕ) → sequence-lts.Need-same-length-2 (sequence-of t) (sequence-at t) sequence.Post
-sequence-same-length-2 t c = c .before .before .before .before .before .before .count .kept .1 .1 .0
+sequence-same-length-2 t c =
+  let count = c .before .before .before .before .before .before .count in
+  count .kept .1 .1 .0
 
 sequence-returns-2 : (t : ℕ) → sequence-lts.Need-returns-2 (sequence-of t) (sequence-at t) sequence.Post
-sequence-returns-2 t c = sym (way.sequence-go (sinkOf (c .before .before .before .before .before .before .before .before .before .before .before .args .m)) (sourceOf (c .before .before .before .before .before .before .before .before .before .before .before .args .m) (c .before .before .before .before .before .before .before .before .before .before .before .args .v .now)) (reads (sinkOf (c .before .before .before .before .before .before .before .before .before .before .before .args .m)) (sourceOf (c .before .before .before .before .before .before .before .before .before .before .before .args .m) (c .before .before .before .before .before .before .before .before .before .before .before .args .v .now)) (checked (c .before .before .before .before .before .before .before .before .before .before .before .args .t .now) (c .before .before .before .before .before .before .before .before .before .before .before .args .met)) (c .before .before .before .before .before .before .before .before .before .before .before .args .left)) (inside (checked (c .before .before .before .before .before .before .before .before .before .before .before .args .t .now) (c .before .before .before .before .before .before .before .before .before .before .before .args .met)) (c .before .before .before .before .before .before .before .before .before .before .before .args .element)) (c .before .before .before .before .before .before .before .before .before .before .before .args .bound) (stateOf (c .before .before .before .before .before .before .before .before .before .before .before .args .c) (c .before .before .before .before .before .before .before .before .before .before .before .args .table .now)) _ (c .before .before .before .before .before .before .count .ensures) (c .before .before .if1 .left) ∙ way.elements-none (sinkOf (c .before .before .before .before .before .before .before .before .before .before .before .args .m)) (sourceOf (c .before .before .before .before .before .before .before .before .before .before .before .args .m) (c .before .before .before .before .before .before .before .before .before .before .before .args .v .now)) (reads (sinkOf (c .before .before .before .before .before .before .before .before .before .before .before .args .m)) (sourceOf (c .before .before .before .before .before .before .before .before .before .before .before .args .m) (c .before .before .before .before .before .before .before .before .before .before .before .args .v .now)) (checked (c .before .before .before .before .before .before .before .before .before .before .before .args .t .now) (c .before .before .before .before .before .before .before .before .before .before .before .args .met)) (c .before .before .before .before .before .before .before .before .before .before .before .args .left)) (inside (checked (c .before .before .before .before .before .before .before .before .before .before .before .args .t .now) (c .before .before .before .before .before .before .before .before .before .before .before .args .met)) (c .before .before .before .before .before .before .before .before .before .before .before .args .element)) (c .before .before .before .before .before .before .count .result .last) (stateOf (c .before .before .before .before .before .before .count .result) (c .before .before .before .before .before .before .count .last .1 .1 .0)) (c .if2 .taken))
+sequence-returns-2 t c =
+  let a = c .before .before .before .before .before .before .before .before .before .before .before .args in
+  let count = c .before .before .before .before .before .before .count in
+  sym (way.sequence-go (sinkOf (a .m)) (sourceOf (a .m) (a .v .now)) (reads (sinkOf (a .m)) (sourceOf (a .m) (a .v .now)) (checked (a .t .now) (a .met)) (a .left)) (inside (checked (a .t .now) (a .met)) (a .element)) (a .bound) (stateOf (a .c) (a .table .now)) _ (count .ensures) (c .before .before .if1 .left) ∙ way.elements-none (sinkOf (a .m)) (sourceOf (a .m) (a .v .now)) (reads (sinkOf (a .m)) (sourceOf (a .m) (a .v .now)) (checked (a .t .now) (a .met)) (a .left)) (inside (checked (a .t .now) (a .met)) (a .element)) (count .result .last) (stateOf (count .result) (count .last .1 .1 .0)) (c .if2 .taken))
 
 sequence-within-requires : (t : ℕ) → sequence-lts.Need-within-requires (sequence-of t) (sequence-at t) sequence.Post
 sequence-within-requires t c κs = search needs
 
 sequence-elements-requires : (t : ℕ) → sequence-lts.Need-elements-requires (sequence-of t) (sequence-at t) sequence.Post
-sequence-elements-requires t c κs = (omega (arith, c .before .before .before .before .before .before .before .before .before .before .before .before .before .pre .0), tt)
+sequence-elements-requires t c κs =
+  let pre = c .before .before .before .before .before .before .before .before .before .before .before .before .before .pre in
+  (omega (arith, pre .0), tt)
 
 sequence-same-length-3 : (t : ℕ) → sequence-lts.Need-same-length-3 (sequence-of t) (sequence-at t) sequence.Post
-sequence-same-length-3 t c = c .before .before .elements .kept .1 .1 .1 .1 .0 ∙ c .before .before .before .before .before .before .before .before .before .before .before .count .kept .1 .1 .0
+sequence-same-length-3 t c =
+  let count = c .before .before .before .before .before .before .before .before .before .before .before .count in
+  c .before .before .elements .kept .1 .1 .1 .1 .0 ∙ count .kept .1 .1 .0
 
 sequence-returns-3 : (t : ℕ) → sequence-lts.Need-returns-3 (sequence-of t) (sequence-at t) sequence.Post
-sequence-returns-3 t c = c .before .before .elements .ensures ∙ ap (λ (p : Parameters). elementsAt (sinkOf (c .before .before .before .before .before .before .before .before .before .before .before .before .before .before .before .before .args .m)) (sourceOf (c .before .before .before .before .before .before .before .before .before .before .before .before .before .before .before .before .args .m) (c .before .before .before .before .before .before .before .before .before .before .before .before .before .before .before .before .args .v .now)) (reads (sinkOf (c .before .before .before .before .before .before .before .before .before .before .before .before .before .before .before .before .args .m)) (sourceOf (c .before .before .before .before .before .before .before .before .before .before .before .before .before .before .before .before .args .m) (c .before .before .before .before .before .before .before .before .before .before .before .before .before .before .before .before .args .v .now)) (checked (c .before .before .before .before .before .before .before .before .before .before .before .before .before .before .before .before .args .t .now) (c .before .before .before .before .before .before .before .before .before .before .before .before .before .before .before .before .args .met)) (c .before .before .before .before .before .before .before .before .before .before .before .before .before .before .before .before .args .left)) p (c .before .before .before .before .before .before .before .before .before .before .before .count .result .last) (stateOf (c .before .before .before .before .before .before .before .before .before .before .before .count .result) (c .before .before .before .before .before .before .before .before .before .before .before .count .last .1 .1 .0))) (c .before .before .before .before .within .ensures) ∙ sym (way.sequence-go (sinkOf (c .before .before .before .before .before .before .before .before .before .before .before .before .before .before .before .before .args .m)) (sourceOf (c .before .before .before .before .before .before .before .before .before .before .before .before .before .before .before .before .args .m) (c .before .before .before .before .before .before .before .before .before .before .before .before .before .before .before .before .args .v .now)) (reads (sinkOf (c .before .before .before .before .before .before .before .before .before .before .before .before .before .before .before .before .args .m)) (sourceOf (c .before .before .before .before .before .before .before .before .before .before .before .before .before .before .before .before .args .m) (c .before .before .before .before .before .before .before .before .before .before .before .before .before .before .before .before .args .v .now)) (checked (c .before .before .before .before .before .before .before .before .before .before .before .before .before .before .before .before .args .t .now) (c .before .before .before .before .before .before .before .before .before .before .before .before .before .before .before .before .args .met)) (c .before .before .before .before .before .before .before .before .before .before .before .before .before .before .before .before .args .left)) (inside (checked (c .before .before .before .before .before .before .before .before .before .before .before .before .before .before .before .before .args .t .now) (c .before .before .before .before .before .before .before .before .before .before .before .before .before .before .before .before .args .met)) (c .before .before .before .before .before .before .before .before .before .before .before .before .before .before .before .before .args .element)) (c .before .before .before .before .before .before .before .before .before .before .before .before .before .before .before .before .args .bound) (stateOf (c .before .before .before .before .before .before .before .before .before .before .before .before .before .before .before .before .args .c) (c .before .before .before .before .before .before .before .before .before .before .before .before .before .before .before .before .args .table .now)) _ (c .before .before .before .before .before .before .before .before .before .before .before .count .ensures) (c .before .before .before .before .before .before .before .if1 .left))
+sequence-returns-3 t c =
+  let a = c .before .before .before .before .before .before .before .before .before .before .before .before .before .before .before .before .args in
+  let count = c .before .before .before .before .before .before .before .before .before .before .before .count in
+  let within = c .before .before .before .before .within in
+  let if1 = c .before .before .before .before .before .before .before .if1 in
+  c .before .before .elements .ensures ∙ ap (λ (p : Parameters). elementsAt (sinkOf (a .m)) (sourceOf (a .m) (a .v .now)) (reads (sinkOf (a .m)) (sourceOf (a .m) (a .v .now)) (checked (a .t .now) (a .met)) (a .left)) p (count .result .last) (stateOf (count .result) (count .last .1 .1 .0))) (within .ensures) ∙ sym (way.sequence-go (sinkOf (a .m)) (sourceOf (a .m) (a .v .now)) (reads (sinkOf (a .m)) (sourceOf (a .m) (a .v .now)) (checked (a .t .now) (a .met)) (a .left)) (inside (checked (a .t .now) (a .met)) (a .element)) (a .bound) (stateOf (a .c) (a .table .now)) _ (count .ensures) (if1 .left))
 
 abbrev struct-members-of : ℕ → struct-members-lts.Claims
 struct-members-of t = (member-at-reads.Asked, member-at-reads.Learnt, within-reads.Asked, within-reads.Learnt, flat-visit-reads.Asked, flat-visit-reads.Learnt, visit-below t, visit.Post)
@@ -298,7 +363,9 @@ abbrev struct-members-μ-loop : struct-members-lts.MeasureT-loop
 struct-members-μ-loop t met v m table₀ left start order count at₀ d₀ k₀ table at d k = count - k
 
 struct-members-loop-holds : (t : ℕ) → struct-members-lts.Need-loop-holds (struct-members-of t) (struct-members-at t) struct-members.Post struct-members-Inv-loop struct-members-μ-loop
-struct-members-loop-holds t c = onward-none (sinkOf (c .before .before .before .before .before .args .m)) (sourceOf (c .before .before .before .before .before .args .m) (c .before .before .before .before .before .args .v .now)) (reads (sinkOf (c .before .before .before .before .before .args .m)) (sourceOf (c .before .before .before .before .before .args .m) (c .before .before .before .before .before .args .v .now)) (checked (c .before .before .before .before .before .args .t .now) (c .before .before .before .before .before .args .met)) (c .before .before .before .before .before .args .left)) (checked (c .before .before .before .before .before .args .t .now) (c .before .before .before .before .before .args .met)) (c .before .before .before .before .before .args .fields)
+struct-members-loop-holds t c =
+  let a = c .before .before .before .before .before .args in
+  onward-none (sinkOf (a .m)) (sourceOf (a .m) (a .v .now)) (reads (sinkOf (a .m)) (sourceOf (a .m) (a .v .now)) (checked (a .t .now) (a .met)) (a .left)) (checked (a .t .now) (a .met)) (a .fields)
 
 struct-members-member-at-requires : (t : ℕ) → struct-members-lts.Need-member-at-requires (struct-members-of t) (struct-members-at t) struct-members.Post struct-members-Inv-loop struct-members-μ-loop
 struct-members-member-at-requires t c κs = search needs
@@ -310,10 +377,15 @@ struct-members-enum-told : (t : ℕ) → struct-members-lts.Need-enum-told (stru
 struct-members-enum-told t c = search needs
 
 struct-members-same-length : (t : ℕ) → struct-members-lts.Need-same-length (struct-members-of t) (struct-members-at t) struct-members.Post struct-members-Inv-loop struct-members-μ-loop
-struct-members-same-length t c = c .before .before .before .before .loop .inv .same
+struct-members-same-length t c =
+  let loop = c .before .before .before .before .loop in
+  loop .inv .same
 
 struct-members-returns : (t : ℕ) → struct-members-lts.Need-returns (struct-members-of t) (struct-members-at t) struct-members.Post struct-members-Inv-loop struct-members-μ-loop
-struct-members-returns t c = onward-cut (sinkOf (c .before .before .before .before .before .before .before .before .before .before .args .m)) (sourceOf (c .before .before .before .before .before .before .before .before .before .before .args .m) (c .before .before .before .before .before .before .before .before .before .before .args .v .now)) (reads (sinkOf (c .before .before .before .before .before .before .before .before .before .before .args .m)) (sourceOf (c .before .before .before .before .before .before .before .before .before .before .args .m) (c .before .before .before .before .before .before .before .before .before .before .args .v .now)) (checked (c .before .before .before .before .before .before .before .before .before .before .args .t .now) (c .before .before .before .before .before .before .before .before .before .before .args .met)) (c .before .before .before .before .before .before .before .before .before .before .args .left)) (checked (c .before .before .before .before .before .before .before .before .before .before .args .t .now) (c .before .before .before .before .before .before .before .before .before .before .args .met)) (c .before .before .before .before .before .before .before .before .before .before .args .fields) (c .before .before .before .before .loop .inv) (c .before .before .before .loop-test .taken) (sym (c .before .before .member-at .ensures) ∙ c .enum-told .given .1)
+struct-members-returns t c =
+  let a = c .before .before .before .before .before .before .before .before .before .before .args in
+  let loop = c .before .before .before .before .loop in
+  onward-cut (sinkOf (a .m)) (sourceOf (a .m) (a .v .now)) (reads (sinkOf (a .m)) (sourceOf (a .m) (a .v .now)) (checked (a .t .now) (a .met)) (a .left)) (checked (a .t .now) (a .met)) (a .fields) (loop .inv) (c .before .before .before .loop-test .taken) (sym (c .before .before .member-at .ensures) ∙ c .enum-told .given .1)
 
 struct-members-within-requires : (t : ℕ) → struct-members-lts.Need-within-requires (struct-members-of t) (struct-members-at t) struct-members.Post struct-members-Inv-loop struct-members-μ-loop
 struct-members-within-requires t c κs = search needs
@@ -322,27 +394,43 @@ struct-members-flat-visit-requires : (t : ℕ) → struct-members-lts.Need-flat-
 struct-members-flat-visit-requires t c κs = search needs
 
 struct-members-visit-requires : (t : ℕ) → struct-members-lts.Need-visit-requires (struct-members-of t) (struct-members-at t) struct-members.Post struct-members-Inv-loop struct-members-μ-loop
-struct-members-visit-requires t c κs = (omega (arith, c .before .before .before .before .before .before .before .before .before .before .before .before .before .before .before .before .before .before .before .pre .0), tt)
+struct-members-visit-requires t c κs =
+  let pre = c .before .before .before .before .before .before .before .before .before .before .before .before .before .before .before .before .before .before .before .pre in
+  (omega (arith, pre .0), tt)
 
 struct-members-step : (t : ℕ) (c : struct-members-lts.Joined1 (struct-members-of t) (struct-members-at t) struct-members.Post struct-members-Inv-loop struct-members-μ-loop) → stateOf (c .if1 .d) (c .if1 .table) ≡ reads (sinkOf (c .before .before .before .before .before .before .before .before .before .before .before .before .before .before .before .before .before .before .args .m)) (sourceOf (c .before .before .before .before .before .before .before .before .before .before .before .before .before .before .before .before .before .before .args .m) (c .before .before .before .before .before .before .before .before .before .before .before .before .before .before .before .before .before .before .args .v .now)) (checked (c .before .before .before .before .before .before .before .before .before .before .before .before .before .before .before .before .before .before .args .t .now) (c .before .before .before .before .before .before .before .before .before .before .before .before .before .before .before .before .before .before .args .met)) (c .before .before .before .before .before .before .before .before .before .before .before .before .before .before .before .before .before .before .args .left) (c .before .before .before .before .before .before .within .result) (stateOf (c .before .before .before .before .before .before .before .before .before .before .before .before .loop .d) (c .before .before .before .before .before .before .before .before .before .before .before .before .loop .table))
 struct-members-step t c =
-    ⊎-elim
-    (λ a. ap (λ (w : Cursor). stateOf w (c .if1 .table)) (a .6) ∙ ap (stateOf (a .2 .result)) (a .5) ∙ a .2 .ensures ∙ ap (reads (sinkOf (c .before .before .before .before .before .before .before .before .before .before .before .before .before .before .before .before .before .before .args .m)) (sourceOf (c .before .before .before .before .before .before .before .before .before .before .before .before .before .before .before .before .before .before .args .m) (c .before .before .before .before .before .before .before .before .before .before .before .before .before .before .before .before .before .before .args .v .now)) (checked (c .before .before .before .before .before .before .before .before .before .before .before .before .before .before .before .before .before .before .args .t .now) (c .before .before .before .before .before .before .before .before .before .before .before .before .before .before .before .before .before .before .args .met)) (c .before .before .before .before .before .before .before .before .before .before .before .before .before .before .before .before .before .before .args .left) (c .before .before .before .before .before .before .within .result)) (flat-left (c .before .before .before .before .before .before .before .before .before .before .before .before .before .before .before .before .before .before .args .m) (c .before .before .before .before .before .before .before .before .before .before .before .before .before .before .before .before .before .before .args .v .now) (c .before .before .before .before .before .before .within .result) (c .before .before .before .before .before .before .before .before .before .before .before .before .before .before .before .before .before .before .args .left) (stateOf (c .before .before .before .before .before .before .before .before .before .before .before .before .loop .d) (c .before .before .before .before .before .before .before .before .before .before .before .before .loop .table)) (stateOf (c .before .before .before .before .flat-visit .result .cursor) (c .before .before .before .before .flat-visit .last .1 .1 .0)) (c .before .before .before .before .flat-visit .result .enters) (c .before .before .before .before .flat-visit .ensures) (a .0 .taken)))
-    (λ b. ap (λ (w : Cursor). stateOf w (c .if1 .table)) (b .2) ∙ ap (stateOf (c .before .before .before .before .flat-visit .result .cursor)) (b .1) ∙ flat-done (c .before .before .before .before .before .before .before .before .before .before .before .before .before .before .before .before .before .before .args .m) (c .before .before .before .before .before .before .before .before .before .before .before .before .before .before .before .before .before .before .args .v .now) (c .before .before .before .before .before .before .within .result) (c .before .before .before .before .before .before .before .before .before .before .before .before .before .before .before .before .before .before .args .left) (stateOf (c .before .before .before .before .before .before .before .before .before .before .before .before .loop .d) (c .before .before .before .before .before .before .before .before .before .before .before .before .loop .table)) (stateOf (c .before .before .before .before .flat-visit .result .cursor) (c .before .before .before .before .flat-visit .last .1 .1 .0)) (c .before .before .before .before .flat-visit .result .enters) (c .before .before .before .before .flat-visit .ensures) (b .0 .left) (checked (c .before .before .before .before .before .before .before .before .before .before .before .before .before .before .before .before .before .before .args .t .now) (c .before .before .before .before .before .before .before .before .before .before .before .before .before .before .before .before .before .before .args .met)))
+  let a2 = c .before .before .before .before .before .before .before .before .before .before .before .before .before .before .before .before .before .before .args in
+  let within = c .before .before .before .before .before .before .within in
+  let loop = c .before .before .before .before .before .before .before .before .before .before .before .before .loop in
+  let flat-visit = c .before .before .before .before .flat-visit in
+  ⊎-elim
+    (λ a. ap (λ (w : Cursor). stateOf w (c .if1 .table)) (a .6) ∙ ap (stateOf (a .2 .result)) (a .5) ∙ a .2 .ensures ∙ ap (reads (sinkOf (a2 .m)) (sourceOf (a2 .m) (a2 .v .now)) (checked (a2 .t .now) (a2 .met)) (a2 .left) (within .result)) (flat-left (a2 .m) (a2 .v .now) (within .result) (a2 .left) (stateOf (loop .d) (loop .table)) (stateOf (flat-visit .result .cursor) (flat-visit .last .1 .1 .0)) (flat-visit .result .enters) (flat-visit .ensures) (a .0 .taken)))
+    (λ b. ap (λ (w : Cursor). stateOf w (c .if1 .table)) (b .2) ∙ ap (stateOf (flat-visit .result .cursor)) (b .1) ∙ flat-done (a2 .m) (a2 .v .now) (within .result) (a2 .left) (stateOf (loop .d) (loop .table)) (stateOf (flat-visit .result .cursor) (flat-visit .last .1 .1 .0)) (flat-visit .result .enters) (flat-visit .ensures) (b .0 .left) (checked (a2 .t .now) (a2 .met)))
     (c .if1 .came)
 
 struct-members-rows : (t : ℕ) (c : struct-members-lts.Joined1 (struct-members-of t) (struct-members-at t) struct-members.Post struct-members-Inv-loop struct-members-μ-loop) → length (c .if1 .table) ≡ length (c .before .before .before .before .before .before .before .before .before .before .before .before .loop .table)
 struct-members-rows t c =
-    ⊎-elim
-    (λ a. ap (λ (l : List ℕ). length l) (a .5) ∙ a .2 .kept .1 .1 .1 .1 .0 ∙ c .before .before .before .before .flat-visit .kept .1 .1 .0)
-    (λ b. ap (λ (l : List ℕ). length l) (b .1) ∙ c .before .before .before .before .flat-visit .kept .1 .1 .0)
+  let flat-visit = c .before .before .before .before .flat-visit in
+  ⊎-elim
+    (λ a. ap (λ (l : List ℕ). length l) (a .5) ∙ a .2 .kept .1 .1 .1 .1 .0 ∙ flat-visit .kept .1 .1 .0)
+    (λ b. ap (λ (l : List ℕ). length l) (b .1) ∙ flat-visit .kept .1 .1 .0)
     (c .if1 .came)
 
 struct-members-same-length-2 : (t : ℕ) → struct-members-lts.Need-same-length-2 (struct-members-of t) (struct-members-at t) struct-members.Post struct-members-Inv-loop struct-members-μ-loop
-struct-members-same-length-2 t c = struct-members-rows t (c .before .before) ∙ c .before .before .before .before .before .before .before .before .before .before .before .before .before .before .loop .inv .same
+struct-members-same-length-2 t c =
+  let loop = c .before .before .before .before .before .before .before .before .before .before .before .before .before .before .loop in
+  struct-members-rows t (c .before .before) ∙ loop .inv .same
 
 struct-members-returns-2 : (t : ℕ) → struct-members-lts.Need-returns-2 (struct-members-of t) (struct-members-at t) struct-members.Post struct-members-Inv-loop struct-members-μ-loop
-struct-members-returns-2 t c = onward-stop (sinkOf (c .before .before .before .before .before .before .before .before .before .before .before .before .before .before .before .before .before .before .before .before .args .m)) (sourceOf (c .before .before .before .before .before .before .before .before .before .before .before .before .before .before .before .before .before .before .before .before .args .m) (c .before .before .before .before .before .before .before .before .before .before .before .before .before .before .before .before .before .before .before .before .args .v .now)) (reads (sinkOf (c .before .before .before .before .before .before .before .before .before .before .before .before .before .before .before .before .before .before .before .before .args .m)) (sourceOf (c .before .before .before .before .before .before .before .before .before .before .before .before .before .before .before .before .before .before .before .before .args .m) (c .before .before .before .before .before .before .before .before .before .before .before .before .before .before .before .before .before .before .before .before .args .v .now)) (checked (c .before .before .before .before .before .before .before .before .before .before .before .before .before .before .before .before .before .before .before .before .args .t .now) (c .before .before .before .before .before .before .before .before .before .before .before .before .before .before .before .before .before .before .before .before .args .met)) (c .before .before .before .before .before .before .before .before .before .before .before .before .before .before .before .before .before .before .before .before .args .left)) (checked (c .before .before .before .before .before .before .before .before .before .before .before .before .before .before .before .before .before .before .before .before .args .t .now) (c .before .before .before .before .before .before .before .before .before .before .before .before .before .before .before .before .before .before .before .before .args .met)) (c .before .before .before .before .before .before .before .before .before .before .before .before .before .before .before .before .before .before .before .before .args .fields) (c .before .before .before .before .before .before .before .before .before .before .before .before .before .before .loop .inv) _ _ (c .before .before .before .before .before .before .before .before .before .before .before .before .before .loop-test .taken) (sym (c .before .before .before .before .before .before .before .before .before .before .before .before .member-at .ensures) ∙ c .before .before .before .before .before .before .before .before .before .before .place .given .1) (struct-members-step t (c .before .before) ∙ ap (λ (p : Parameters). reads (sinkOf (c .before .before .before .before .before .before .before .before .before .before .before .before .before .before .before .before .before .before .before .before .args .m)) (sourceOf (c .before .before .before .before .before .before .before .before .before .before .before .before .before .before .before .before .before .before .before .before .args .m) (c .before .before .before .before .before .before .before .before .before .before .before .before .before .before .before .before .before .before .before .before .args .v .now)) (checked (c .before .before .before .before .before .before .before .before .before .before .before .before .before .before .before .before .before .before .before .before .args .t .now) (c .before .before .before .before .before .before .before .before .before .before .before .before .before .before .before .before .before .before .before .before .args .met)) (c .before .before .before .before .before .before .before .before .before .before .before .before .before .before .before .before .before .before .before .before .args .left) p (stateOf (c .before .before .before .before .before .before .before .before .before .before .before .before .before .before .loop .d) (c .before .before .before .before .before .before .before .before .before .before .before .before .before .before .loop .table))) (c .before .before .before .before .before .before .before .before .within .ensures)) (c .if2 .taken)
+struct-members-returns-2 t c =
+  let a = c .before .before .before .before .before .before .before .before .before .before .before .before .before .before .before .before .before .before .before .before .args in
+  let loop = c .before .before .before .before .before .before .before .before .before .before .before .before .before .before .loop in
+  let loop-test = c .before .before .before .before .before .before .before .before .before .before .before .before .before .loop-test in
+  let member-at = c .before .before .before .before .before .before .before .before .before .before .before .before .member-at in
+  let place = c .before .before .before .before .before .before .before .before .before .before .place in
+  let within = c .before .before .before .before .before .before .before .before .within in
+  onward-stop (sinkOf (a .m)) (sourceOf (a .m) (a .v .now)) (reads (sinkOf (a .m)) (sourceOf (a .m) (a .v .now)) (checked (a .t .now) (a .met)) (a .left)) (checked (a .t .now) (a .met)) (a .fields) (loop .inv) _ _ (loop-test .taken) (sym (member-at .ensures) ∙ place .given .1) (struct-members-step t (c .before .before) ∙ ap (λ (p : Parameters). reads (sinkOf (a .m)) (sourceOf (a .m) (a .v .now)) (checked (a .t .now) (a .met)) (a .left) p (stateOf (loop .d) (loop .table))) (within .ensures)) (c .if2 .taken)
 
 struct-members-add-k : (t : ℕ) → struct-members-lts.Need-add-k (struct-members-of t) (struct-members-at t) struct-members.Post struct-members-Inv-loop struct-members-μ-loop
 struct-members-add-k t c = search (needs, c .before .before .before .before .before .before .before .before .before .before .before .before .before .before .before .before .before .before .before .before .good .1 .1 .1 .1 .1 .0)
@@ -351,13 +439,22 @@ struct-members-loop-less : (t : ℕ) → struct-members-lts.Need-loop-less (stru
 struct-members-loop-less t c = omega arith
 
 struct-members-loop-again : (t : ℕ) → struct-members-lts.Need-loop-again (struct-members-of t) (struct-members-at t) struct-members.Post struct-members-Inv-loop struct-members-μ-loop
-struct-members-loop-again t c = onward-more (sinkOf (c .before .before .before .before .before .before .before .before .before .before .before .before .before .before .before .before .before .before .before .before .args .m)) (sourceOf (c .before .before .before .before .before .before .before .before .before .before .before .before .before .before .before .before .before .before .before .before .args .m) (c .before .before .before .before .before .before .before .before .before .before .before .before .before .before .before .before .before .before .before .before .args .v .now)) (reads (sinkOf (c .before .before .before .before .before .before .before .before .before .before .before .before .before .before .before .before .before .before .before .before .args .m)) (sourceOf (c .before .before .before .before .before .before .before .before .before .before .before .before .before .before .before .before .before .before .before .before .args .m) (c .before .before .before .before .before .before .before .before .before .before .before .before .before .before .before .before .before .before .before .before .args .v .now)) (checked (c .before .before .before .before .before .before .before .before .before .before .before .before .before .before .before .before .before .before .before .before .args .t .now) (c .before .before .before .before .before .before .before .before .before .before .before .before .before .before .before .before .before .before .before .before .args .met)) (c .before .before .before .before .before .before .before .before .before .before .before .before .before .before .before .before .before .before .before .before .args .left)) (checked (c .before .before .before .before .before .before .before .before .before .before .before .before .before .before .before .before .before .before .before .before .args .t .now) (c .before .before .before .before .before .before .before .before .before .before .before .before .before .before .before .before .before .before .before .before .args .met)) (c .before .before .before .before .before .before .before .before .before .before .before .before .before .before .before .before .before .before .before .before .args .fields) (c .before .before .before .before .before .before .before .before .before .before .before .before .before .before .loop .inv) _ _ (c .before .before .before .before .before .before .before .before .before .before .before .before .before .loop-test .taken) (sym (c .before .before .before .before .before .before .before .before .before .before .before .before .member-at .ensures) ∙ c .before .before .before .before .before .before .before .before .before .before .place .given .1) (struct-members-step t (c .before .before) ∙ ap (λ (p : Parameters). reads (sinkOf (c .before .before .before .before .before .before .before .before .before .before .before .before .before .before .before .before .before .before .before .before .args .m)) (sourceOf (c .before .before .before .before .before .before .before .before .before .before .before .before .before .before .before .before .before .before .before .before .args .m) (c .before .before .before .before .before .before .before .before .before .before .before .before .before .before .before .before .before .before .before .before .args .v .now)) (checked (c .before .before .before .before .before .before .before .before .before .before .before .before .before .before .before .before .before .before .before .before .args .t .now) (c .before .before .before .before .before .before .before .before .before .before .before .before .before .before .before .before .before .before .before .before .args .met)) (c .before .before .before .before .before .before .before .before .before .before .before .before .before .before .before .before .before .before .before .before .args .left) p (stateOf (c .before .before .before .before .before .before .before .before .before .before .before .before .before .before .loop .d) (c .before .before .before .before .before .before .before .before .before .before .before .before .before .before .loop .table))) (c .before .before .before .before .before .before .before .before .within .ensures)) (struct-members-rows t (c .before .before)) (c .if2 .left)
+struct-members-loop-again t c =
+  let a = c .before .before .before .before .before .before .before .before .before .before .before .before .before .before .before .before .before .before .before .before .args in
+  let loop = c .before .before .before .before .before .before .before .before .before .before .before .before .before .before .loop in
+  let loop-test = c .before .before .before .before .before .before .before .before .before .before .before .before .before .loop-test in
+  let member-at = c .before .before .before .before .before .before .before .before .before .before .before .before .member-at in
+  let place = c .before .before .before .before .before .before .before .before .before .before .place in
+  let within = c .before .before .before .before .before .before .before .before .within in
+  onward-more (sinkOf (a .m)) (sourceOf (a .m) (a .v .now)) (reads (sinkOf (a .m)) (sourceOf (a .m) (a .v .now)) (checked (a .t .now) (a .met)) (a .left)) (checked (a .t .now) (a .met)) (a .fields) (loop .inv) _ _ (loop-test .taken) (sym (member-at .ensures) ∙ place .given .1) (struct-members-step t (c .before .before) ∙ ap (λ (p : Parameters). reads (sinkOf (a .m)) (sourceOf (a .m) (a .v .now)) (checked (a .t .now) (a .met)) (a .left) p (stateOf (loop .d) (loop .table))) (within .ensures)) (struct-members-rows t (c .before .before)) (c .if2 .left)
 
 struct-members-same-length-3 : (t : ℕ) → struct-members-lts.Need-same-length-3 (struct-members-of t) (struct-members-at t) struct-members.Post struct-members-Inv-loop struct-members-μ-loop
 struct-members-same-length-3 t c = c .before .loop .inv .same
 
 struct-members-returns-3 : (t : ℕ) → struct-members-lts.Need-returns-3 (struct-members-of t) (struct-members-at t) struct-members.Post struct-members-Inv-loop struct-members-μ-loop
-struct-members-returns-3 t c = onward-all (sinkOf (c .before .before .before .before .before .before .before .args .m)) (sourceOf (c .before .before .before .before .before .before .before .args .m) (c .before .before .before .before .before .before .before .args .v .now)) (reads (sinkOf (c .before .before .before .before .before .before .before .args .m)) (sourceOf (c .before .before .before .before .before .before .before .args .m) (c .before .before .before .before .before .before .before .args .v .now)) (checked (c .before .before .before .before .before .before .before .args .t .now) (c .before .before .before .before .before .before .before .args .met)) (c .before .before .before .before .before .before .before .args .left)) (checked (c .before .before .before .before .before .before .before .args .t .now) (c .before .before .before .before .before .before .before .args .met)) (c .before .before .before .before .before .before .before .args .fields) (c .before .loop .inv) (c .loop-test .left)
+struct-members-returns-3 t c =
+  let a = c .before .before .before .before .before .before .before .args in
+  onward-all (sinkOf (a .m)) (sourceOf (a .m) (a .v .now)) (reads (sinkOf (a .m)) (sourceOf (a .m) (a .v .now)) (checked (a .t .now) (a .met)) (a .left)) (checked (a .t .now) (a .met)) (a .fields) (c .before .loop .inv) (c .loop-test .left)
 
 abbrev union-member-of : ℕ → union-member-lts.Claims
 union-member-of t = (within-reads.Asked, within-reads.Learnt, flat-visit-reads.Asked, flat-visit-reads.Learnt, visit-below t, visit.Post, labels-for-reads.Asked, labels-for-reads.Learnt, chosen-of-reads.Asked, chosen-of-reads.Learnt)
@@ -369,27 +466,37 @@ union-member-flat-visit-requires : (t : ℕ) → union-member-lts.Need-flat-visi
 union-member-flat-visit-requires t c κs = search needs
 
 union-member-visit-requires : (t : ℕ) → union-member-lts.Need-visit-requires (union-member-of t) (union-member-at t) union-member.Post
-union-member-visit-requires t c κs = (omega (arith, c .before .before .before .before .before .before .before .before .before .before .before .pre .0), tt)
+union-member-visit-requires t c κs =
+  let pre = c .before .before .before .before .before .before .before .before .before .before .before .pre in
+  (omega (arith, pre .0), tt)
 
 union-member-step : (t : ℕ) (c : union-member-lts.Joined1 (union-member-of t) (union-member-at t) union-member.Post) → stateOf (c .if1 .d) (c .if1 .table) ≡ reads (sinkOf (c .before .before .before .before .before .before .before .before .before .before .args .m)) (sourceOf (c .before .before .before .before .before .before .before .before .before .before .args .m) (c .before .before .before .before .before .before .before .before .before .before .args .v .now)) (checked (c .before .before .before .before .before .before .before .before .before .before .args .t .now) (c .before .before .before .before .before .before .before .before .before .before .args .met)) (c .before .before .before .before .before .before .before .before .before .before .args .left) (c .before .before .before .before .before .before .within .result) (stateOf (c .before .before .before .before .before .before .before .before .before .before .args .c) (c .before .before .before .before .before .before .before .before .before .before .args .table .now))
 union-member-step t c =
-    ⊎-elim
-    (λ a. ap (λ (w : Cursor). stateOf w (c .if1 .table)) (a .6) ∙ ap (stateOf (a .2 .result)) (a .5) ∙ a .2 .ensures ∙ ap (reads (sinkOf (c .before .before .before .before .before .before .before .before .before .before .args .m)) (sourceOf (c .before .before .before .before .before .before .before .before .before .before .args .m) (c .before .before .before .before .before .before .before .before .before .before .args .v .now)) (checked (c .before .before .before .before .before .before .before .before .before .before .args .t .now) (c .before .before .before .before .before .before .before .before .before .before .args .met)) (c .before .before .before .before .before .before .before .before .before .before .args .left) (c .before .before .before .before .before .before .within .result)) (flat-left (c .before .before .before .before .before .before .before .before .before .before .args .m) (c .before .before .before .before .before .before .before .before .before .before .args .v .now) (c .before .before .before .before .before .before .within .result) (c .before .before .before .before .before .before .before .before .before .before .args .left) (stateOf (c .before .before .before .before .before .before .before .before .before .before .args .c) (c .before .before .before .before .before .before .before .before .before .before .args .table .now)) (stateOf (c .before .before .before .before .flat-visit .result .cursor) (c .before .before .before .before .flat-visit .last .1 .1 .0)) (c .before .before .before .before .flat-visit .result .enters) (c .before .before .before .before .flat-visit .ensures) (a .0 .taken)))
-    (λ b. ap (λ (w : Cursor). stateOf w (c .if1 .table)) (b .2) ∙ ap (stateOf (c .before .before .before .before .flat-visit .result .cursor)) (b .1) ∙ flat-done (c .before .before .before .before .before .before .before .before .before .before .args .m) (c .before .before .before .before .before .before .before .before .before .before .args .v .now) (c .before .before .before .before .before .before .within .result) (c .before .before .before .before .before .before .before .before .before .before .args .left) (stateOf (c .before .before .before .before .before .before .before .before .before .before .args .c) (c .before .before .before .before .before .before .before .before .before .before .args .table .now)) (stateOf (c .before .before .before .before .flat-visit .result .cursor) (c .before .before .before .before .flat-visit .last .1 .1 .0)) (c .before .before .before .before .flat-visit .result .enters) (c .before .before .before .before .flat-visit .ensures) (b .0 .left) (checked (c .before .before .before .before .before .before .before .before .before .before .args .t .now) (c .before .before .before .before .before .before .before .before .before .before .args .met)))
+  let a2 = c .before .before .before .before .before .before .before .before .before .before .args in
+  let within = c .before .before .before .before .before .before .within in
+  let flat-visit = c .before .before .before .before .flat-visit in
+  ⊎-elim
+    (λ a. ap (λ (w : Cursor). stateOf w (c .if1 .table)) (a .6) ∙ ap (stateOf (a .2 .result)) (a .5) ∙ a .2 .ensures ∙ ap (reads (sinkOf (a2 .m)) (sourceOf (a2 .m) (a2 .v .now)) (checked (a2 .t .now) (a2 .met)) (a2 .left) (within .result)) (flat-left (a2 .m) (a2 .v .now) (within .result) (a2 .left) (stateOf (a2 .c) (a2 .table .now)) (stateOf (flat-visit .result .cursor) (flat-visit .last .1 .1 .0)) (flat-visit .result .enters) (flat-visit .ensures) (a .0 .taken)))
+    (λ b. ap (λ (w : Cursor). stateOf w (c .if1 .table)) (b .2) ∙ ap (stateOf (flat-visit .result .cursor)) (b .1) ∙ flat-done (a2 .m) (a2 .v .now) (within .result) (a2 .left) (stateOf (a2 .c) (a2 .table .now)) (stateOf (flat-visit .result .cursor) (flat-visit .last .1 .1 .0)) (flat-visit .result .enters) (flat-visit .ensures) (b .0 .left) (checked (a2 .t .now) (a2 .met)))
     (c .if1 .came)
 
 union-member-rows : (t : ℕ) (c : union-member-lts.Joined1 (union-member-of t) (union-member-at t) union-member.Post) → length (c .if1 .table) ≡ length (c .before .before .before .before .before .before .before .before .before .before .args .table .now)
 union-member-rows t c =
-    ⊎-elim
-    (λ a. ap (λ (l : List ℕ). length l) (a .5) ∙ a .2 .kept .1 .1 .1 .1 .0 ∙ c .before .before .before .before .flat-visit .kept .1 .1 .0)
-    (λ b. ap (λ (l : List ℕ). length l) (b .1) ∙ c .before .before .before .before .flat-visit .kept .1 .1 .0)
+  let flat-visit = c .before .before .before .before .flat-visit in
+  ⊎-elim
+    (λ a. ap (λ (l : List ℕ). length l) (a .5) ∙ a .2 .kept .1 .1 .1 .1 .0 ∙ flat-visit .kept .1 .1 .0)
+    (λ b. ap (λ (l : List ℕ). length l) (b .1) ∙ flat-visit .kept .1 .1 .0)
     (c .if1 .came)
 
 union-member-same-length : (t : ℕ) → union-member-lts.Need-same-length (union-member-of t) (union-member-at t) union-member.Post
 union-member-same-length t c = union-member-rows t (c .before .before)
 
 union-member-returns : (t : ℕ) → union-member-lts.Need-returns (union-member-of t) (union-member-at t) union-member.Post
-union-member-returns t c = sym (way.union-stop (sinkOf (c .before .before .before .before .before .before .before .before .before .before .before .before .args .m)) (sourceOf (c .before .before .before .before .before .before .before .before .before .before .before .before .args .m) (c .before .before .before .before .before .before .before .before .before .before .before .before .args .v .now)) (reads (sinkOf (c .before .before .before .before .before .before .before .before .before .before .before .before .args .m)) (sourceOf (c .before .before .before .before .before .before .before .before .before .before .before .before .args .m) (c .before .before .before .before .before .before .before .before .before .before .before .before .args .v .now)) (checked (c .before .before .before .before .before .before .before .before .before .before .before .before .args .t .now) (c .before .before .before .before .before .before .before .before .before .before .before .before .args .met)) (c .before .before .before .before .before .before .before .before .before .before .before .before .args .left)) (checked (c .before .before .before .before .before .before .before .before .before .before .before .before .args .t .now) (c .before .before .before .before .before .before .before .before .before .before .before .before .args .met)) (labelsFor (c .before .before .before .before .before .before .before .before .before .before .before .before .args .t .now) (c .before .before .before .before .before .before .before .before .before .before .before .before .args .met) (c .before .before .before .before .before .before .before .before .before .before .before .before .args .discriminant)) (c .before .before .before .before .before .before .before .before .before .before .before .before .args .fields) (c .before .before .before .before .before .before .before .before .before .before .before .before .args .discriminant) (c .before .before .before .before .before .before .before .before .before .before .before .before .args .default) (stateOf (c .before .before .before .before .before .before .before .before .before .before .before .before .args .c) (c .before .before .before .before .before .before .before .before .before .before .before .before .args .table .now)) (stateOf (c .before .before .if1 .d) (c .before .before .if1 .table)) (union-member-step t (c .before .before) ∙ ap (λ (p : Parameters). reads (sinkOf (c .before .before .before .before .before .before .before .before .before .before .before .before .args .m)) (sourceOf (c .before .before .before .before .before .before .before .before .before .before .before .before .args .m) (c .before .before .before .before .before .before .before .before .before .before .before .before .args .v .now)) (checked (c .before .before .before .before .before .before .before .before .before .before .before .before .args .t .now) (c .before .before .before .before .before .before .before .before .before .before .before .before .args .met)) (c .before .before .before .before .before .before .before .before .before .before .before .before .args .left) p (stateOf (c .before .before .before .before .before .before .before .before .before .before .before .before .args .c) (c .before .before .before .before .before .before .before .before .before .before .before .before .args .table .now))) (c .before .before .before .before .before .before .before .before .within .ensures)) (c .if2 .taken))
+union-member-returns t c =
+  let a = c .before .before .before .before .before .before .before .before .before .before .before .before .args in
+  let if1 = c .before .before .if1 in
+  let within = c .before .before .before .before .before .before .before .before .within in
+  sym (way.union-stop (sinkOf (a .m)) (sourceOf (a .m) (a .v .now)) (reads (sinkOf (a .m)) (sourceOf (a .m) (a .v .now)) (checked (a .t .now) (a .met)) (a .left)) (checked (a .t .now) (a .met)) (labelsFor (a .t .now) (a .met) (a .discriminant)) (a .fields) (a .discriminant) (a .default) (stateOf (a .c) (a .table .now)) (stateOf (if1 .d) (if1 .table)) (union-member-step t (c .before .before) ∙ ap (λ (p : Parameters). reads (sinkOf (a .m)) (sourceOf (a .m) (a .v .now)) (checked (a .t .now) (a .met)) (a .left) p (stateOf (a .c) (a .table .now))) (within .ensures)) (c .if2 .taken))
 
 union-member-labels-for-requires : (t : ℕ) → union-member-lts.Need-labels-for-requires (union-member-of t) (union-member-at t) union-member.Post
 union-member-labels-for-requires t c κs = search needs
@@ -407,28 +514,60 @@ union-member-flat-visit-requires-2 : (t : ℕ) → union-member-lts.Need-flat-vi
 union-member-flat-visit-requires-2 t c κs = search needs
 
 union-member-visit-requires-2 : (t : ℕ) → union-member-lts.Need-visit-requires-2 (union-member-of t) (union-member-at t) union-member.Post
-union-member-visit-requires-2 t c κs = (omega (arith, c .before .before .before .before .before .before .before .before .before .before .before .before .before .before .before .before .before .before .before .before .before .before .before .before .pre .0), tt)
+union-member-visit-requires-2 t c κs =
+  let pre = c .before .before .before .before .before .before .before .before .before .before .before .before .before .before .before .before .before .before .before .before .before .before .before .before .pre in
+  (omega (arith, pre .0), tt)
 
 union-member-same-length-2 : (t : ℕ) → union-member-lts.Need-same-length-2 (union-member-of t) (union-member-at t) union-member.Post
-union-member-same-length-2 t c = c .before .before .visit2 .kept .1 .1 .1 .1 .0 ∙ c .before .before .before .before .before .before .before .flat-visit2 .kept .1 .1 .0 ∙ union-member-rows t (c .before .before .before .before .before .before .before .before .before .before .before .before .before .before .before .before .before)
+union-member-same-length-2 t c =
+  let flat-visit2 = c .before .before .before .before .before .before .before .flat-visit2 in
+  c .before .before .visit2 .kept .1 .1 .1 .1 .0 ∙ flat-visit2 .kept .1 .1 .0 ∙ union-member-rows t (c .before .before .before .before .before .before .before .before .before .before .before .before .before .before .before .before .before)
 
 union-member-returns-2 : (t : ℕ) → union-member-lts.Need-returns-2 (union-member-of t) (union-member-at t) union-member.Post
-union-member-returns-2 t c = c .before .before .visit2 .ensures ∙ ap (reads (sinkOf (c .before .before .before .before .before .before .before .before .before .before .before .before .before .before .before .before .before .before .before .before .before .before .before .before .before .before .before .args .m)) (sourceOf (c .before .before .before .before .before .before .before .before .before .before .before .before .before .before .before .before .before .before .before .before .before .before .before .before .before .before .before .args .m) (c .before .before .before .before .before .before .before .before .before .before .before .before .before .before .before .before .before .before .before .before .before .before .before .before .before .before .before .args .v .now)) (checked (c .before .before .before .before .before .before .before .before .before .before .before .before .before .before .before .before .before .before .before .before .before .before .before .before .before .before .before .args .t .now) (c .before .before .before .before .before .before .before .before .before .before .before .before .before .before .before .before .before .before .before .before .before .before .before .before .before .before .before .args .met)) (c .before .before .before .before .before .before .before .before .before .before .before .before .before .before .before .before .before .before .before .before .before .before .before .before .before .before .before .args .left) (c .before .before .before .before .before .before .before .before .before .within2 .result)) (flat-left (c .before .before .before .before .before .before .before .before .before .before .before .before .before .before .before .before .before .before .before .before .before .before .before .before .before .before .before .args .m) (c .before .before .before .before .before .before .before .before .before .before .before .before .before .before .before .before .before .before .before .before .before .before .before .before .before .before .before .args .v .now) (c .before .before .before .before .before .before .before .before .before .within2 .result) (c .before .before .before .before .before .before .before .before .before .before .before .before .before .before .before .before .before .before .before .before .before .before .before .before .before .before .before .args .left) (stateOf (c .before .before .before .before .before .before .before .before .before .before .before .before .before .before .before .before .before .if1 .d) (c .before .before .before .before .before .before .before .before .before .before .before .before .before .before .before .before .before .if1 .table)) (stateOf (c .before .before .before .before .before .before .before .flat-visit2 .result .cursor) (c .before .before .before .before .before .before .before .flat-visit2 .last .1 .1 .0)) (c .before .before .before .before .before .before .before .flat-visit2 .result .enters) (c .before .before .before .before .before .before .before .flat-visit2 .ensures) (c .before .before .before .before .if3 .taken)) ∙ ap (λ (p : Parameters). reads (sinkOf (c .before .before .before .before .before .before .before .before .before .before .before .before .before .before .before .before .before .before .before .before .before .before .before .before .before .before .before .args .m)) (sourceOf (c .before .before .before .before .before .before .before .before .before .before .before .before .before .before .before .before .before .before .before .before .before .before .before .before .before .before .before .args .m) (c .before .before .before .before .before .before .before .before .before .before .before .before .before .before .before .before .before .before .before .before .before .before .before .before .before .before .before .args .v .now)) (checked (c .before .before .before .before .before .before .before .before .before .before .before .before .before .before .before .before .before .before .before .before .before .before .before .before .before .before .before .args .t .now) (c .before .before .before .before .before .before .before .before .before .before .before .before .before .before .before .before .before .before .before .before .before .before .before .before .before .before .before .args .met)) (c .before .before .before .before .before .before .before .before .before .before .before .before .before .before .before .before .before .before .before .before .before .before .before .before .before .before .before .args .left) p (stateOf (c .before .before .before .before .before .before .before .before .before .before .before .before .before .before .before .before .before .if1 .d) (c .before .before .before .before .before .before .before .before .before .before .before .before .before .before .before .before .before .if1 .table))) (c .before .before .before .before .before .before .before .before .before .within2 .ensures) ∙ sym (way.union-member (sinkOf (c .before .before .before .before .before .before .before .before .before .before .before .before .before .before .before .before .before .before .before .before .before .before .before .before .before .before .before .args .m)) (sourceOf (c .before .before .before .before .before .before .before .before .before .before .before .before .before .before .before .before .before .before .before .before .before .before .before .before .before .before .before .args .m) (c .before .before .before .before .before .before .before .before .before .before .before .before .before .before .before .before .before .before .before .before .before .before .before .before .before .before .before .args .v .now)) (reads (sinkOf (c .before .before .before .before .before .before .before .before .before .before .before .before .before .before .before .before .before .before .before .before .before .before .before .before .before .before .before .args .m)) (sourceOf (c .before .before .before .before .before .before .before .before .before .before .before .before .before .before .before .before .before .before .before .before .before .before .before .before .before .before .before .args .m) (c .before .before .before .before .before .before .before .before .before .before .before .before .before .before .before .before .before .before .before .before .before .before .before .before .before .before .before .args .v .now)) (checked (c .before .before .before .before .before .before .before .before .before .before .before .before .before .before .before .before .before .before .before .before .before .before .before .before .before .before .before .args .t .now) (c .before .before .before .before .before .before .before .before .before .before .before .before .before .before .before .before .before .before .before .before .before .before .before .before .before .before .before .args .met)) (c .before .before .before .before .before .before .before .before .before .before .before .before .before .before .before .before .before .before .before .before .before .before .before .before .before .before .before .args .left)) (checked (c .before .before .before .before .before .before .before .before .before .before .before .before .before .before .before .before .before .before .before .before .before .before .before .before .before .before .before .args .t .now) (c .before .before .before .before .before .before .before .before .before .before .before .before .before .before .before .before .before .before .before .before .before .before .before .before .before .before .before .args .met)) (labelsFor (c .before .before .before .before .before .before .before .before .before .before .before .before .before .before .before .before .before .before .before .before .before .before .before .before .before .before .before .args .t .now) (c .before .before .before .before .before .before .before .before .before .before .before .before .before .before .before .before .before .before .before .before .before .before .before .before .before .before .before .args .met) (c .before .before .before .before .before .before .before .before .before .before .before .before .before .before .before .before .before .before .before .before .before .before .before .before .before .before .before .args .discriminant)) (c .before .before .before .before .before .before .before .before .before .before .before .before .before .before .before .before .before .before .before .before .before .before .before .before .before .before .before .args .fields) (c .before .before .before .before .before .before .before .before .before .before .before .before .before .before .before .before .before .before .before .before .before .before .before .before .before .before .before .args .discriminant) (c .before .before .before .before .before .before .before .before .before .before .before .before .before .before .before .before .before .before .before .before .before .before .before .before .before .before .before .args .default) (stateOf (c .before .before .before .before .before .before .before .before .before .before .before .before .before .before .before .before .before .before .before .before .before .before .before .before .before .before .before .args .c) (c .before .before .before .before .before .before .before .before .before .before .before .before .before .before .before .before .before .before .before .before .before .before .before .before .before .before .before .args .table .now)) (stateOf (c .before .before .before .before .before .before .before .before .before .before .before .before .before .before .before .before .before .if1 .d) (c .before .before .before .before .before .before .before .before .before .before .before .before .before .before .before .before .before .if1 .table)) (union-member-step t (c .before .before .before .before .before .before .before .before .before .before .before .before .before .before .before .before .before) ∙ ap (λ (p : Parameters). reads (sinkOf (c .before .before .before .before .before .before .before .before .before .before .before .before .before .before .before .before .before .before .before .before .before .before .before .before .before .before .before .args .m)) (sourceOf (c .before .before .before .before .before .before .before .before .before .before .before .before .before .before .before .before .before .before .before .before .before .before .before .before .before .before .before .args .m) (c .before .before .before .before .before .before .before .before .before .before .before .before .before .before .before .before .before .before .before .before .before .before .before .before .before .before .before .args .v .now)) (checked (c .before .before .before .before .before .before .before .before .before .before .before .before .before .before .before .before .before .before .before .before .before .before .before .before .before .before .before .args .t .now) (c .before .before .before .before .before .before .before .before .before .before .before .before .before .before .before .before .before .before .before .before .before .before .before .before .before .before .before .args .met)) (c .before .before .before .before .before .before .before .before .before .before .before .before .before .before .before .before .before .before .before .before .before .before .before .before .before .before .before .args .left) p (stateOf (c .before .before .before .before .before .before .before .before .before .before .before .before .before .before .before .before .before .before .before .before .before .before .before .before .before .before .before .args .c) (c .before .before .before .before .before .before .before .before .before .before .before .before .before .before .before .before .before .before .before .before .before .before .before .before .before .before .before .args .table .now))) (c .before .before .before .before .before .before .before .before .before .before .before .before .before .before .before .before .before .before .before .before .before .before .before .within .ensures)) _ _ (c .before .before .before .before .before .before .before .before .before .before .before .before .before .before .before .if2 .left) (ap (λ (l : Labels). chosenOf l (c .before .before .before .before .before .before .before .before .before .before .before .before .before .before .before .before .before .before .before .before .before .before .before .before .before .before .before .args .t .now) (c .before .before .before .before .before .before .before .before .before .before .before .before .before .before .before .before .before .before .before .before .before .before .before .before .before .before .before .args .fields) (c .before .before .before .before .before .before .before .before .before .before .before .before .before .before .before .before .before .before .before .before .before .before .before .before .before .before .before .args .default) (c .before .before .before .before .before .before .before .before .before .before .before .before .before .before .before .before .before .if1 .d .last)) (sym (c .before .before .before .before .before .before .before .before .before .before .before .before .before .before .labels-for .ensures)) ∙ sym (c .before .before .before .before .before .before .before .before .before .before .before .before .before .chosen-of .ensures) ∙ c .before .before .before .before .before .before .before .before .before .before .before .place .given .1))
+union-member-returns-2 t c =
+  let a = c .before .before .before .before .before .before .before .before .before .before .before .before .before .before .before .before .before .before .before .before .before .before .before .before .before .before .before .args in
+  let within2 = c .before .before .before .before .before .before .before .before .before .within2 in
+  let if1 = c .before .before .before .before .before .before .before .before .before .before .before .before .before .before .before .before .before .if1 in
+  let flat-visit2 = c .before .before .before .before .before .before .before .flat-visit2 in
+  let if3 = c .before .before .before .before .if3 in
+  let within = c .before .before .before .before .before .before .before .before .before .before .before .before .before .before .before .before .before .before .before .before .before .before .before .within in
+  let if2 = c .before .before .before .before .before .before .before .before .before .before .before .before .before .before .before .if2 in
+  let labels-for = c .before .before .before .before .before .before .before .before .before .before .before .before .before .before .labels-for in
+  let chosen-of = c .before .before .before .before .before .before .before .before .before .before .before .before .before .chosen-of in
+  let place = c .before .before .before .before .before .before .before .before .before .before .before .place in
+  c .before .before .visit2 .ensures ∙ ap (reads (sinkOf (a .m)) (sourceOf (a .m) (a .v .now)) (checked (a .t .now) (a .met)) (a .left) (within2 .result)) (flat-left (a .m) (a .v .now) (within2 .result) (a .left) (stateOf (if1 .d) (if1 .table)) (stateOf (flat-visit2 .result .cursor) (flat-visit2 .last .1 .1 .0)) (flat-visit2 .result .enters) (flat-visit2 .ensures) (if3 .taken)) ∙ ap (λ (p : Parameters). reads (sinkOf (a .m)) (sourceOf (a .m) (a .v .now)) (checked (a .t .now) (a .met)) (a .left) p (stateOf (if1 .d) (if1 .table))) (within2 .ensures) ∙ sym (way.union-member (sinkOf (a .m)) (sourceOf (a .m) (a .v .now)) (reads (sinkOf (a .m)) (sourceOf (a .m) (a .v .now)) (checked (a .t .now) (a .met)) (a .left)) (checked (a .t .now) (a .met)) (labelsFor (a .t .now) (a .met) (a .discriminant)) (a .fields) (a .discriminant) (a .default) (stateOf (a .c) (a .table .now)) (stateOf (if1 .d) (if1 .table)) (union-member-step t (c .before .before .before .before .before .before .before .before .before .before .before .before .before .before .before .before .before) ∙ ap (λ (p : Parameters). reads (sinkOf (a .m)) (sourceOf (a .m) (a .v .now)) (checked (a .t .now) (a .met)) (a .left) p (stateOf (a .c) (a .table .now))) (within .ensures)) _ _ (if2 .left) (ap (λ (l : Labels). chosenOf l (a .t .now) (a .fields) (a .default) (if1 .d .last)) (sym (labels-for .ensures)) ∙ sym (chosen-of .ensures) ∙ place .given .1))
 
 union-member-enum-told : (t : ℕ) → union-member-lts.Need-enum-told (union-member-of t) (union-member-at t) union-member.Post
 union-member-enum-told t c = search needs
 
 union-member-same-length-3 : (t : ℕ) → union-member-lts.Need-same-length-3 (union-member-of t) (union-member-at t) union-member.Post
-union-member-same-length-3 t c = c .before .before .before .before .flat-visit2 .kept .1 .1 .0 ∙ union-member-rows t (c .before .before .before .before .before .before .before .before .before .before .before .before .before .before)
+union-member-same-length-3 t c =
+  let flat-visit2 = c .before .before .before .before .flat-visit2 in
+  flat-visit2 .kept .1 .1 .0 ∙ union-member-rows t (c .before .before .before .before .before .before .before .before .before .before .before .before .before .before)
 
 union-member-returns-3 : (t : ℕ) → union-member-lts.Need-returns-3 (union-member-of t) (union-member-at t) union-member.Post
-union-member-returns-3 t c = flat-done (c .before .before .before .before .before .before .before .before .before .before .before .before .before .before .before .before .before .before .before .before .before .before .before .before .args .m) (c .before .before .before .before .before .before .before .before .before .before .before .before .before .before .before .before .before .before .before .before .before .before .before .before .args .v .now) (c .before .before .before .before .before .before .within2 .result) (c .before .before .before .before .before .before .before .before .before .before .before .before .before .before .before .before .before .before .before .before .before .before .before .before .args .left) (stateOf (c .before .before .before .before .before .before .before .before .before .before .before .before .before .before .if1 .d) (c .before .before .before .before .before .before .before .before .before .before .before .before .before .before .if1 .table)) (stateOf (c .before .before .before .before .flat-visit2 .result .cursor) (c .before .before .before .before .flat-visit2 .last .1 .1 .0)) (c .before .before .before .before .flat-visit2 .result .enters) (c .before .before .before .before .flat-visit2 .ensures) (c .before .if3 .left) (checked (c .before .before .before .before .before .before .before .before .before .before .before .before .before .before .before .before .before .before .before .before .before .before .before .before .args .t .now) (c .before .before .before .before .before .before .before .before .before .before .before .before .before .before .before .before .before .before .before .before .before .before .before .before .args .met)) ∙ ap (λ (p : Parameters). reads (sinkOf (c .before .before .before .before .before .before .before .before .before .before .before .before .before .before .before .before .before .before .before .before .before .before .before .before .args .m)) (sourceOf (c .before .before .before .before .before .before .before .before .before .before .before .before .before .before .before .before .before .before .before .before .before .before .before .before .args .m) (c .before .before .before .before .before .before .before .before .before .before .before .before .before .before .before .before .before .before .before .before .before .before .before .before .args .v .now)) (checked (c .before .before .before .before .before .before .before .before .before .before .before .before .before .before .before .before .before .before .before .before .before .before .before .before .args .t .now) (c .before .before .before .before .before .before .before .before .before .before .before .before .before .before .before .before .before .before .before .before .before .before .before .before .args .met)) (c .before .before .before .before .before .before .before .before .before .before .before .before .before .before .before .before .before .before .before .before .before .before .before .before .args .left) p (stateOf (c .before .before .before .before .before .before .before .before .before .before .before .before .before .before .if1 .d) (c .before .before .before .before .before .before .before .before .before .before .before .before .before .before .if1 .table))) (c .before .before .before .before .before .before .within2 .ensures) ∙ sym (way.union-member (sinkOf (c .before .before .before .before .before .before .before .before .before .before .before .before .before .before .before .before .before .before .before .before .before .before .before .before .args .m)) (sourceOf (c .before .before .before .before .before .before .before .before .before .before .before .before .before .before .before .before .before .before .before .before .before .before .before .before .args .m) (c .before .before .before .before .before .before .before .before .before .before .before .before .before .before .before .before .before .before .before .before .before .before .before .before .args .v .now)) (reads (sinkOf (c .before .before .before .before .before .before .before .before .before .before .before .before .before .before .before .before .before .before .before .before .before .before .before .before .args .m)) (sourceOf (c .before .before .before .before .before .before .before .before .before .before .before .before .before .before .before .before .before .before .before .before .before .before .before .before .args .m) (c .before .before .before .before .before .before .before .before .before .before .before .before .before .before .before .before .before .before .before .before .before .before .before .before .args .v .now)) (checked (c .before .before .before .before .before .before .before .before .before .before .before .before .before .before .before .before .before .before .before .before .before .before .before .before .args .t .now) (c .before .before .before .before .before .before .before .before .before .before .before .before .before .before .before .before .before .before .before .before .before .before .before .before .args .met)) (c .before .before .before .before .before .before .before .before .before .before .before .before .before .before .before .before .before .before .before .before .before .before .before .before .args .left)) (checked (c .before .before .before .before .before .before .before .before .before .before .before .before .before .before .before .before .before .before .before .before .before .before .before .before .args .t .now) (c .before .before .before .before .before .before .before .before .before .before .before .before .before .before .before .before .before .before .before .before .before .before .before .before .args .met)) (labelsFor (c .before .before .before .before .before .before .before .before .before .before .before .before .before .before .before .before .before .before .before .before .before .before .before .before .args .t .now) (c .before .before .before .before .before .before .before .before .before .before .before .before .before .before .before .before .before .before .before .before .before .before .before .before .args .met) (c .before .before .before .before .before .before .before .before .before .before .before .before .before .before .before .before .before .before .before .before .before .before .before .before .args .discriminant)) (c .before .before .before .before .before .before .before .before .before .before .before .before .before .before .before .before .before .before .before .before .before .before .before .before .args .fields) (c .before .before .before .before .before .before .before .before .before .before .before .before .before .before .before .before .before .before .before .before .before .before .before .before .args .discriminant) (c .before .before .before .before .before .before .before .before .before .before .before .before .before .before .before .before .before .before .before .before .before .before .before .before .args .default) (stateOf (c .before .before .before .before .before .before .before .before .before .before .before .before .before .before .before .before .before .before .before .before .before .before .before .before .args .c) (c .before .before .before .before .before .before .before .before .before .before .before .before .before .before .before .before .before .before .before .before .before .before .before .before .args .table .now)) (stateOf (c .before .before .before .before .before .before .before .before .before .before .before .before .before .before .if1 .d) (c .before .before .before .before .before .before .before .before .before .before .before .before .before .before .if1 .table)) (union-member-step t (c .before .before .before .before .before .before .before .before .before .before .before .before .before .before) ∙ ap (λ (p : Parameters). reads (sinkOf (c .before .before .before .before .before .before .before .before .before .before .before .before .before .before .before .before .before .before .before .before .before .before .before .before .args .m)) (sourceOf (c .before .before .before .before .before .before .before .before .before .before .before .before .before .before .before .before .before .before .before .before .before .before .before .before .args .m) (c .before .before .before .before .before .before .before .before .before .before .before .before .before .before .before .before .before .before .before .before .before .before .before .before .args .v .now)) (checked (c .before .before .before .before .before .before .before .before .before .before .before .before .before .before .before .before .before .before .before .before .before .before .before .before .args .t .now) (c .before .before .before .before .before .before .before .before .before .before .before .before .before .before .before .before .before .before .before .before .before .before .before .before .args .met)) (c .before .before .before .before .before .before .before .before .before .before .before .before .before .before .before .before .before .before .before .before .before .before .before .before .args .left) p (stateOf (c .before .before .before .before .before .before .before .before .before .before .before .before .before .before .before .before .before .before .before .before .before .before .before .before .args .c) (c .before .before .before .before .before .before .before .before .before .before .before .before .before .before .before .before .before .before .before .before .before .before .before .before .args .table .now))) (c .before .before .before .before .before .before .before .before .before .before .before .before .before .before .before .before .before .before .before .before .within .ensures)) _ _ (c .before .before .before .before .before .before .before .before .before .before .before .before .if2 .left) (ap (λ (l : Labels). chosenOf l (c .before .before .before .before .before .before .before .before .before .before .before .before .before .before .before .before .before .before .before .before .before .before .before .before .args .t .now) (c .before .before .before .before .before .before .before .before .before .before .before .before .before .before .before .before .before .before .before .before .before .before .before .before .args .fields) (c .before .before .before .before .before .before .before .before .before .before .before .before .before .before .before .before .before .before .before .before .before .before .before .before .args .default) (c .before .before .before .before .before .before .before .before .before .before .before .before .before .before .if1 .d .last)) (sym (c .before .before .before .before .before .before .before .before .before .before .before .labels-for .ensures)) ∙ sym (c .before .before .before .before .before .before .before .before .before .before .chosen-of .ensures) ∙ c .before .before .before .before .before .before .before .before .place .given .1))
+union-member-returns-3 t c =
+  let a = c .before .before .before .before .before .before .before .before .before .before .before .before .before .before .before .before .before .before .before .before .before .before .before .before .args in
+  let within2 = c .before .before .before .before .before .before .within2 in
+  let if1 = c .before .before .before .before .before .before .before .before .before .before .before .before .before .before .if1 in
+  let flat-visit2 = c .before .before .before .before .flat-visit2 in
+  let within = c .before .before .before .before .before .before .before .before .before .before .before .before .before .before .before .before .before .before .before .before .within in
+  let if2 = c .before .before .before .before .before .before .before .before .before .before .before .before .if2 in
+  let labels-for = c .before .before .before .before .before .before .before .before .before .before .before .labels-for in
+  let chosen-of = c .before .before .before .before .before .before .before .before .before .before .chosen-of in
+  let place = c .before .before .before .before .before .before .before .before .place in
+  flat-done (a .m) (a .v .now) (within2 .result) (a .left) (stateOf (if1 .d) (if1 .table)) (stateOf (flat-visit2 .result .cursor) (flat-visit2 .last .1 .1 .0)) (flat-visit2 .result .enters) (flat-visit2 .ensures) (c .before .if3 .left) (checked (a .t .now) (a .met)) ∙ ap (λ (p : Parameters). reads (sinkOf (a .m)) (sourceOf (a .m) (a .v .now)) (checked (a .t .now) (a .met)) (a .left) p (stateOf (if1 .d) (if1 .table))) (within2 .ensures) ∙ sym (way.union-member (sinkOf (a .m)) (sourceOf (a .m) (a .v .now)) (reads (sinkOf (a .m)) (sourceOf (a .m) (a .v .now)) (checked (a .t .now) (a .met)) (a .left)) (checked (a .t .now) (a .met)) (labelsFor (a .t .now) (a .met) (a .discriminant)) (a .fields) (a .discriminant) (a .default) (stateOf (a .c) (a .table .now)) (stateOf (if1 .d) (if1 .table)) (union-member-step t (c .before .before .before .before .before .before .before .before .before .before .before .before .before .before) ∙ ap (λ (p : Parameters). reads (sinkOf (a .m)) (sourceOf (a .m) (a .v .now)) (checked (a .t .now) (a .met)) (a .left) p (stateOf (a .c) (a .table .now))) (within .ensures)) _ _ (if2 .left) (ap (λ (l : Labels). chosenOf l (a .t .now) (a .fields) (a .default) (if1 .d .last)) (sym (labels-for .ensures)) ∙ sym (chosen-of .ensures) ∙ place .given .1))
 
 union-member-same-length-4 : (t : ℕ) → union-member-lts.Need-same-length-4 (union-member-of t) (union-member-at t) union-member.Post
 union-member-same-length-4 t c = union-member-rows t (c .before .before .before .before .before .before)
 
 union-member-returns-4 : (t : ℕ) → union-member-lts.Need-returns-4 (union-member-of t) (union-member-at t) union-member.Post
-union-member-returns-4 t c = sym (way.union-none (sinkOf (c .before .before .before .before .before .before .before .before .before .before .before .before .before .before .before .before .args .m)) (sourceOf (c .before .before .before .before .before .before .before .before .before .before .before .before .before .before .before .before .args .m) (c .before .before .before .before .before .before .before .before .before .before .before .before .before .before .before .before .args .v .now)) (reads (sinkOf (c .before .before .before .before .before .before .before .before .before .before .before .before .before .before .before .before .args .m)) (sourceOf (c .before .before .before .before .before .before .before .before .before .before .before .before .before .before .before .before .args .m) (c .before .before .before .before .before .before .before .before .before .before .before .before .before .before .before .before .args .v .now)) (checked (c .before .before .before .before .before .before .before .before .before .before .before .before .before .before .before .before .args .t .now) (c .before .before .before .before .before .before .before .before .before .before .before .before .before .before .before .before .args .met)) (c .before .before .before .before .before .before .before .before .before .before .before .before .before .before .before .before .args .left)) (checked (c .before .before .before .before .before .before .before .before .before .before .before .before .before .before .before .before .args .t .now) (c .before .before .before .before .before .before .before .before .before .before .before .before .before .before .before .before .args .met)) (labelsFor (c .before .before .before .before .before .before .before .before .before .before .before .before .before .before .before .before .args .t .now) (c .before .before .before .before .before .before .before .before .before .before .before .before .before .before .before .before .args .met) (c .before .before .before .before .before .before .before .before .before .before .before .before .before .before .before .before .args .discriminant)) (c .before .before .before .before .before .before .before .before .before .before .before .before .before .before .before .before .args .fields) (c .before .before .before .before .before .before .before .before .before .before .before .before .before .before .before .before .args .discriminant) (c .before .before .before .before .before .before .before .before .before .before .before .before .before .before .before .before .args .default) (stateOf (c .before .before .before .before .before .before .before .before .before .before .before .before .before .before .before .before .args .c) (c .before .before .before .before .before .before .before .before .before .before .before .before .before .before .before .before .args .table .now)) (stateOf (c .before .before .before .before .before .before .if1 .d) (c .before .before .before .before .before .before .if1 .table)) (union-member-step t (c .before .before .before .before .before .before) ∙ ap (λ (p : Parameters). reads (sinkOf (c .before .before .before .before .before .before .before .before .before .before .before .before .before .before .before .before .args .m)) (sourceOf (c .before .before .before .before .before .before .before .before .before .before .before .before .before .before .before .before .args .m) (c .before .before .before .before .before .before .before .before .before .before .before .before .before .before .before .before .args .v .now)) (checked (c .before .before .before .before .before .before .before .before .before .before .before .before .before .before .before .before .args .t .now) (c .before .before .before .before .before .before .before .before .before .before .before .before .before .before .before .before .args .met)) (c .before .before .before .before .before .before .before .before .before .before .before .before .before .before .before .before .args .left) p (stateOf (c .before .before .before .before .before .before .before .before .before .before .before .before .before .before .before .before .args .c) (c .before .before .before .before .before .before .before .before .before .before .before .before .before .before .before .before .args .table .now))) (c .before .before .before .before .before .before .before .before .before .before .before .before .within .ensures)) (c .before .before .before .before .if2 .left) (ap (λ (l : Labels). chosenOf l (c .before .before .before .before .before .before .before .before .before .before .before .before .before .before .before .before .args .t .now) (c .before .before .before .before .before .before .before .before .before .before .before .before .before .before .before .before .args .fields) (c .before .before .before .before .before .before .before .before .before .before .before .before .before .before .before .before .args .default) (c .before .before .before .before .before .before .if1 .d .last)) (sym (c .before .before .before .labels-for .ensures)) ∙ sym (c .before .before .chosen-of .ensures) ∙ c .enum-told .given .1))
+union-member-returns-4 t c =
+  let a = c .before .before .before .before .before .before .before .before .before .before .before .before .before .before .before .before .args in
+  let if1 = c .before .before .before .before .before .before .if1 in
+  let within = c .before .before .before .before .before .before .before .before .before .before .before .before .within in
+  let if2 = c .before .before .before .before .if2 in
+  sym (way.union-none (sinkOf (a .m)) (sourceOf (a .m) (a .v .now)) (reads (sinkOf (a .m)) (sourceOf (a .m) (a .v .now)) (checked (a .t .now) (a .met)) (a .left)) (checked (a .t .now) (a .met)) (labelsFor (a .t .now) (a .met) (a .discriminant)) (a .fields) (a .discriminant) (a .default) (stateOf (a .c) (a .table .now)) (stateOf (if1 .d) (if1 .table)) (union-member-step t (c .before .before .before .before .before .before) ∙ ap (λ (p : Parameters). reads (sinkOf (a .m)) (sourceOf (a .m) (a .v .now)) (checked (a .t .now) (a .met)) (a .left) p (stateOf (a .c) (a .table .now))) (within .ensures)) (if2 .left) (ap (λ (l : Labels). chosenOf l (a .t .now) (a .fields) (a .default) (if1 .d .last)) (sym (c .before .before .before .labels-for .ensures)) ∙ sym (c .before .before .chosen-of .ensures) ∙ c .enum-told .given .1))
 
 abbrev visit-of : ℕ → visit-lts.Claims
 visit-of t = (refused-reads.Asked, refused-reads.Learnt, visit-reads.Asked, visit-reads.Learnt, leaf-reads.Asked, leaf-reads.Learnt, text-reads.Asked, text-reads.Learnt, reference-reads.Asked, reference-reads.Learnt, struct-members-below t, struct-members.Post, exception-below t, exception.Post, union-member-below t, union-member.Post, enumerated-reads.Asked, enumerated-reads.Learnt, sequence-below t, sequence.Post, within-reads.Asked, within-reads.Learnt, elements-below t, elements.Post, visit-below t, visit.Post)
@@ -437,7 +576,9 @@ visit-refused-requires : (t : ℕ) → visit-lts.Need-refused-requires (visit-of
 visit-refused-requires t c κs = search needs
 
 visit-returns : (t : ℕ) → visit-lts.Need-returns (visit-of t) (visit-at t) visit.Post
-visit-returns t c = c .refused .ensures (c .before .before .before .before .before .args .table .now) ∙ sym (ap (λ (l : ℕ). reads (sinkOf (c .before .before .before .before .before .args .m)) (sourceOf (c .before .before .before .before .before .args .m) (c .before .before .before .before .before .args .v .now)) (checked (c .before .before .before .before .before .args .t .now) (c .before .before .before .before .before .args .met)) l (c .before .before .before .before .before .args .p) (stateOf (c .before .before .before .before .before .args .c) (c .before .before .before .before .before .args .table .now))) (c .before .if1 .taken) ∙ way.reads-none (sinkOf (c .before .before .before .before .before .args .m)) (sourceOf (c .before .before .before .before .before .args .m) (c .before .before .before .before .before .args .v .now)) (checked (c .before .before .before .before .before .args .t .now) (c .before .before .before .before .before .args .met)) (c .before .before .before .before .before .args .p) (stateOf (c .before .before .before .before .before .args .c) (c .before .before .before .before .before .args .table .now)))
+visit-returns t c =
+  let a = c .before .before .before .before .before .args in
+  c .refused .ensures (a .table .now) ∙ sym (ap (λ (l : ℕ). reads (sinkOf (a .m)) (sourceOf (a .m) (a .v .now)) (checked (a .t .now) (a .met)) l (a .p) (stateOf (a .c) (a .table .now))) (c .before .if1 .taken) ∙ way.reads-none (sinkOf (a .m)) (sourceOf (a .m) (a .v .now)) (checked (a .t .now) (a .met)) (a .p) (stateOf (a .c) (a .table .now)))
 
 visit-sub-below : (t : ℕ) → visit-lts.Need-sub-below (visit-of t) (visit-at t) visit.Post
 visit-sub-below t c = omega arith
@@ -470,19 +611,25 @@ visit-enum-known-p-3 : (t : ℕ) → visit-lts.Need-enum-known-p-3 (visit-of t) 
 visit-enum-known-p-3 t c = search needs
 
 visit-struct-members-requires : (t : ℕ) → visit-lts.Need-struct-members-requires (visit-of t) (visit-at t) visit.Post
-visit-struct-members-requires t c κs = (omega (arith, c .before .before .before .before .before .before .before .before .before .pre .0), tt)
+visit-struct-members-requires t c κs =
+  let pre = c .before .before .before .before .before .before .before .before .before .pre in
+  (omega (arith, pre .0), tt)
 
 visit-enum-known-p-4 : (t : ℕ) → visit-lts.Need-enum-known-p-4 (visit-of t) (visit-at t) visit.Post
 visit-enum-known-p-4 t c = search needs
 
 visit-exception-requires : (t : ℕ) → visit-lts.Need-exception-requires (visit-of t) (visit-at t) visit.Post
-visit-exception-requires t c κs = (omega (arith, c .before .before .before .before .before .before .before .before .before .pre .0), tt)
+visit-exception-requires t c κs =
+  let pre = c .before .before .before .before .before .before .before .before .before .pre in
+  (omega (arith, pre .0), tt)
 
 visit-enum-known-p-5 : (t : ℕ) → visit-lts.Need-enum-known-p-5 (visit-of t) (visit-at t) visit.Post
 visit-enum-known-p-5 t c = search needs
 
 visit-union-member-requires : (t : ℕ) → visit-lts.Need-union-member-requires (visit-of t) (visit-at t) visit.Post
-visit-union-member-requires t c κs = (omega (arith, c .before .before .before .before .before .before .before .before .before .pre .0), tt)
+visit-union-member-requires t c κs =
+  let pre = c .before .before .before .before .before .before .before .before .before .pre in
+  (omega (arith, pre .0), tt)
 
 visit-enum-known-p-6 : (t : ℕ) → visit-lts.Need-enum-known-p-6 (visit-of t) (visit-at t) visit.Post
 visit-enum-known-p-6 t c = search needs
@@ -494,7 +641,9 @@ visit-enum-known-p-7 : (t : ℕ) → visit-lts.Need-enum-known-p-7 (visit-of t) 
 visit-enum-known-p-7 t c = search needs
 
 visit-sequence-requires : (t : ℕ) → visit-lts.Need-sequence-requires (visit-of t) (visit-at t) visit.Post
-visit-sequence-requires t c κs = (omega (arith, c .before .before .before .before .before .before .before .before .before .pre .0), tt)
+visit-sequence-requires t c κs =
+  let pre = c .before .before .before .before .before .before .before .before .before .pre in
+  (omega (arith, pre .0), tt)
 
 visit-enum-known-p-8 : (t : ℕ) → visit-lts.Need-enum-known-p-8 (visit-of t) (visit-at t) visit.Post
 visit-enum-known-p-8 t c = search needs
@@ -503,7 +652,9 @@ visit-within-requires : (t : ℕ) → visit-lts.Need-within-requires (visit-of t
 visit-within-requires t c κs = search needs
 
 visit-elements-requires : (t : ℕ) → visit-lts.Need-elements-requires (visit-of t) (visit-at t) visit.Post
-visit-elements-requires t c κs = (omega (arith, c .before .before .before .before .before .before .before .before .before .before .pre .0), tt)
+visit-elements-requires t c κs =
+  let pre = c .before .before .before .before .before .before .before .before .before .before .pre in
+  (omega (arith, pre .0), tt)
 
 visit-enum-known-p-9 : (t : ℕ) → visit-lts.Need-enum-known-p-9 (visit-of t) (visit-at t) visit.Post
 visit-enum-known-p-9 t c = search needs
@@ -512,80 +663,136 @@ visit-within-requires-2 : (t : ℕ) → visit-lts.Need-within-requires-2 (visit-
 visit-within-requires-2 t c κs = search needs
 
 visit-visit-requires-2 : (t : ℕ) → visit-lts.Need-visit-requires-2 (visit-of t) (visit-at t) visit.Post
-visit-visit-requires-2 t c κs = (omega (arith, c .before .before .before .before .before .before .before .before .before .before .pre .0), tt)
+visit-visit-requires-2 t c κs =
+  let pre = c .before .before .before .before .before .before .before .before .before .before .pre in
+  (omega (arith, pre .0), tt)
 
 visit-returns-2 : (t : ℕ) → visit-lts.Need-returns-2 (visit-of t) (visit-at t) visit.Post
 unfolding enter
-visit-returns-2 t c = sym (way.visit-some (sinkOf (c .before .before .before .before .before .before .before .args .m)) (sourceOf (c .before .before .before .before .before .before .before .args .m) (c .before .before .before .before .before .before .before .args .v .now)) (checked (c .before .before .before .before .before .before .before .args .t .now) (c .before .before .before .before .before .before .before .args .met)) (c .before .before .before .before .before .before .before .args .left) (c .before .before .before .before .before .before .before .args .p) _ (stateOf (c .before .before .before .before .before .before .before .args .c) (c .before .before .before .before .before .before .before .args .table .now)) _ (c .before .before .before .if1 .left) (c .enum-told .given .1) (c .before .before .visit .ensures (c .before .before .before .before .before .before .before .args .m) (c .before .before .before .before .before .before .before .args .table .now)))
+visit-returns-2 t c =
+  let a = c .before .before .before .before .before .before .before .args in
+  sym (way.visit-some (sinkOf (a .m)) (sourceOf (a .m) (a .v .now)) (checked (a .t .now) (a .met)) (a .left) (a .p) _ (stateOf (a .c) (a .table .now)) _ (c .before .before .before .if1 .left) (c .enum-told .given .1) (c .before .before .visit .ensures (a .m) (a .table .now)))
 
 visit-same-length : (t : ℕ) → visit-lts.Need-same-length (visit-of t) (visit-at t) visit.Post
 visit-same-length t c = search needs
 
 visit-returns-3 : (t : ℕ) → visit-lts.Need-returns-3 (visit-of t) (visit-at t) visit.Post
 unfolding enter
-visit-returns-3 t c = c .before .before .leaf .ensures ∙ sym (way.visit-some (sinkOf (c .before .before .before .before .before .before .before .before .before .before .before .before .args .m)) (sourceOf (c .before .before .before .before .before .before .before .before .before .before .before .before .args .m) (c .before .before .before .before .before .before .before .before .before .before .before .before .args .v .now)) (checked (c .before .before .before .before .before .before .before .before .before .before .before .before .args .t .now) (c .before .before .before .before .before .before .before .before .before .before .before .before .args .met)) (c .before .before .before .before .before .before .before .before .before .before .before .before .args .left) (c .before .before .before .before .before .before .before .before .before .before .before .before .args .p) _ (stateOf (c .before .before .before .before .before .before .before .before .before .before .before .before .args .c) (c .before .before .before .before .before .before .before .before .before .before .before .before .args .table .now)) _ (c .before .before .before .before .before .before .before .before .if1 .left) (c .before .before .before .before .before .p .given .1) (c .before .before .before .before .before .before .before .visit .ensures (c .before .before .before .before .before .before .before .before .before .before .before .before .args .m) (c .before .before .before .before .before .before .before .before .before .before .before .before .args .table .now)))
+visit-returns-3 t c =
+  let a = c .before .before .before .before .before .before .before .before .before .before .before .before .args in
+  let if1 = c .before .before .before .before .before .before .before .before .if1 in
+  let p = c .before .before .before .before .before .p in
+  let visit = c .before .before .before .before .before .before .before .visit in
+  c .before .before .leaf .ensures ∙ sym (way.visit-some (sinkOf (a .m)) (sourceOf (a .m) (a .v .now)) (checked (a .t .now) (a .met)) (a .left) (a .p) _ (stateOf (a .c) (a .table .now)) _ (if1 .left) (p .given .1) (visit .ensures (a .m) (a .table .now)))
 
 visit-same-length-2 : (t : ℕ) → visit-lts.Need-same-length-2 (visit-of t) (visit-at t) visit.Post
 visit-same-length-2 t c = c .before .before .text .kept .1 .1 .0
 
 visit-returns-4 : (t : ℕ) → visit-lts.Need-returns-4 (visit-of t) (visit-at t) visit.Post
 unfolding enter
-visit-returns-4 t c = c .before .before .text .ensures ∙ sym (way.visit-some (sinkOf (c .before .before .before .before .before .before .before .before .before .before .before .before .args .m)) (sourceOf (c .before .before .before .before .before .before .before .before .before .before .before .before .args .m) (c .before .before .before .before .before .before .before .before .before .before .before .before .args .v .now)) (checked (c .before .before .before .before .before .before .before .before .before .before .before .before .args .t .now) (c .before .before .before .before .before .before .before .before .before .before .before .before .args .met)) (c .before .before .before .before .before .before .before .before .before .before .before .before .args .left) (c .before .before .before .before .before .before .before .before .before .before .before .before .args .p) _ (stateOf (c .before .before .before .before .before .before .before .before .before .before .before .before .args .c) (c .before .before .before .before .before .before .before .before .before .before .before .before .args .table .now)) _ (c .before .before .before .before .before .before .before .before .if1 .left) (c .before .before .before .before .before .p2 .given .1) (c .before .before .before .before .before .before .before .visit .ensures (c .before .before .before .before .before .before .before .before .before .before .before .before .args .m) (c .before .before .before .before .before .before .before .before .before .before .before .before .args .table .now)))
+visit-returns-4 t c =
+  let a = c .before .before .before .before .before .before .before .before .before .before .before .before .args in
+  let if1 = c .before .before .before .before .before .before .before .before .if1 in
+  let p2 = c .before .before .before .before .before .p2 in
+  let visit = c .before .before .before .before .before .before .before .visit in
+  c .before .before .text .ensures ∙ sym (way.visit-some (sinkOf (a .m)) (sourceOf (a .m) (a .v .now)) (checked (a .t .now) (a .met)) (a .left) (a .p) _ (stateOf (a .c) (a .table .now)) _ (if1 .left) (p2 .given .1) (visit .ensures (a .m) (a .table .now)))
 
 visit-same-length-3 : (t : ℕ) → visit-lts.Need-same-length-3 (visit-of t) (visit-at t) visit.Post
 visit-same-length-3 t c = c .before .before .reference .kept .1 .1 .0
 
 visit-returns-5 : (t : ℕ) → visit-lts.Need-returns-5 (visit-of t) (visit-at t) visit.Post
 unfolding enter
-visit-returns-5 t c = c .before .before .reference .ensures ∙ sym (way.visit-some (sinkOf (c .before .before .before .before .before .before .before .before .before .before .before .args .m)) (sourceOf (c .before .before .before .before .before .before .before .before .before .before .before .args .m) (c .before .before .before .before .before .before .before .before .before .before .before .args .v .now)) (checked (c .before .before .before .before .before .before .before .before .before .before .before .args .t .now) (c .before .before .before .before .before .before .before .before .before .before .before .args .met)) (c .before .before .before .before .before .before .before .before .before .before .before .args .left) (c .before .before .before .before .before .before .before .before .before .before .before .args .p) _ (stateOf (c .before .before .before .before .before .before .before .before .before .before .before .args .c) (c .before .before .before .before .before .before .before .before .before .before .before .args .table .now)) _ (c .before .before .before .before .before .before .before .if1 .left) (c .before .before .before .before .enum-told2 .given .1) (c .before .before .before .before .before .before .visit .ensures (c .before .before .before .before .before .before .before .before .before .before .before .args .m) (c .before .before .before .before .before .before .before .before .before .before .before .args .table .now)))
+visit-returns-5 t c =
+  let a = c .before .before .before .before .before .before .before .before .before .before .before .args in
+  let if1 = c .before .before .before .before .before .before .before .if1 in
+  let enum-told2 = c .before .before .before .before .enum-told2 in
+  let visit = c .before .before .before .before .before .before .visit in
+  c .before .before .reference .ensures ∙ sym (way.visit-some (sinkOf (a .m)) (sourceOf (a .m) (a .v .now)) (checked (a .t .now) (a .met)) (a .left) (a .p) _ (stateOf (a .c) (a .table .now)) _ (if1 .left) (enum-told2 .given .1) (visit .ensures (a .m) (a .table .now)))
 
 visit-same-length-4 : (t : ℕ) → visit-lts.Need-same-length-4 (visit-of t) (visit-at t) visit.Post
 visit-same-length-4 t c = c .before .before .struct-members .kept .1 .1 .1 .1 .0
 
 visit-returns-6 : (t : ℕ) → visit-lts.Need-returns-6 (visit-of t) (visit-at t) visit.Post
 unfolding enter
-visit-returns-6 t c = c .before .before .struct-members .ensures ∙ sym (way.visit-some (sinkOf (c .before .before .before .before .before .before .before .before .before .before .before .before .args .m)) (sourceOf (c .before .before .before .before .before .before .before .before .before .before .before .before .args .m) (c .before .before .before .before .before .before .before .before .before .before .before .before .args .v .now)) (checked (c .before .before .before .before .before .before .before .before .before .before .before .before .args .t .now) (c .before .before .before .before .before .before .before .before .before .before .before .before .args .met)) (c .before .before .before .before .before .before .before .before .before .before .before .before .args .left) (c .before .before .before .before .before .before .before .before .before .before .before .before .args .p) _ (stateOf (c .before .before .before .before .before .before .before .before .before .before .before .before .args .c) (c .before .before .before .before .before .before .before .before .before .before .before .before .args .table .now)) _ (c .before .before .before .before .before .before .before .before .if1 .left) (c .before .before .before .before .before .p3 .given .1) (c .before .before .before .before .before .before .before .visit .ensures (c .before .before .before .before .before .before .before .before .before .before .before .before .args .m) (c .before .before .before .before .before .before .before .before .before .before .before .before .args .table .now)))
+visit-returns-6 t c =
+  let a = c .before .before .before .before .before .before .before .before .before .before .before .before .args in
+  let if1 = c .before .before .before .before .before .before .before .before .if1 in
+  let p3 = c .before .before .before .before .before .p3 in
+  let visit = c .before .before .before .before .before .before .before .visit in
+  c .before .before .struct-members .ensures ∙ sym (way.visit-some (sinkOf (a .m)) (sourceOf (a .m) (a .v .now)) (checked (a .t .now) (a .met)) (a .left) (a .p) _ (stateOf (a .c) (a .table .now)) _ (if1 .left) (p3 .given .1) (visit .ensures (a .m) (a .table .now)))
 
 visit-same-length-5 : (t : ℕ) → visit-lts.Need-same-length-5 (visit-of t) (visit-at t) visit.Post
 visit-same-length-5 t c = c .before .before .exception .kept .1 .1 .1 .1 .0
 
 visit-returns-7 : (t : ℕ) → visit-lts.Need-returns-7 (visit-of t) (visit-at t) visit.Post
 unfolding enter
-visit-returns-7 t c = c .before .before .exception .ensures ∙ sym (way.visit-some (sinkOf (c .before .before .before .before .before .before .before .before .before .before .before .before .args .m)) (sourceOf (c .before .before .before .before .before .before .before .before .before .before .before .before .args .m) (c .before .before .before .before .before .before .before .before .before .before .before .before .args .v .now)) (checked (c .before .before .before .before .before .before .before .before .before .before .before .before .args .t .now) (c .before .before .before .before .before .before .before .before .before .before .before .before .args .met)) (c .before .before .before .before .before .before .before .before .before .before .before .before .args .left) (c .before .before .before .before .before .before .before .before .before .before .before .before .args .p) _ (stateOf (c .before .before .before .before .before .before .before .before .before .before .before .before .args .c) (c .before .before .before .before .before .before .before .before .before .before .before .before .args .table .now)) _ (c .before .before .before .before .before .before .before .before .if1 .left) (c .before .before .before .before .before .p4 .given .1) (c .before .before .before .before .before .before .before .visit .ensures (c .before .before .before .before .before .before .before .before .before .before .before .before .args .m) (c .before .before .before .before .before .before .before .before .before .before .before .before .args .table .now)))
+visit-returns-7 t c =
+  let a = c .before .before .before .before .before .before .before .before .before .before .before .before .args in
+  let if1 = c .before .before .before .before .before .before .before .before .if1 in
+  let p4 = c .before .before .before .before .before .p4 in
+  let visit = c .before .before .before .before .before .before .before .visit in
+  c .before .before .exception .ensures ∙ sym (way.visit-some (sinkOf (a .m)) (sourceOf (a .m) (a .v .now)) (checked (a .t .now) (a .met)) (a .left) (a .p) _ (stateOf (a .c) (a .table .now)) _ (if1 .left) (p4 .given .1) (visit .ensures (a .m) (a .table .now)))
 
 visit-same-length-6 : (t : ℕ) → visit-lts.Need-same-length-6 (visit-of t) (visit-at t) visit.Post
 visit-same-length-6 t c = c .before .before .union-member .kept .1 .1 .1 .1 .0
 
 visit-returns-8 : (t : ℕ) → visit-lts.Need-returns-8 (visit-of t) (visit-at t) visit.Post
 unfolding enter
-visit-returns-8 t c = c .before .before .union-member .ensures ∙ sym (way.visit-some (sinkOf (c .before .before .before .before .before .before .before .before .before .before .before .before .args .m)) (sourceOf (c .before .before .before .before .before .before .before .before .before .before .before .before .args .m) (c .before .before .before .before .before .before .before .before .before .before .before .before .args .v .now)) (checked (c .before .before .before .before .before .before .before .before .before .before .before .before .args .t .now) (c .before .before .before .before .before .before .before .before .before .before .before .before .args .met)) (c .before .before .before .before .before .before .before .before .before .before .before .before .args .left) (c .before .before .before .before .before .before .before .before .before .before .before .before .args .p) _ (stateOf (c .before .before .before .before .before .before .before .before .before .before .before .before .args .c) (c .before .before .before .before .before .before .before .before .before .before .before .before .args .table .now)) _ (c .before .before .before .before .before .before .before .before .if1 .left) (c .before .before .before .before .before .p5 .given .1) (c .before .before .before .before .before .before .before .visit .ensures (c .before .before .before .before .before .before .before .before .before .before .before .before .args .m) (c .before .before .before .before .before .before .before .before .before .before .before .before .args .table .now)))
+visit-returns-8 t c =
+  let a = c .before .before .before .before .before .before .before .before .before .before .before .before .args in
+  let if1 = c .before .before .before .before .before .before .before .before .if1 in
+  let p5 = c .before .before .before .before .before .p5 in
+  let visit = c .before .before .before .before .before .before .before .visit in
+  c .before .before .union-member .ensures ∙ sym (way.visit-some (sinkOf (a .m)) (sourceOf (a .m) (a .v .now)) (checked (a .t .now) (a .met)) (a .left) (a .p) _ (stateOf (a .c) (a .table .now)) _ (if1 .left) (p5 .given .1) (visit .ensures (a .m) (a .table .now)))
 
 visit-same-length-7 : (t : ℕ) → visit-lts.Need-same-length-7 (visit-of t) (visit-at t) visit.Post
 visit-same-length-7 t c = c .before .before .enumerated .kept .1 .1 .0
 
 visit-returns-9 : (t : ℕ) → visit-lts.Need-returns-9 (visit-of t) (visit-at t) visit.Post
 unfolding enter
-visit-returns-9 t c = c .before .before .enumerated .ensures ∙ sym (way.visit-some (sinkOf (c .before .before .before .before .before .before .before .before .before .before .before .before .args .m)) (sourceOf (c .before .before .before .before .before .before .before .before .before .before .before .before .args .m) (c .before .before .before .before .before .before .before .before .before .before .before .before .args .v .now)) (checked (c .before .before .before .before .before .before .before .before .before .before .before .before .args .t .now) (c .before .before .before .before .before .before .before .before .before .before .before .before .args .met)) (c .before .before .before .before .before .before .before .before .before .before .before .before .args .left) (c .before .before .before .before .before .before .before .before .before .before .before .before .args .p) _ (stateOf (c .before .before .before .before .before .before .before .before .before .before .before .before .args .c) (c .before .before .before .before .before .before .before .before .before .before .before .before .args .table .now)) _ (c .before .before .before .before .before .before .before .before .if1 .left) (c .before .before .before .before .before .p6 .given .1) (c .before .before .before .before .before .before .before .visit .ensures (c .before .before .before .before .before .before .before .before .before .before .before .before .args .m) (c .before .before .before .before .before .before .before .before .before .before .before .before .args .table .now)))
+visit-returns-9 t c =
+  let a = c .before .before .before .before .before .before .before .before .before .before .before .before .args in
+  let if1 = c .before .before .before .before .before .before .before .before .if1 in
+  let p6 = c .before .before .before .before .before .p6 in
+  let visit = c .before .before .before .before .before .before .before .visit in
+  c .before .before .enumerated .ensures ∙ sym (way.visit-some (sinkOf (a .m)) (sourceOf (a .m) (a .v .now)) (checked (a .t .now) (a .met)) (a .left) (a .p) _ (stateOf (a .c) (a .table .now)) _ (if1 .left) (p6 .given .1) (visit .ensures (a .m) (a .table .now)))
 
 visit-same-length-8 : (t : ℕ) → visit-lts.Need-same-length-8 (visit-of t) (visit-at t) visit.Post
 visit-same-length-8 t c = c .before .before .sequence .kept .1 .1 .1 .1 .0
 
 visit-returns-10 : (t : ℕ) → visit-lts.Need-returns-10 (visit-of t) (visit-at t) visit.Post
 unfolding enter
-visit-returns-10 t c = c .before .before .sequence .ensures ∙ sym (way.visit-some (sinkOf (c .before .before .before .before .before .before .before .before .before .before .before .before .args .m)) (sourceOf (c .before .before .before .before .before .before .before .before .before .before .before .before .args .m) (c .before .before .before .before .before .before .before .before .before .before .before .before .args .v .now)) (checked (c .before .before .before .before .before .before .before .before .before .before .before .before .args .t .now) (c .before .before .before .before .before .before .before .before .before .before .before .before .args .met)) (c .before .before .before .before .before .before .before .before .before .before .before .before .args .left) (c .before .before .before .before .before .before .before .before .before .before .before .before .args .p) _ (stateOf (c .before .before .before .before .before .before .before .before .before .before .before .before .args .c) (c .before .before .before .before .before .before .before .before .before .before .before .before .args .table .now)) _ (c .before .before .before .before .before .before .before .before .if1 .left) (c .before .before .before .before .before .p7 .given .1) (c .before .before .before .before .before .before .before .visit .ensures (c .before .before .before .before .before .before .before .before .before .before .before .before .args .m) (c .before .before .before .before .before .before .before .before .before .before .before .before .args .table .now)))
+visit-returns-10 t c =
+  let a = c .before .before .before .before .before .before .before .before .before .before .before .before .args in
+  let if1 = c .before .before .before .before .before .before .before .before .if1 in
+  let p7 = c .before .before .before .before .before .p7 in
+  let visit = c .before .before .before .before .before .before .before .visit in
+  c .before .before .sequence .ensures ∙ sym (way.visit-some (sinkOf (a .m)) (sourceOf (a .m) (a .v .now)) (checked (a .t .now) (a .met)) (a .left) (a .p) _ (stateOf (a .c) (a .table .now)) _ (if1 .left) (p7 .given .1) (visit .ensures (a .m) (a .table .now)))
 
 visit-same-length-9 : (t : ℕ) → visit-lts.Need-same-length-9 (visit-of t) (visit-at t) visit.Post
 visit-same-length-9 t c = c .before .before .elements .kept .1 .1 .1 .1 .0
 
 visit-returns-11 : (t : ℕ) → visit-lts.Need-returns-11 (visit-of t) (visit-at t) visit.Post
-visit-returns-11 t c = c .before .before .elements .ensures ∙ sym (way.visit-array (sinkOf (c .before .before .before .before .before .before .before .before .before .before .before .before .before .args .m)) (sourceOf (c .before .before .before .before .before .before .before .before .before .before .before .before .before .args .m) (c .before .before .before .before .before .before .before .before .before .before .before .before .before .args .v .now)) (checked (c .before .before .before .before .before .before .before .before .before .before .before .before .before .args .t .now) (c .before .before .before .before .before .before .before .before .before .before .before .before .before .args .met)) (c .before .before .before .before .before .before .before .before .before .before .before .before .before .args .left) (c .before .before .before .before .before .before .before .before .before .before .before .before .before .args .p) _ _ _ (stateOf (c .before .before .before .before .before .before .before .before .before .before .before .before .before .args .c) (c .before .before .before .before .before .before .before .before .before .before .before .before .before .args .table .now)) _ (c .before .before .before .before .before .before .before .before .before .if1 .left) (c .before .before .before .before .before .before .p8 .given .1) (c .before .before .before .before .before .before .before .before .visit .ensures (c .before .before .before .before .before .before .before .before .before .before .before .before .before .args .m) (c .before .before .before .before .before .before .before .before .before .before .before .before .before .args .table .now)) (c .before .before .before .before .within .ensures))
+visit-returns-11 t c =
+  let a = c .before .before .before .before .before .before .before .before .before .before .before .before .before .args in
+  let if1 = c .before .before .before .before .before .before .before .before .before .if1 in
+  let p8 = c .before .before .before .before .before .before .p8 in
+  let visit = c .before .before .before .before .before .before .before .before .visit in
+  let within = c .before .before .before .before .within in
+  c .before .before .elements .ensures ∙ sym (way.visit-array (sinkOf (a .m)) (sourceOf (a .m) (a .v .now)) (checked (a .t .now) (a .met)) (a .left) (a .p) _ _ _ (stateOf (a .c) (a .table .now)) _ (if1 .left) (p8 .given .1) (visit .ensures (a .m) (a .table .now)) (within .ensures))
 
 visit-same-length-10 : (t : ℕ) → visit-lts.Need-same-length-10 (visit-of t) (visit-at t) visit.Post
 visit-same-length-10 t c = c .before .before .visit2 .kept .1 .1 .1 .1 .0
 
 visit-returns-12 : (t : ℕ) → visit-lts.Need-returns-12 (visit-of t) (visit-at t) visit.Post
 unfolding enter
-visit-returns-12 t c = c .before .before .visit2 .ensures ∙ ap (λ (p : Parameters). reads (sinkOf (c .before .before .before .before .before .before .before .before .before .before .before .before .before .args .m)) (sourceOf (c .before .before .before .before .before .before .before .before .before .before .before .before .before .args .m) (c .before .before .before .before .before .before .before .before .before .before .before .before .before .args .v .now)) (checked (c .before .before .before .before .before .before .before .before .before .before .before .before .before .args .t .now) (c .before .before .before .before .before .before .before .before .before .before .before .before .before .args .met)) (c .before .before .before .before .before .before .before .before .before .before .before .before .before .args .left - 1) p (stateOf (c .before .before .before .before .before .before .before .before .visit .result) (c .before .before .before .before .before .before .before .before .before .before .before .before .before .args .table .now))) (c .before .before .before .before .within2 .ensures) ∙ sym (way.visit-some (sinkOf (c .before .before .before .before .before .before .before .before .before .before .before .before .before .args .m)) (sourceOf (c .before .before .before .before .before .before .before .before .before .before .before .before .before .args .m) (c .before .before .before .before .before .before .before .before .before .before .before .before .before .args .v .now)) (checked (c .before .before .before .before .before .before .before .before .before .before .before .before .before .args .t .now) (c .before .before .before .before .before .before .before .before .before .before .before .before .before .args .met)) (c .before .before .before .before .before .before .before .before .before .before .before .before .before .args .left) (c .before .before .before .before .before .before .before .before .before .before .before .before .before .args .p) _ (stateOf (c .before .before .before .before .before .before .before .before .before .before .before .before .before .args .c) (c .before .before .before .before .before .before .before .before .before .before .before .before .before .args .table .now)) _ (c .before .before .before .before .before .before .before .before .before .if1 .left) (c .before .before .before .before .before .before .p9 .given .1) (c .before .before .before .before .before .before .before .before .visit .ensures (c .before .before .before .before .before .before .before .before .before .before .before .before .before .args .m) (c .before .before .before .before .before .before .before .before .before .before .before .before .before .args .table .now)))
+visit-returns-12 t c =
+  let a = c .before .before .before .before .before .before .before .before .before .before .before .before .before .args in
+  let visit = c .before .before .before .before .before .before .before .before .visit in
+  let within2 = c .before .before .before .before .within2 in
+  let if1 = c .before .before .before .before .before .before .before .before .before .if1 in
+  let p9 = c .before .before .before .before .before .before .p9 in
+  c .before .before .visit2 .ensures ∙ ap (λ (p : Parameters). reads (sinkOf (a .m)) (sourceOf (a .m) (a .v .now)) (checked (a .t .now) (a .met)) (a .left - 1) p (stateOf (visit .result) (a .table .now))) (within2 .ensures) ∙ sym (way.visit-some (sinkOf (a .m)) (sourceOf (a .m) (a .v .now)) (checked (a .t .now) (a .met)) (a .left) (a .p) _ (stateOf (a .c) (a .table .now)) _ (if1 .left) (p9 .given .1) (visit .ensures (a .m) (a .table .now)))
 
 pub +each+elements+exception+sequence+struct-members+union-member+visit-spec :
     {M : Type 1} → statement M

@@ -9,13 +9,17 @@ use Rattle.reading.proofs.Ways as way
 use Rattle.leaves.specs.Walk.{sinkOf, sourceOf, stateOf}
 
 returns : tie.Need-returns
-returns c = λ t. sym (way.elements-none (sinkOf (c .before .before .before .args .m)) (sourceOf (c .before .before .before .args .m) (c .before .before .before .args .v .now)) (reads (sinkOf (c .before .before .before .args .m)) (sourceOf (c .before .before .before .args .m) (c .before .before .before .args .v .now)) t (c .before .before .before .args .left)) _ (c .before .before .before .args .count) (stateOf (c .before .before .before .args .c) (c .before .before .before .args .table .now)) (c .if1 .taken))
+returns c =
+  let a = c .before .before .before .args in
+  λ t. sym (way.elements-none (sinkOf (a .m)) (sourceOf (a .m) (a .v .now)) (reads (sinkOf (a .m)) (sourceOf (a .m) (a .v .now)) t (a .left)) _ (a .count) (stateOf (a .c) (a .table .now)) (c .if1 .taken))
 
 refused-requires : tie.Need-refused-requires
 refused-requires c κs = search needs
 
 returns-2 : tie.Need-returns-2
-returns-2 c = λ t. c .refused .ensures (c .before .before .before .before .before .args .table .now) ∙ sym (way.elements-refused (sinkOf (c .before .before .before .before .before .args .m)) (sourceOf (c .before .before .before .before .before .args .m) (c .before .before .before .before .before .args .v .now)) t (c .before .before .before .before .before .args .left) _ (c .before .before .before .before .before .args .count) (stateOf (c .before .before .before .before .before .args .c) (c .before .before .before .before .before .args .table .now)) (c .before .if2 .taken) (c .before .before .if1 .left))
+returns-2 c =
+  let a = c .before .before .before .before .before .args in
+  λ t. c .refused .ensures (a .table .now) ∙ sym (way.elements-refused (sinkOf (a .m)) (sourceOf (a .m) (a .v .now)) t (a .left) _ (a .count) (stateOf (a .c) (a .table .now)) (c .before .if2 .taken) (c .before .before .if1 .left))
 
 leaves-requires : tie.Need-leaves-requires
 leaves-requires c κs = search needs
@@ -24,7 +28,10 @@ same-length : tie.Need-same-length
 same-length c = search needs
 
 returns-3 : tie.Need-returns-3
-returns-3 c = λ t. c .before .before .leaves .ensures ∙ sym (way.elements-leaves (sinkOf (c .before .before .before .before .before .before .before .before .args .m)) (sourceOf (c .before .before .before .before .before .before .before .before .args .m) (c .before .before .before .before .before .before .before .before .args .v .now)) t (c .before .before .before .before .before .before .before .before .args .left) (c .before .before .before .before .before .before .before .before .args .kind) (c .before .before .before .before .before .before .before .before .args .count) (stateOf (c .before .before .before .before .before .before .before .before .args .c) (c .before .before .before .before .before .before .before .before .args .table .now)) (omega (arith, c .before .before .before .before .if2 .left)))
+returns-3 c =
+  let a = c .before .before .before .before .before .before .before .before .args in
+  let if2 = c .before .before .before .before .if2 in
+  λ t. c .before .before .leaves .ensures ∙ sym (way.elements-leaves (sinkOf (a .m)) (sourceOf (a .m) (a .v .now)) t (a .left) (a .kind) (a .count) (stateOf (a .c) (a .table .now)) (omega (arith, if2 .left)))
 
 pub leaf-elements-spec : {M : Type 1} → statement M
 leaf-elements-spec =

@@ -23,7 +23,11 @@ same-length : tie.Need-same-length
 same-length c = search needs
 
 returns : tie.Need-returns
-returns c = c .before .before .visit .ensures ∙ ap (λ (p : Parameters). reads (sinkOf (c .before .before .before .before .before .before .before .before .before .args .m)) (sourceOf (c .before .before .before .before .before .before .before .before .before .args .m) (c .before .before .before .before .before .before .before .before .before .args .v .now)) (checked (c .before .before .before .before .before .before .before .before .before .args .t .now) (c .before .before .before .before .before .before .before .before .before .args .met)) 64 p (stateOf (c .before .before .before .start .result) (c .before .before .before .before .before .before .before .before .before .args .table .now))) (c .before .before .before .before .before .within .ensures) ∙ ap (λ (w : Cursor). reads (sinkOf (c .before .before .before .before .before .before .before .before .before .args .m)) (sourceOf (c .before .before .before .before .before .before .before .before .before .args .m) (c .before .before .before .before .before .before .before .before .before .args .v .now)) (checked (c .before .before .before .before .before .before .before .before .before .args .t .now) (c .before .before .before .before .before .before .before .before .before .args .met)) 64 (inside (checked (c .before .before .before .before .before .before .before .before .before .args .t .now) (c .before .before .before .before .before .before .before .before .before .args .met)) (placeOf 0)) (stateOf w (c .before .before .before .before .before .before .before .before .before .args .table .now))) (c .before .before .before .start .ensures)
+returns c =
+  let a = c .before .before .before .before .before .before .before .before .before .args in
+  let start = c .before .before .before .start in
+  let within = c .before .before .before .before .before .within in
+  c .before .before .visit .ensures ∙ ap (λ (p : Parameters). reads (sinkOf (a .m)) (sourceOf (a .m) (a .v .now)) (checked (a .t .now) (a .met)) 64 p (stateOf (start .result) (a .table .now))) (within .ensures) ∙ ap (λ (w : Cursor). reads (sinkOf (a .m)) (sourceOf (a .m) (a .v .now)) (checked (a .t .now) (a .met)) 64 (inside (checked (a .t .now) (a .met)) (placeOf 0)) (stateOf w (a .table .now))) (start .ensures)
 
 pub walk-spec : {M : Type 1} → statement M
 walk-spec = tie.close (tie.spec within-requires start-requires visit-requires same-length returns)

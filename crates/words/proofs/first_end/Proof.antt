@@ -23,12 +23,13 @@ shared-slice-read-if1 c = search needs
 
 returns : tie.Need-returns Inv-loop μ-loop
 returns c =
-    let l = c .before .before .before .loop in
+  let a = c .before .before .before .before .args in
+  let l = c .before .before .before .loop in
     let h = c .before .before .loop-test .taken in
     record {
       within = omega arith;
       only = λ k. absurd (omega arith);
-      more = λ k. word-ended (c .before .before .before .before .args .line .now) (l .i) (l .inv .1) h (c .if1 .taken);
+      more = λ k. word-ended (a .line .now) (l .i) (l .inv .1) h (c .if1 .taken);
     }
 
 add-i : tie.Need-add-i Inv-loop μ-loop
@@ -39,8 +40,9 @@ loop-less c = search needs
 
 loop-again : tie.Need-loop-again Inv-loop μ-loop
 loop-again c =
-    let l = c .before .before .before .loop in
-    (omega arith, word-onward (c .before .before .before .before .args .line .now) (l .i) (l .inv .1) (c .before .before .loop-test .taken) (c .if1 .left))
+  let a = c .before .before .before .before .args in
+  let l = c .before .before .before .loop in
+    (omega arith, word-onward (a .line .now) (l .i) (l .inv .1) (c .before .before .loop-test .taken) (c .if1 .left))
 
 returns-2 : tie.Need-returns-2 Inv-loop μ-loop
 returns-2 c =

@@ -18,15 +18,17 @@ add-t8 c = search needs
 
 returns : tie.Need-returns
 returns c =
-    let o = c .before .before .args in
-    let h : o .self .0 + c .before .gap .result < 2 ^ 64 = omega arith in
-    rw (c .before .gap .ensures, lt-ltb (aligned (o .self .0) (octets (o .size))) (2 ^ 64) (rw (c .before .gap .ensures) at h))
+  let gap = c .before .gap in
+  let o = c .before .before .args in
+    let h : o .self .0 + gap .result < 2 ^ 64 = omega arith in
+    rw (gap .ensures, lt-ltb (aligned (o .self .0) (octets (o .size))) (2 ^ 64) (rw (gap .ensures) at h))
 
 returns-2 : tie.Need-returns-2
 returns-2 c =
-    let o = c .before .before .args in
-    let h : 2 ^ 64 ≤ o .self .0 + c .before .gap .result = omega arith in
-    rw (le-ltb (aligned (o .self .0) (octets (o .size))) (2 ^ 64) (rw (c .before .gap .ensures) at h))
+  let gap = c .before .gap in
+  let o = c .before .before .args in
+    let h : 2 ^ 64 ≤ o .self .0 + gap .result = omega arith in
+    rw (le-ltb (aligned (o .self .0) (octets (o .size))) (2 ^ 64) (rw (gap .ensures) at h))
 
 pub aligned-spec : {M : Type 1} → statement M
 aligned-spec = tie.close (tie.spec gap-requires sub-if1 add-t8 returns returns-2)

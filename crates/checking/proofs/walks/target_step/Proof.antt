@@ -21,7 +21,9 @@ refused-requires c κs = search needs
 
 returns : tie.Need-returns
 unfolding targetStep
-returns c = rw (position-nowhere (c .before .before .before .before .before .before .args .walk .met) (c .before .before .before .before .before .before .args .place) (sym (c .before .before .before .position .ensures) ∙ c .before .enum-told .given .1)) (c .refused .ensures)
+returns c =
+  let a = c .before .before .before .before .before .before .args in
+  rw (position-nowhere (a .walk .met) (a .place) (sym (c .before .before .before .position .ensures) ∙ c .before .enum-told .given .1)) (c .refused .ensures)
 
 barred-at-requires : tie.Need-barred-at-requires
 barred-at-requires c κs = search needs
@@ -31,14 +33,22 @@ refused-requires-2 c κs = search needs
 
 returns-2 : tie.Need-returns-2
 unfolding targetStep
-returns-2 c = rw (position-facts (c .before .before .before .before .before .before .before .before .before .args .walk .met) (c .before .before .before .before .before .before .before .before .before .args .place) _ (sym (c .before .before .before .before .before .before .position .ensures) ∙ c .before .before .before .before .i .given .1) .0, lt-ltb _ _ (position-facts (c .before .before .before .before .before .before .before .before .before .args .walk .met) (c .before .before .before .before .before .before .before .before .before .args .place) _ (sym (c .before .before .before .before .before .before .position .ensures) ∙ c .before .before .before .before .i .given .1) .1), sym (c .before .before .barred-at .ensures) ∙ c .before .if1 .taken) (c .refused2 .ensures)
+returns-2 c =
+  let a = c .before .before .before .before .before .before .before .before .before .args in
+  let position = c .before .before .before .before .before .before .position in
+  let i = c .before .before .before .before .i in
+  rw (position-facts (a .walk .met) (a .place) _ (sym (position .ensures) ∙ i .given .1) .0, lt-ltb _ _ (position-facts (a .walk .met) (a .place) _ (sym (position .ensures) ∙ i .given .1) .1), sym (c .before .before .barred-at .ensures) ∙ c .before .if1 .taken) (c .refused2 .ensures)
 
 goes-on-requires : tie.Need-goes-on-requires
 goes-on-requires c κs = search needs
 
 returns-3 : tie.Need-returns-3
 unfolding targetStep
-returns-3 c = rw (position-facts (c .before .before .before .before .before .before .before .before .before .args .walk .met) (c .before .before .before .before .before .before .before .before .before .args .place) _ (sym (c .before .before .before .before .before .before .position .ensures) ∙ c .before .before .before .before .i .given .1) .0, lt-ltb _ _ (position-facts (c .before .before .before .before .before .before .before .before .before .args .walk .met) (c .before .before .before .before .before .before .before .before .before .args .place) _ (sym (c .before .before .before .before .before .before .position .ensures) ∙ c .before .before .before .before .i .given .1) .1), sym (c .before .before .barred-at .ensures) ∙ c .before .if1 .left) (c .goes-on .ensures)
+returns-3 c =
+  let a = c .before .before .before .before .before .before .before .before .before .args in
+  let position = c .before .before .before .before .before .before .position in
+  let i = c .before .before .before .before .i in
+  rw (position-facts (a .walk .met) (a .place) _ (sym (position .ensures) ∙ i .given .1) .0, lt-ltb _ _ (position-facts (a .walk .met) (a .place) _ (sym (position .ensures) ∙ i .given .1) .1), sym (c .before .before .barred-at .ensures) ∙ c .before .if1 .left) (c .goes-on .ensures)
 
 pub target-step-spec : {M : Type 1} → statement M
 target-step-spec =

@@ -14,7 +14,10 @@ enum-known-from : tie.Need-enum-known-from
 enum-known-from c = search needs
 
 add-t10 : tie.Need-add-t10
-add-t10 c = omega (arith, field-inside (c .before .before .before .before .before .before .before .args .v .now) (c .before .before .before .before .before .before .before .args .start) (c .before .before .before .before .before .before .before .args .at) Four (c .before .before .before .before .before .before .before .args .order) _ _ (sym (c .before .before .before .before .before .field-in .ensures) ∙ c .before .before .before .from .given .1) .1)
+add-t10 c =
+  let a = c .before .before .before .before .before .before .before .args in
+  let field-in = c .before .before .before .before .before .field-in in
+  omega (arith, field-inside (a .v .now) (a .start) (a .at) Four (a .order) _ _ (sym (field-in .ensures) ∙ c .before .before .before .from .given .1) .1)
 
 encapsulated-requires : tie.Need-encapsulated-requires
 encapsulated-requires c κs = search needs
@@ -23,7 +26,10 @@ enum-told : tie.Need-enum-told
 enum-told c = search needs
 
 returns : tie.Need-returns
-returns c = rw (sym (c .before .before .before .before .before .before .field-in .ensures) ∙ c .before .before .before .before .from .given .1) (c .encapsulated .ensures)
+returns c =
+  let field-in = c .before .before .before .before .before .before .field-in in
+  let from2 = c .before .before .before .before .from in
+  rw (sym (field-in .ensures) ∙ from2 .given .1) (c .encapsulated .ensures)
 
 returns-2 : tie.Need-returns-2
 returns-2 c = rw (sym (c .before .before .field-in .ensures) ∙ c .enum-told .given .1)

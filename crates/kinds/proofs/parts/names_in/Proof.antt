@@ -19,7 +19,9 @@ enum-told c = search needs
 
 returns : tie.Need-returns
 unfolding namesIn
-returns c = rw (sym (c .before .before .before .before .skip-counted .ensures) ∙ c .before .before .i .given .1) (c .skip-counted2 .ensures)
+returns c =
+  let skip-counted = c .before .before .before .before .skip-counted in
+  rw (sym (skip-counted .ensures) ∙ c .before .before .i .given .1) (c .skip-counted2 .ensures)
 
 returns-2 : tie.Need-returns-2
 unfolding namesIn

@@ -10,7 +10,9 @@ wrapping-add-u64-requires : tie.Need-wrapping-add-u64-requires
 wrapping-add-u64-requires c κs = search needs
 
 returns : tie.Need-returns
-returns c = λ m table. ap (λ (n : ℕ). stateOf (record { at = c .before .args .self .at; visits = n; items = c .before .args .self .items; fault = c .before .args .self .fault; last = c .before .args .self .last }) table) (c .wrapping-add-u64 .ensures)
+returns c =
+  let a = c .before .args in
+  λ m table. ap (λ (n : ℕ). stateOf (record { at = a .self .at; visits = n; items = a .self .items; fault = a .self .fault; last = a .self .last }) table) (c .wrapping-add-u64 .ensures)
 
 pub visit-spec : {M : Type 1} → statement M
 visit-spec = tie.close (tie.spec wrapping-add-u64-requires returns)

@@ -12,7 +12,9 @@ refused-requires : tie.Need-refused-requires
 refused-requires c κs = search needs
 
 returns : tie.Need-returns
-returns c = λ v. c .refused .ensures _ ∙ sym (way.leaf-above (sinkOf (c .before .before .before .before .args .m)) (sourceOf (c .before .before .before .before .args .m) v) (c .before .before .before .before .args .kind) (c .before .before .before .before .args .place) (c .before .before .before .before .args .value) _ (c .before .before .if1 .taken) (c .before .if2 .taken))
+returns c =
+  let a = c .before .before .before .before .args in
+  λ v. c .refused .ensures _ ∙ sym (way.leaf-above (sinkOf (a .m)) (sourceOf (a .m) v) (a .kind) (a .place) (a .value) _ (c .before .before .if1 .taken) (c .before .if2 .taken))
 
 put-requires : tie.Need-put-requires
 put-requires c κs = search needs
@@ -21,7 +23,11 @@ same-length : tie.Need-same-length
 same-length c = search needs
 
 returns-2 : tie.Need-returns-2
-returns-2 c = λ v. c .before .before .put .ensures ∙ sym (way.leaf-boolean (sinkOf (c .before .before .before .before .before .before .before .args .m)) (sourceOf (c .before .before .before .before .before .before .before .args .m) v) (c .before .before .before .before .before .before .before .args .kind) (c .before .before .before .before .before .before .before .args .place) (c .before .before .before .before .before .before .before .args .value) _ (c .before .before .before .before .before .if1 .taken) (c .before .before .before .before .if2 .left))
+returns-2 c =
+  let a = c .before .before .before .before .before .before .before .args in
+  let if1 = c .before .before .before .before .before .if1 in
+  let if2 = c .before .before .before .before .if2 in
+  λ v. c .before .before .put .ensures ∙ sym (way.leaf-boolean (sinkOf (a .m)) (sourceOf (a .m) v) (a .kind) (a .place) (a .value) _ (if1 .taken) (if2 .left))
 
 content-of-requires : tie.Need-content-of-requires
 content-of-requires c κs = search needs
@@ -33,7 +39,10 @@ same-length-2 : tie.Need-same-length-2
 same-length-2 c = search needs
 
 returns-3 : tie.Need-returns-3
-returns-3 c = λ v. c .before .before .put2 .ensures ∙ ap (λ (n : ℕ). done (sinkOf (c .before .before .before .before .before .before .before .args .m)) (item (c .before .before .before .before .before .before .before .args .kind) (c .before .before .before .before .before .before .before .args .place) n) (stateOf (c .before .before .before .before .before .before .before .args .c) (c .before .before .before .before .before .before .before .args .table .now))) (c .before .before .before .content-of .ensures) ∙ sym (way.leaf-other (sinkOf (c .before .before .before .before .before .before .before .args .m)) (sourceOf (c .before .before .before .before .before .before .before .args .m) v) (c .before .before .before .before .before .before .before .args .kind) (c .before .before .before .before .before .before .before .args .place) (c .before .before .before .before .before .before .before .args .value) _ (c .before .before .before .before .before .if1 .left))
+returns-3 c =
+  let a = c .before .before .before .before .before .before .before .args in
+  let if1 = c .before .before .before .before .before .if1 in
+  λ v. c .before .before .put2 .ensures ∙ ap (λ (n : ℕ). done (sinkOf (a .m)) (item (a .kind) (a .place) n) (stateOf (a .c) (a .table .now))) (c .before .before .before .content-of .ensures) ∙ sym (way.leaf-other (sinkOf (a .m)) (sourceOf (a .m) v) (a .kind) (a .place) (a .value) _ (if1 .left))
 
 pub leaf-done-spec : {M : Type 1} → statement M
 leaf-done-spec =

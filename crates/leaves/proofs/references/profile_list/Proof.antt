@@ -23,10 +23,17 @@ profile-requires : tie.Need-profile-requires Inv-loop μ-loop
 profile-requires c κs = search needs
 
 same-length : tie.Need-same-length Inv-loop μ-loop
-same-length c = c .before .before .before .before .profile .kept .1 .1 .0 ∙ c .before .before .before .before .before .before .before .loop .inv .same
+same-length c =
+  let profile = c .before .before .before .before .profile in
+  let loop = c .before .before .before .before .before .before .before .loop in
+  profile .kept .1 .1 .0 ∙ loop .inv .same
 
 returns : tie.Need-returns Inv-loop μ-loop
-returns c = going-stop (c .before .before .before .before .before .before .before .loop .inv) (c .before .before .before .before .before .before .loop-test .taken) (c .before .before .before .before .profile .ensures) (c .if1 .taken)
+returns c =
+  let loop = c .before .before .before .before .before .before .before .loop in
+  let loop-test = c .before .before .before .before .before .before .loop-test in
+  let profile = c .before .before .before .before .profile in
+  going-stop (loop .inv) (loop-test .taken) (profile .ensures) (c .if1 .taken)
 
 add-k : tie.Need-add-k Inv-loop μ-loop
 add-k c = search needs
@@ -35,7 +42,11 @@ loop-less : tie.Need-loop-less Inv-loop μ-loop
 loop-less c = omega arith
 
 loop-again : tie.Need-loop-again Inv-loop μ-loop
-loop-again c = going-more (c .before .before .before .before .before .before .before .loop .inv) (c .before .before .before .before .before .before .loop-test .taken) (c .before .before .before .before .profile .ensures) (c .before .before .before .before .profile .kept .1 .1 .0) (c .if1 .left)
+loop-again c =
+  let loop = c .before .before .before .before .before .before .before .loop in
+  let loop-test = c .before .before .before .before .before .before .loop-test in
+  let profile = c .before .before .before .before .profile in
+  going-more (loop .inv) (loop-test .taken) (profile .ensures) (profile .kept .1 .1 .0) (c .if1 .left)
 
 same-length-2 : tie.Need-same-length-2 Inv-loop μ-loop
 same-length-2 c = c .before .loop .inv .same

@@ -30,10 +30,16 @@ same-length : tie.Need-same-length
 same-length c = search needs
 
 returns : tie.Need-returns
-returns c = λ p. c .before .before .put .ensures ∙ ap (done (sinkOf (c .before .before .before .before .before .before .before .before .before .before .before .args .m)) (item 256 (c .before .before .before .before .before .before .before .before .before .before .before .args .c .at) (c .before .before .before .before .before .before .before .before .before .before .before .args .count))) (c .before .before .before .passed .ensures (c .before .before .before .before .before .before .before .before .before .before .before .args .m) (c .before .before .before .before .before .before .before .before .before .before .before .args .table .now) (c .before .before .before .before .before .before .before .before .before .before .before .args .c .at) (octetsAt (sinkOf (c .before .before .before .before .before .before .before .before .before .before .before .args .m)) (sourceOf (c .before .before .before .before .before .before .before .before .before .before .before .args .m) (c .before .before .before .before .before .before .before .before .before .before .before .args .v .now)) (c .before .before .before .before .before .before .before .before .before .before .before .args .c .at) (c .before .before .before .before .before .before .before .before .before .before .before .args .count))) ∙ sym (way.run-some (sinkOf (c .before .before .before .before .before .before .before .before .before .before .before .args .m)) (sourceOf (c .before .before .before .before .before .before .before .before .before .before .before .args .m) (c .before .before .before .before .before .before .before .before .before .before .before .args .v .now)) p (c .before .before .before .before .before .before .before .before .before .before .before .args .count) (stateOf (c .before .before .before .before .before .before .before .before .before .before .before .args .c) (c .before .before .before .before .before .before .before .before .before .before .before .args .table .now)) _ (sym (c .before .before .before .before .before .before .before .before .read-run .ensures) ∙ c .before .before .before .before .before .before .end .given .1))
+returns c =
+  let a = c .before .before .before .before .before .before .before .before .before .before .before .args in
+  let read-run = c .before .before .before .before .before .before .before .before .read-run in
+  let end = c .before .before .before .before .before .before .end in
+  λ p. c .before .before .put .ensures ∙ ap (done (sinkOf (a .m)) (item 256 (a .c .at) (a .count))) (c .before .before .before .passed .ensures (a .m) (a .table .now) (a .c .at) (octetsAt (sinkOf (a .m)) (sourceOf (a .m) (a .v .now)) (a .c .at) (a .count))) ∙ sym (way.run-some (sinkOf (a .m)) (sourceOf (a .m) (a .v .now)) p (a .count) (stateOf (a .c) (a .table .now)) _ (sym (read-run .ensures) ∙ end .given .1))
 
 returns-2 : tie.Need-returns-2
-returns-2 c = λ p. c .refused .ensures (c .before .before .before .before .before .before .args .table .now) ∙ sym (way.run-none (sinkOf (c .before .before .before .before .before .before .args .m)) (sourceOf (c .before .before .before .before .before .before .args .m) (c .before .before .before .before .before .before .args .v .now)) p (c .before .before .before .before .before .before .args .count) (stateOf (c .before .before .before .before .before .before .args .c) (c .before .before .before .before .before .before .args .table .now)) (sym (c .before .before .before .read-run .ensures) ∙ c .before .enum-told .given .1))
+returns-2 c =
+  let a = c .before .before .before .before .before .before .args in
+  λ p. c .refused .ensures (a .table .now) ∙ sym (way.run-none (sinkOf (a .m)) (sourceOf (a .m) (a .v .now)) p (a .count) (stateOf (a .c) (a .table .now)) (sym (c .before .before .before .read-run .ensures) ∙ c .before .enum-told .given .1))
 
 pub run-got-spec : {M : Type 1} → statement M
 run-got-spec =

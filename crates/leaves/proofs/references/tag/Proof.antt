@@ -19,7 +19,10 @@ enum-known-at : tie.Need-enum-known-at
 enum-known-at c = search needs
 
 add-took : tie.Need-add-took
-add-took c = omega (arith, read-facts (c .before .before .before .before .before .before .before .args .v .now) (c .before .before .before .before .before .before .before .args .m .start) (c .before .before .before .before .before .before .before .args .c .at) Four (c .before .before .before .before .before .before .before .args .m .order) _ _ (sym (c .before .before .before .before .number-at .ensures) ∙ c .before .before .at .given .1) .fits)
+add-took c =
+  let a = c .before .before .before .before .before .before .before .args in
+  let number-at = c .before .before .before .before .number-at in
+  omega (arith, read-facts (a .v .now) (a .m .start) (a .c .at) Four (a .m .order) _ _ (sym (number-at .ensures) ∙ c .before .before .at .given .1) .fits)
 
 took-requires : tie.Need-took-requires
 took-requires c κs = search needs
@@ -38,11 +41,17 @@ same-length c = search needs
 
 returns : tie.Need-returns
 unfolding tagAt tagDone
-returns c = c .before .before .put .ensures ∙ ap (done (sinkOf (c .before .before .before .before .before .before .before .before .before .before .before .args .m)) (item 5 _ _)) (c .before .before .before .took .ensures (c .before .before .before .before .before .before .before .before .before .before .before .args .m) (c .before .before .before .before .before .before .before .before .before .before .before .args .table .now) _ _ 4) ∙ sym (way.number-some (sinkOf (c .before .before .before .before .before .before .before .before .before .before .before .args .m)) (sourceOf (c .before .before .before .before .before .before .before .before .before .before .before .args .m) (c .before .before .before .before .before .before .before .before .before .before .before .args .v .now)) Four (tagDone (sinkOf (c .before .before .before .before .before .before .before .before .before .before .before .args .m)) (sourceOf (c .before .before .before .before .before .before .before .before .before .before .before .args .m) (c .before .before .before .before .before .before .before .before .before .before .before .args .v .now))) (stateOf (c .before .before .before .before .before .before .before .before .before .before .before .args .c) (c .before .before .before .before .before .before .before .before .before .before .before .args .table .now)) _ _ (sym (c .before .before .before .before .before .before .before .before .number-at .ensures) ∙ c .before .before .before .before .before .before .at .given .1))
+returns c =
+  let a = c .before .before .before .before .before .before .before .before .before .before .before .args in
+  let number-at = c .before .before .before .before .before .before .before .before .number-at in
+  let at2 = c .before .before .before .before .before .before .at in
+  c .before .before .put .ensures ∙ ap (done (sinkOf (a .m)) (item 5 _ _)) (c .before .before .before .took .ensures (a .m) (a .table .now) _ _ 4) ∙ sym (way.number-some (sinkOf (a .m)) (sourceOf (a .m) (a .v .now)) Four (tagDone (sinkOf (a .m)) (sourceOf (a .m) (a .v .now))) (stateOf (a .c) (a .table .now)) _ _ (sym (number-at .ensures) ∙ at2 .given .1))
 
 returns-2 : tie.Need-returns-2
 unfolding tagAt
-returns-2 c = c .refused .ensures (c .before .before .before .before .before .before .args .table .now) ∙ sym (way.number-none (sinkOf (c .before .before .before .before .before .before .args .m)) (sourceOf (c .before .before .before .before .before .before .args .m) (c .before .before .before .before .before .before .args .v .now)) Four (tagDone (sinkOf (c .before .before .before .before .before .before .args .m)) (sourceOf (c .before .before .before .before .before .before .args .m) (c .before .before .before .before .before .before .args .v .now))) (stateOf (c .before .before .before .before .before .before .args .c) (c .before .before .before .before .before .before .args .table .now)) (sym (c .before .before .before .number-at .ensures) ∙ c .before .enum-told .given .1))
+returns-2 c =
+  let a = c .before .before .before .before .before .before .args in
+  c .refused .ensures (a .table .now) ∙ sym (way.number-none (sinkOf (a .m)) (sourceOf (a .m) (a .v .now)) Four (tagDone (sinkOf (a .m)) (sourceOf (a .m) (a .v .now))) (stateOf (a .c) (a .table .now)) (sym (c .before .before .before .number-at .ensures) ∙ c .before .enum-told .given .1))
 
 pub tag-spec : {M : Type 1} → statement M
 tag-spec =

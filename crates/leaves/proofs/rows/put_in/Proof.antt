@@ -13,7 +13,9 @@ same-length : tie.Need-same-length
 same-length c = search needs
 
 returns : tie.Need-returns
-returns c = c .before .before .put-row .ensures ∙ simp (c .before .before .before .before .if1 .taken)
+returns c =
+  let if1 = c .before .before .before .before .if1 in
+  c .before .before .put-row .ensures ∙ simp (if1 .taken)
 
 returns-2 : tie.Need-returns-2
 returns-2 c = search needs

@@ -21,13 +21,26 @@ loop-holds : tie.Need-loop-holds Inv-loop μ-loop
 loop-holds c = storing-none (c .before .before .before .args .m) (c .before .before .before .args .v .now) (c .before .before .before .args .kind) (c .before .before .before .args .size) (c .before .before .before .args .n) (c .before .before .before .args .p) (c .before .before .before .args .c) (c .before .before .before .pre .0) (c .before .before .before .args .table .now) (c .before .before .before .pre .1) (search needs)
 
 mul-at : tie.Need-mul-at Inv-loop μ-loop
-mul-at c = omega (arith, fits-at (c .before .before .before .before .before .before .args .size) (c .before .before .before .before .before .before .args .n) (c .before .before .loop .k) (c .before .before .before .before .before .before .args .p) (c .before .before .before .octets .result) (length (c .before .before .before .before .before .before .args .v .now)) (c .before .before .before .octets .ensures) (c .before .loop-test .taken) (c .before .before .before .before .before .before .pre .0 .fits))
+mul-at c =
+  let a = c .before .before .before .before .before .before .args in
+  let octets = c .before .before .before .octets in
+  let pre = c .before .before .before .before .before .before .pre in
+  omega (arith, fits-at (a .size) (a .n) (c .before .before .loop .k) (a .p) (octets .result) (length (a .v .now)) (octets .ensures) (c .before .loop-test .taken) (pre .0 .fits))
 
 add-at : tie.Need-add-at Inv-loop μ-loop
-add-at c = omega (arith, fits-at (c .before .before .before .before .before .before .args .size) (c .before .before .before .before .before .before .args .n) (c .before .before .loop .k) (c .before .before .before .before .before .before .args .p) (c .before .before .before .octets .result) (length (c .before .before .before .before .before .before .args .v .now)) (c .before .before .before .octets .ensures) (c .before .loop-test .taken) (c .before .before .before .before .before .before .pre .0 .fits))
+add-at c =
+  let a = c .before .before .before .before .before .before .args in
+  let octets = c .before .before .before .octets in
+  let pre = c .before .before .before .before .before .before .pre in
+  omega (arith, fits-at (a .size) (a .n) (c .before .before .loop .k) (a .p) (octets .result) (length (a .v .now)) (octets .ensures) (c .before .loop-test .taken) (pre .0 .fits))
 
 value-at-requires : tie.Need-value-at-requires Inv-loop μ-loop
-value-at-requires c κs = (place-at (c .before .before .before .before .before .before .args .m) (c .before .before .before .before .before .before .args .v .now) (c .before .before .before .before .before .before .args .kind) (c .before .before .before .before .before .before .args .size) (c .before .before .before .before .before .before .args .n) (c .before .before .before .before .before .before .args .p) (c .before .before .before .before .before .before .args .c) (c .before .before .before .before .before .before .pre .0) (c .before .before .loop .k) (c .before .before .before .octets .result) (c .before .before .before .octets .ensures), fits-by (c .before .before .before .before .before .before .args .size) (c .before .before .before .before .before .before .args .n) (c .before .before .loop .k) (c .before .before .before .before .before .before .args .p) (c .before .before .before .octets .result) (length (c .before .before .before .before .before .before .args .v .now)) (c .before .before .before .octets .ensures) (c .before .loop-test .taken) (c .before .before .before .before .before .before .pre .0 .fits))
+value-at-requires c κs =
+  let a = c .before .before .before .before .before .before .args in
+  let pre = c .before .before .before .before .before .before .pre in
+  let loop = c .before .before .loop in
+  let octets = c .before .before .before .octets in
+  (place-at (a .m) (a .v .now) (a .kind) (a .size) (a .n) (a .p) (a .c) (pre .0) (loop .k) (octets .result) (octets .ensures), fits-by (a .size) (a .n) (loop .k) (a .p) (octets .result) (length (a .v .now)) (octets .ensures) (c .before .loop-test .taken) (pre .0 .fits))
 
 add-store : tie.Need-add-store Inv-loop μ-loop
 add-store c = search needs
@@ -51,10 +64,18 @@ loop-again : tie.Need-loop-again Inv-loop μ-loop
 loop-again c = storing-more (c .before .before .before .before .before .before .before .before .before .before .before .before .args .m) (c .before .before .before .before .before .before .before .before .before .before .before .before .args .v .now) (c .before .before .before .before .before .before .before .before .before .before .before .before .args .kind) (c .before .before .before .before .before .before .before .before .before .before .before .before .args .size) (c .before .before .before .before .before .before .before .before .before .before .before .before .args .n) (c .before .before .before .before .before .before .before .before .before .before .before .before .args .p) (c .before .before .before .before .before .before .before .before .before .before .before .before .args .c) (c .before .before .before .before .before .before .before .before .before .before .before .before .pre .0) (c .before .before .before .before .before .before .before .before .before .before .before .before .args .table .now) (c .before .before .before .before .before .before .before .before .before .before .before .before .pre .1) (c .before .before .before .before .before .before .before .before .loop .k) (c .before .before .before .before .before .before .before .before .loop .last) (c .before .before .before .before .before .before .before .before .before .octets .result) _ (c .before .before .before .before .before .value-at .result) (c .before .before .before .content-of .result) (c .before .before .before .before .before .before .before .before .loop .table) _ (c .before .before .before .before .before .before .before .before .loop .inv) (search needs) (c .before .before .before .before .before .before .before .loop-test .taken) (c .before .before .before .before .before .before .before .before .before .octets .ensures) refl (c .before .before .before .before .before .value-at .ensures) (c .before .before .before .content-of .ensures) (c .before .before .store .ensures)
 
 mul-t24 : tie.Need-mul-t24 Inv-loop μ-loop
-mul-t24 c = omega (arith, all-fit (c .before .before .before .before .before .args .size) (c .before .before .before .before .before .args .n) (c .before .before .before .before .before .args .p) (c .before .before .octets .result) (length (c .before .before .before .before .before .args .v .now)) (c .before .before .octets .ensures) (c .before .before .before .before .before .pre .0 .fits))
+mul-t24 c =
+  let a = c .before .before .before .before .before .args in
+  let octets = c .before .before .octets in
+  let pre = c .before .before .before .before .before .pre in
+  omega (arith, all-fit (a .size) (a .n) (a .p) (octets .result) (length (a .v .now)) (octets .ensures) (pre .0 .fits))
 
 add-t25 : tie.Need-add-t25 Inv-loop μ-loop
-add-t25 c = omega (arith, all-fit (c .before .before .before .before .before .args .size) (c .before .before .before .before .before .args .n) (c .before .before .before .before .before .args .p) (c .before .before .octets .result) (length (c .before .before .before .before .before .args .v .now)) (c .before .before .octets .ensures) (c .before .before .before .before .before .pre .0 .fits))
+add-t25 c =
+  let a = c .before .before .before .before .before .args in
+  let octets = c .before .before .octets in
+  let pre = c .before .before .before .before .before .pre in
+  omega (arith, all-fit (a .size) (a .n) (a .p) (octets .result) (length (a .v .now)) (octets .ensures) (pre .0 .fits))
 
 wrapping-add-u64-requires : tie.Need-wrapping-add-u64-requires Inv-loop μ-loop
 wrapping-add-u64-requires c κs = search needs
@@ -66,7 +87,12 @@ same-length : tie.Need-same-length Inv-loop μ-loop
 same-length c = c .before .before .loop .inv .long
 
 returns : tie.Need-returns Inv-loop μ-loop
-returns c = storing-all (c .before .before .before .before .before .before .args .m) (c .before .before .before .before .before .before .args .v .now) (c .before .before .before .before .before .before .args .kind) (c .before .before .before .before .before .before .args .size) (c .before .before .before .before .before .before .args .n) (c .before .before .before .before .before .before .args .p) (c .before .before .before .before .before .before .args .c) (c .before .before .before .before .before .before .pre .0) (c .before .before .before .before .before .before .args .table .now) (c .before .before .before .before .before .before .pre .1) (c .before .before .loop .k) (c .before .before .loop .last) (c .before .before .before .octets .result) (c .wrapping-add-u64 .result) (c .before .before .loop .table) (c .before .before .loop .inv) (c .before .loop-test .left) (c .before .before .before .octets .ensures) (c .wrapping-add-u64 .ensures)
+returns c =
+  let a = c .before .before .before .before .before .before .args in
+  let pre = c .before .before .before .before .before .before .pre in
+  let loop = c .before .before .loop in
+  let octets = c .before .before .before .octets in
+  storing-all (a .m) (a .v .now) (a .kind) (a .size) (a .n) (a .p) (a .c) (pre .0) (a .table .now) (pre .1) (loop .k) (loop .last) (octets .result) (c .wrapping-add-u64 .result) (loop .table) (loop .inv) (c .before .loop-test .left) (octets .ensures) (c .wrapping-add-u64 .ensures)
 
 pub numbers-in-spec : {M : Type 1} → statement M
 numbers-in-spec =

@@ -58,7 +58,10 @@ same-length : tie.Need-same-length Inv-loop μ-loop
 same-length c = c .before .before .loop .inv .long
 
 returns : tie.Need-returns Inv-loop μ-loop
-returns c = filling-all (c .before .before .before .before .before .args .v .now) (c .before .before .before .before .before .args .kind) (c .before .before .before .before .before .args .n) (c .before .before .before .before .before .args .c) (c .before .before .before .before .before .args .table .now) (c .before .before .loop .k) (c .before .before .loop .last) (c .wrapping-add-u64 .result) (c .before .before .loop .table) (c .before .before .loop .inv) (c .before .loop-test .left) (c .wrapping-add-u64 .ensures)
+returns c =
+  let a = c .before .before .before .before .before .args in
+  let loop = c .before .before .loop in
+  filling-all (a .v .now) (a .kind) (a .n) (a .c) (a .table .now) (loop .k) (loop .last) (c .wrapping-add-u64 .result) (loop .table) (loop .inv) (c .before .loop-test .left) (c .wrapping-add-u64 .ensures)
 
 pub octets-in-spec : {M : Type 1} → statement M
 octets-in-spec =

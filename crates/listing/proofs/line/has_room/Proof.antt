@@ -4,10 +4,14 @@ use Rattle.listing.proofs.line.has_room.Statement.{statement}
 use Rattle.listing.proofs.line.has_room.Tie as tie
 
 returns : tie.Need-returns
-returns c = no-room (c .before .args .size) (c .before .args .at) (c .if1 .taken)
+returns c =
+  let a = c .before .args in
+  no-room (a .size) (a .at) (c .if1 .taken)
 
 returns-2 : tie.Need-returns-2
-returns-2 c = room-by (c .before .args .size) (c .before .args .at) (c .if1 .left)
+returns-2 c =
+  let a = c .before .args in
+  room-by (a .size) (a .at) (c .if1 .left)
 
 pub has-room-spec : {M : Type 1} → statement M
 has-room-spec = tie.close (tie.spec returns returns-2)

@@ -17,7 +17,9 @@ abbrev μ-loop : tie.MeasureT-loop
 μ-loop place places n i₀ i = n - i
 
 loop-holds : tie.Need-loop-holds Inv-loop μ-loop
-loop-holds c = (omega arith, ap (λ (x : ℕ). findIn (c .before .args .self .places) (c .before .args .place .0) x 0) (sub-zero (c .before .args .self .count)))
+loop-holds c =
+  let a = c .before .args in
+  (omega arith, ap (λ (x : ℕ). findIn (a .self .places) (a .place .0) x 0) (sub-zero (a .self .count)))
 
 entry-requires : tie.Need-entry-requires Inv-loop μ-loop
 entry-requires c κs = search needs
@@ -25,8 +27,11 @@ entry-requires c κs = search needs
 returns : tie.Need-returns Inv-loop μ-loop
 unfolding findPlace
 returns c =
-    let o = c .before .before .before .before .before .before .args in let l = c .before .before .before .before .loop in
-    sym (position-is (o .self) (o .place) (l .i) (sym (l .inv .1) ∙ find-hit (o .self .places) (o .place .0) (o .self .count) (l .i) (c .before .before .before .loop-test .taken) (sym (c .before .before .entry .ensures) ∙ c .if1 .taken)) (c .before .before .before .loop-test .taken))
+  let a = c .before .before .before .before .before .before .args in
+  let loop = c .before .before .before .before .loop in
+  let loop-test = c .before .before .before .loop-test in
+  let o = a in let l = loop in
+    sym (position-is (o .self) (o .place) (l .i) (sym (l .inv .1) ∙ find-hit (o .self .places) (o .place .0) (o .self .count) (l .i) (loop-test .taken) (sym (c .before .before .entry .ensures) ∙ c .if1 .taken)) (loop-test .taken))
 
 add-i : tie.Need-add-i Inv-loop μ-loop
 add-i c = search needs
@@ -35,7 +40,11 @@ loop-less : tie.Need-loop-less Inv-loop μ-loop
 loop-less c = search needs
 
 loop-again : tie.Need-loop-again Inv-loop μ-loop
-loop-again c = (omega (arith, c .before .before .before .loop-test .taken), sym (find-miss (c .before .before .before .before .before .before .args .self .places) (c .before .before .before .before .before .before .args .place .0) (c .before .before .before .before .before .before .args .self .count) (c .before .before .before .before .loop .i) (c .before .before .before .loop-test .taken) (λ e. c .if1 .left (c .before .before .entry .ensures ∙ e))) ∙ c .before .before .before .before .loop .inv .1)
+loop-again c =
+  let loop-test = c .before .before .before .loop-test in
+  let a = c .before .before .before .before .before .before .args in
+  let loop = c .before .before .before .before .loop in
+  (omega (arith, loop-test .taken), sym (find-miss (a .self .places) (a .place .0) (a .self .count) (loop .i) (loop-test .taken) (λ e. c .if1 .left (c .before .before .entry .ensures ∙ e))) ∙ loop .inv .1)
 
 returns-2 : tie.Need-returns-2 Inv-loop μ-loop
 unfolding findPlace

@@ -23,7 +23,10 @@ label-is-requires : tie.Need-label-is-requires Inv-loop μ-loop
 label-is-requires c κs = search needs
 
 returns : tie.Need-returns Inv-loop μ-loop
-returns c = sym (among-hit (c .before .before .before .before .before .args .labels) (c .before .before .before .before .before .args .v .now) (c .before .before .before .before .before .args .start) (c .before .before .before .before .before .args .order) (c .before .before .before .before .before .args .label) (c .before .before .before .before .before .args .count) (c .before .before .before .loop .k) (c .before .before .before .loop .at) (c .before .before .loop-test .taken) (sym (c .before .label-is .ensures) ∙ c .if1 .taken)) ∙ c .before .before .before .loop .inv .1
+returns c =
+  let a = c .before .before .before .before .before .args in
+  let loop = c .before .before .before .loop in
+  sym (among-hit (a .labels) (a .v .now) (a .start) (a .order) (a .label) (a .count) (loop .k) (loop .at) (c .before .before .loop-test .taken) (sym (c .before .label-is .ensures) ∙ c .if1 .taken)) ∙ loop .inv .1
 
 member-at-requires : tie.Need-member-at-requires Inv-loop μ-loop
 member-at-requires c κs = search needs
@@ -35,7 +38,12 @@ enum-told : tie.Need-enum-told Inv-loop μ-loop
 enum-told c = search needs
 
 returns-2 : tie.Need-returns-2 Inv-loop μ-loop
-returns-2 c = sym (among-cut (c .before .before .before .before .before .before .before .before .args .labels) (c .before .before .before .before .before .before .before .before .args .v .now) (c .before .before .before .before .before .before .before .before .args .start) (c .before .before .before .before .before .before .before .before .args .order) (c .before .before .before .before .before .before .before .before .args .label) (c .before .before .before .before .before .before .before .before .args .count) (c .before .before .before .before .before .before .loop .k) (c .before .before .before .before .before .before .loop .at) (c .before .before .before .before .before .loop-test .taken) (sym (c .before .before .before .before .label-is .ensures) ∙ c .before .before .before .if1 .left) (sym (c .before .before .member-at .ensures) ∙ c .enum-told .given .1)) ∙ c .before .before .before .before .before .before .loop .inv .1
+returns-2 c =
+  let a = c .before .before .before .before .before .before .before .before .args in
+  let loop = c .before .before .before .before .before .before .loop in
+  let loop-test = c .before .before .before .before .before .loop-test in
+  let label-is = c .before .before .before .before .label-is in
+  sym (among-cut (a .labels) (a .v .now) (a .start) (a .order) (a .label) (a .count) (loop .k) (loop .at) (loop-test .taken) (sym (label-is .ensures) ∙ c .before .before .before .if1 .left) (sym (c .before .before .member-at .ensures) ∙ c .enum-told .given .1)) ∙ loop .inv .1
 
 add-k : tie.Need-add-k Inv-loop μ-loop
 add-k c = search needs
@@ -44,10 +52,19 @@ loop-less : tie.Need-loop-less Inv-loop μ-loop
 loop-less c = search needs
 
 loop-again : tie.Need-loop-again Inv-loop μ-loop
-loop-again c = (omega (arith, c .before .before .before .before .before .before .loop-test .taken), sym (among-miss (c .before .before .before .before .before .before .before .before .before .args .labels) (c .before .before .before .before .before .before .before .before .before .args .v .now) (c .before .before .before .before .before .before .before .before .before .args .start) (c .before .before .before .before .before .before .before .before .before .args .order) (c .before .before .before .before .before .before .before .before .before .args .label) (c .before .before .before .before .before .before .before .before .before .args .count) (c .before .before .before .before .before .before .before .loop .k) (c .before .before .before .before .before .before .before .loop .at) (c .before .before .before .before .before .before .loop-test .taken) (sym (c .before .before .before .before .before .label-is .ensures) ∙ c .before .before .before .before .if1 .left) _ _ (sym (c .before .before .before .member-at .ensures) ∙ c .before .next .given .1)) ∙ c .before .before .before .before .before .before .before .loop .inv .1)
+loop-again c =
+  let loop-test = c .before .before .before .before .before .before .loop-test in
+  let a = c .before .before .before .before .before .before .before .before .before .args in
+  let loop = c .before .before .before .before .before .before .before .loop in
+  let label-is = c .before .before .before .before .before .label-is in
+  let if1 = c .before .before .before .before .if1 in
+  (omega (arith, loop-test .taken), sym (among-miss (a .labels) (a .v .now) (a .start) (a .order) (a .label) (a .count) (loop .k) (loop .at) (loop-test .taken) (sym (label-is .ensures) ∙ if1 .left) _ _ (sym (c .before .before .before .member-at .ensures) ∙ c .before .next .given .1)) ∙ loop .inv .1)
 
 returns-3 : tie.Need-returns-3 Inv-loop μ-loop
-returns-3 c = sym (among-end (c .before .before .before .args .labels) (c .before .before .before .args .v .now) (c .before .before .before .args .start) (c .before .before .before .args .order) (c .before .before .before .args .label) (c .before .before .before .args .count) (c .before .loop .k) (c .before .loop .at) (c .loop-test .left)) ∙ c .before .loop .inv .1
+returns-3 c =
+  let a = c .before .before .before .args in
+  let loop = c .before .loop in
+  sym (among-end (a .labels) (a .v .now) (a .start) (a .order) (a .label) (a .count) (loop .k) (loop .at) (c .loop-test .left)) ∙ loop .inv .1
 
 pub label-among-spec : {M : Type 1} → statement M
 label-among-spec =

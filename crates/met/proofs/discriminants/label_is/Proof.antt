@@ -23,10 +23,14 @@ enum-told-2 : tie.Need-enum-told-2
 enum-told-2 c = search needs
 
 returns-2 : tie.Need-returns-2
-returns-2 c = rw (c .before .before .before .before .before .labels .given .1, sym (c .before .before .before .field-in .ensures) ∙ c .before .value .given .1)
+returns-2 c =
+  let labels = c .before .before .before .before .before .labels in
+  rw (labels .given .1, sym (c .before .before .before .field-in .ensures) ∙ c .before .value .given .1)
 
 returns-3 : tie.Need-returns-3
-returns-3 c = rw (c .before .before .before .before .labels .given .1, sym (c .before .before .field-in .ensures) ∙ c .enum-told2 .given .1)
+returns-3 c =
+  let labels = c .before .before .before .before .labels in
+  rw (labels .given .1, sym (c .before .before .field-in .ensures) ∙ c .enum-told2 .given .1)
 
 pub label-is-spec : {M : Type 1} → statement M
 label-is-spec =

@@ -25,7 +25,10 @@ item-length-requires : tie.Need-item-length-requires Inv-loop μ-loop
 item-length-requires c κs = omega arith
 
 returns : tie.Need-returns Inv-loop μ-loop
-returns c = sym (lt-leb (length (joined (itemsOf (c .before .before .before .before .before .args .items .now)))) (c .before .before .before .before .before .args .room) (omega (arith, c .before .before .before .loop .inv .1, c .before .item-length .ensures, left-length (c .before .before .before .before .before .args .items .now) (c .before .before .before .loop .k) (c .before .before .loop-test .taken))))
+returns c =
+  let a = c .before .before .before .before .before .args in
+  let loop = c .before .before .before .loop in
+  sym (lt-leb (length (joined (itemsOf (a .items .now)))) (a .room) (omega (arith, loop .inv .1, c .before .item-length .ensures, left-length (a .items .now) (loop .k) (c .before .before .loop-test .taken))))
 
 add-k : tie.Need-add-k Inv-loop μ-loop
 add-k c = omega arith
@@ -34,10 +37,16 @@ loop-less : tie.Need-loop-less Inv-loop μ-loop
 loop-less c = omega arith
 
 loop-again : tie.Need-loop-again Inv-loop μ-loop
-loop-again c = (omega arith, omega (arith, c .before .before .before .loop .inv .1, c .before .item-length .ensures, left-length (c .before .before .before .before .before .args .items .now) (c .before .before .before .loop .k) (c .before .before .loop-test .taken)))
+loop-again c =
+  let loop = c .before .before .before .loop in
+  let a = c .before .before .before .before .before .args in
+  (omega arith, omega (arith, loop .inv .1, c .before .item-length .ensures, left-length (a .items .now) (loop .k) (c .before .before .loop-test .taken)))
 
 returns-2 : tie.Need-returns-2 Inv-loop μ-loop
-returns-2 c = let z = left-last (c .before .before .before .args .items .now) (c .before .loop .k) (c .loop-test .left) in sym (le-leb (length (joined (itemsOf (c .before .before .before .args .items .now)))) (c .before .before .before .args .room) (omega (arith, c .before .loop .inv .1, ap length z)))
+returns-2 c =
+  let a = c .before .before .before .args in
+  let loop = c .before .loop in
+  let z = left-last (a .items .now) (loop .k) (c .loop-test .left) in sym (le-leb (length (joined (itemsOf (a .items .now)))) (a .room) (omega (arith, loop .inv .1, ap length z)))
 
 pub fit-joined-spec : {M : Type 1} → statement M
 fit-joined-spec =

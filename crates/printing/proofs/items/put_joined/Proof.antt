@@ -30,7 +30,11 @@ behind-requires : tie.Need-behind-requires Inv-loop μ-loop
 behind-requires c κs = search needs
 
 put-item-requires : tie.Need-put-item-requires Inv-loop μ-loop
-put-item-requires c κs = (omega arith, omega (arith, c .before .before .before .before .before .before .pre, c .before .before .before .loop .inv .1, c .before .before .before .loop .inv .2, left-length (c .before .before .before .before .before .before .args .items .now) (c .before .before .before .loop .k) (c .before .before .loop-test .taken)))
+put-item-requires c κs =
+  let pre = c .before .before .before .before .before .before .pre in
+  let loop = c .before .before .before .loop in
+  let a = c .before .before .before .before .before .before .args in
+  (omega arith, omega (arith, pre, loop .inv .1, loop .inv .2, left-length (a .items .now) (loop .k) (c .before .before .loop-test .taken)))
 
 add-k : tie.Need-add-k Inv-loop μ-loop
 add-k c = omega arith
@@ -39,17 +43,26 @@ loop-less : tie.Need-loop-less Inv-loop μ-loop
 loop-less c = omega arith
 
 loop-again : tie.Need-loop-again Inv-loop μ-loop
-loop-again c = let p = left-put (c .before .before .before .before .before .before .before .before .before .args .items .now) (c .before .before .before .before .before .before .loop .k) (c .before .before .before .before .before .loop-test .taken) (c .before .before .before .before .before .before .loop .out) (c .before .before .before .before .before .before .loop .end) (c .before .before .before .behind .result) (c .before .before .put-item .result) (c .before .before .put-item .last .0) (c .before .before .before .behind .ensures) (c .before .before .put-item .ensures) in
-    (omega arith, c .before .before .put-item .kept .0 ∙ c .before .before .before .before .before .before .loop .inv .1, p .0 ∙ c .before .before .before .before .before .before .loop .inv .2, p .1 ∙ c .before .before .before .before .before .before .loop .inv .3)
+loop-again c =
+  let a = c .before .before .before .before .before .before .before .before .before .args in
+  let loop = c .before .before .before .before .before .before .loop in
+  let loop-test = c .before .before .before .before .before .loop-test in
+  let behind = c .before .before .before .behind in
+  let put-item = c .before .before .put-item in
+  let p = left-put (a .items .now) (loop .k) (loop-test .taken) (loop .out) (loop .end) (behind .result) (put-item .result) (put-item .last .0) (behind .ensures) (put-item .ensures) in
+    (omega arith, put-item .kept .0 ∙ loop .inv .1, p .0 ∙ loop .inv .2, p .1 ∙ loop .inv .3)
 
 same-length : tie.Need-same-length Inv-loop μ-loop
 same-length c = c .before .loop .inv .1
 
 returns : tie.Need-returns Inv-loop μ-loop
-returns c = let z = left-last (c .before .before .before .before .args .items .now) (c .before .loop .k) (c .loop-test .left) in
+returns c =
+  let a = c .before .before .before .before .args in
+  let loop = c .before .loop in
+  let z = left-last (a .items .now) (loop .k) (c .loop-test .left) in
     record {
-      end = omega (arith, c .before .loop .inv .2, ap length z);
-      contents = sym (ap (sets (c .before .loop .out) (c .before .loop .end)) z) ∙ c .before .loop .inv .3;
+      end = omega (arith, loop .inv .2, ap length z);
+      contents = sym (ap (sets (loop .out) (loop .end)) z) ∙ loop .inv .3;
     }
 
 pub put-joined-spec : {M : Type 1} → statement M

@@ -33,16 +33,28 @@ octets-in-requires-2 : tie.Need-octets-in-requires-2
 octets-in-requires-2 c κs = search needs
 
 array-share-prefix-port : tie.Need-array-share-prefix-port
-array-share-prefix-port c = omega (arith, c .before .before .before .before .before .before .before .put-number .kept .0, c .before .before .before .before .before .before .before .put-number .ensures .end, number-most (c .before .before .before .before .before .before .before .before .before .before .before .before .args .said .port) (space ∷ []))
+array-share-prefix-port c =
+  let put-number = c .before .before .before .before .before .before .before .put-number in
+  let a = c .before .before .before .before .before .before .before .before .before .before .before .before .args in
+  omega (arith, put-number .kept .0, put-number .ensures .end, number-most (a .said .port) (space ∷ []))
 
 slice-aggregate-write-parts : tie.Need-slice-aggregate-write-parts
-slice-aggregate-write-parts c = sym (length-take-le _ _ (omega (arith, c .before .before .before .before .before .before .before .before .put-number .kept .0, c .before .before .before .before .before .before .before .before .put-number .ensures .end, number-most (c .before .before .before .before .before .before .before .before .before .before .before .before .before .args .said .port) (space ∷ []))))
+slice-aggregate-write-parts c =
+  let put-number = c .before .before .before .before .before .before .before .before .put-number in
+  let a = c .before .before .before .before .before .before .before .before .before .before .before .before .before .args in
+  sym (length-take-le _ _ (omega (arith, put-number .kept .0, put-number .ensures .end, number-most (a .said .port) (space ∷ []))))
 
 array-share-prefix-counts : tie.Need-array-share-prefix-counts
-array-share-prefix-counts c = omega (arith, c .before .before .before .before .before .put-two .kept .0, c .before .before .before .before .before .put-two .ensures .end, number-most (c .before .before .before .before .before .before .before .before .before .before .before .before .before .args .said .components) (space ∷ (decimal (c .before .before .before .before .before .before .before .before .before .before .before .before .before .args .said .extra) ++ (lf ∷ []))), number-most (c .before .before .before .before .before .before .before .before .before .before .before .before .before .args .said .extra) (lf ∷ []))
+array-share-prefix-counts c =
+  let put-two = c .before .before .before .before .before .put-two in
+  let a = c .before .before .before .before .before .before .before .before .before .before .before .before .before .args in
+  omega (arith, put-two .kept .0, put-two .ensures .end, number-most (a .said .components) (space ∷ (decimal (a .said .extra) ++ (lf ∷ []))), number-most (a .said .extra) (lf ∷ []))
 
 slice-aggregate-write-parts-2 : tie.Need-slice-aggregate-write-parts-2
-slice-aggregate-write-parts-2 c = sym (length-take-le _ _ (omega (arith, c .before .before .before .before .before .before .put-two .kept .0, c .before .before .before .before .before .before .put-two .ensures .end, number-most (c .before .before .before .before .before .before .before .before .before .before .before .before .before .before .args .said .components) (space ∷ (decimal (c .before .before .before .before .before .before .before .before .before .before .before .before .before .before .args .said .extra) ++ (lf ∷ []))), number-most (c .before .before .before .before .before .before .before .before .before .before .before .before .before .before .args .said .extra) (lf ∷ []))))
+slice-aggregate-write-parts-2 c =
+  let put-two = c .before .before .before .before .before .before .put-two in
+  let a = c .before .before .before .before .before .before .before .before .before .before .before .before .before .before .args in
+  sym (length-take-le _ _ (omega (arith, put-two .kept .0, put-two .ensures .end, number-most (a .said .components) (space ∷ (decimal (a .said .extra) ++ (lf ∷ []))), number-most (a .said .extra) (lf ∷ []))))
 
 write-parts-requires : tie.Need-write-parts-requires
 write-parts-requires c κs = search needs
@@ -51,9 +63,16 @@ same-length : tie.Need-same-length
 same-length c = search needs
 
 returns : tie.Need-returns
-returns c = subst (λ (xs : List ℕ). Stored (c .before .before .before .before .before .before .before .before .before .before .before .before .before .before .before .before .before .args .out .now) (c .before .before .before .before .before .before .before .before .before .before .before .before .before .before .before .before .before .args .at) xs (c .before .before .write-parts .result) (c .before .before .write-parts .last .0))
-    (said-parts (c .before .before .before .before .before .before .before .before .before .before .before .before .before .before .before .before .before .args .head .now) (c .before .before .before .before .before .before .before .before .before .before .before .before .before .before .before .before .before .args .said) (c .before .before .before .before .before .before .before .before .before .before .before .before .before .before .before .before .before .args .body .now) (c .before .before .before .before .before .before .before .octets-in .ensures) (c .before .before .before .before .before .before .octets-in2 .ensures) (put-taken (c .before .before .before .before .before .before .before .before .before .before .before .before .put-number .ensures) (omega (arith, c .before .before .before .before .before .before .before .before .before .before .before .before .put-number .kept .0, c .before .before .before .before .before .before .before .before .before .before .before .before .put-number .ensures .end, number-most (c .before .before .before .before .before .before .before .before .before .before .before .before .before .before .before .before .before .args .said .port) (space ∷ [])))) (put-taken (c .before .before .before .before .before .before .before .before .before .put-two .ensures) (omega (arith, c .before .before .before .before .before .before .before .before .before .put-two .kept .0, c .before .before .before .before .before .before .before .before .before .put-two .ensures .end, number-most (c .before .before .before .before .before .before .before .before .before .before .before .before .before .before .before .before .before .args .said .components) (space ∷ (decimal (c .before .before .before .before .before .before .before .before .before .before .before .before .before .before .before .before .before .args .said .extra) ++ (lf ∷ []))), number-most (c .before .before .before .before .before .before .before .before .before .before .before .before .before .before .before .before .before .args .said .extra) (lf ∷ [])))))
-    (c .before .before .write-parts .ensures)
+returns c =
+  let a = c .before .before .before .before .before .before .before .before .before .before .before .before .before .before .before .before .before .args in
+  let write-parts = c .before .before .write-parts in
+  let octets-in = c .before .before .before .before .before .before .before .octets-in in
+  let octets-in2 = c .before .before .before .before .before .before .octets-in2 in
+  let put-number = c .before .before .before .before .before .before .before .before .before .before .before .before .put-number in
+  let put-two = c .before .before .before .before .before .before .before .before .before .put-two in
+  subst (λ (xs : List ℕ). Stored (a .out .now) (a .at) xs (write-parts .result) (write-parts .last .0))
+    (said-parts (a .head .now) (a .said) (a .body .now) (octets-in .ensures) (octets-in2 .ensures) (put-taken (put-number .ensures) (omega (arith, put-number .kept .0, put-number .ensures .end, number-most (a .said .port) (space ∷ [])))) (put-taken (put-two .ensures) (omega (arith, put-two .kept .0, put-two .ensures .end, number-most (a .said .components) (space ∷ (decimal (a .said .extra) ++ (lf ∷ []))), number-most (a .said .extra) (lf ∷ [])))))
+    (write-parts .ensures)
 
 pub write-spec : {M : Type 1} → statement M
 write-spec =

@@ -20,7 +20,9 @@ same-length : tie.Need-same-length
 same-length c = search needs
 
 returns : tie.Need-returns
-returns c = past-first (c .before .before .before .before .before .before .before .before .before .before .args .out .now) (c .before .before .before .before .before .before .before .before .before .before .args .at) (c .before .before .before .before .before .before .before .before .before .before .args .head .now ++ octetsText (c .before .before .before .before .before .before .before .before .before .before .args .host .now) space) (c .before .before .before .before .before .before .before .before .before .before .args .port .now ++ octetsText (c .before .before .before .before .before .before .before .before .before .before .args .key .now) space) (c .before .before .before .before .before .before .before .before .before .before .args .counts .now) (sym (c .enum-told .given .1) ∙ c .before .before .end-of .ensures space)
+returns c =
+  let a = c .before .before .before .before .before .before .before .before .before .before .args in
+  past-first (a .out .now) (a .at) (a .head .now ++ octetsText (a .host .now) space) (a .port .now ++ octetsText (a .key .now) space) (a .counts .now) (sym (c .enum-told .given .1) ∙ c .before .before .end-of .ensures space)
 
 end-of-requires-2 : tie.Need-end-of-requires-2
 end-of-requires-2 c κs = search needs
@@ -35,7 +37,11 @@ same-length-2 : tie.Need-same-length-2
 same-length-2 c = search needs
 
 returns-2 : tie.Need-returns-2
-returns-2 c = past-second (c .before .before .before .before .before .before .before .before .before .before .before .before .before .before .before .args .out .now) (c .before .before .before .before .before .before .before .before .before .before .before .before .before .before .before .args .at) (c .before .before .before .before .before .before .before .before .before .before .before .before .before .before .before .args .head .now ++ octetsText (c .before .before .before .before .before .before .before .before .before .before .before .before .before .before .before .args .host .now) space) (c .before .before .before .before .before .before .before .before .before .before .before .before .before .before .before .args .port .now ++ octetsText (c .before .before .before .before .before .before .before .before .before .before .before .before .before .before .before .args .key .now) space) (c .before .before .before .before .before .before .before .before .before .before .before .before .before .before .before .args .counts .now) _ (sym (c .before .before .before .before .before .next .given .1) ∙ c .before .before .before .before .before .before .before .end-of .ensures space) (sym (c .enum-told2 .given .1) ∙ c .before .before .end-of2 .ensures space)
+returns-2 c =
+  let a = c .before .before .before .before .before .before .before .before .before .before .before .before .before .before .before .args in
+  let next = c .before .before .before .before .before .next in
+  let end-of = c .before .before .before .before .before .before .before .end-of in
+  past-second (a .out .now) (a .at) (a .head .now ++ octetsText (a .host .now) space) (a .port .now ++ octetsText (a .key .now) space) (a .counts .now) _ (sym (next .given .1) ∙ end-of .ensures space) (sym (c .enum-told2 .given .1) ∙ c .before .before .end-of2 .ensures space)
 
 read-run-requires : tie.Need-read-run-requires
 read-run-requires c κs = search needs
@@ -50,7 +56,13 @@ same-length-3 : tie.Need-same-length-3
 same-length-3 c = search needs
 
 returns-3 : tie.Need-returns-3
-returns-3 c = past-third (c .before .before .before .before .before .before .before .before .before .before .before .before .before .before .before .before .before .before .before .before .args .out .now) (c .before .before .before .before .before .before .before .before .before .before .before .before .before .before .before .before .before .before .before .before .args .at) (c .before .before .before .before .before .before .before .before .before .before .before .before .before .before .before .before .before .before .before .before .args .head .now ++ octetsText (c .before .before .before .before .before .before .before .before .before .before .before .before .before .before .before .before .before .before .before .before .args .host .now) space) (c .before .before .before .before .before .before .before .before .before .before .before .before .before .before .before .before .before .before .before .before .args .port .now ++ octetsText (c .before .before .before .before .before .before .before .before .before .before .before .before .before .before .before .before .before .before .before .before .args .key .now) space) (c .before .before .before .before .before .before .before .before .before .before .before .before .before .before .before .before .before .before .before .before .args .counts .now) _ (sym (c .before .before .before .before .before .before .before .before .before .before .next .given .1) ∙ c .before .before .before .before .before .before .before .before .before .before .before .before .end-of .ensures space) _ (sym (c .before .before .before .before .before .last .given .1) ∙ c .before .before .before .before .before .before .before .end-of2 .ensures space) (sym (c .enum-told4 .given .1) ∙ c .before .before .read-run .ensures)
+returns-3 c =
+  let a = c .before .before .before .before .before .before .before .before .before .before .before .before .before .before .before .before .before .before .before .before .args in
+  let next = c .before .before .before .before .before .before .before .before .before .before .next in
+  let end-of = c .before .before .before .before .before .before .before .before .before .before .before .before .end-of in
+  let last = c .before .before .before .before .before .last in
+  let end-of2 = c .before .before .before .before .before .before .before .end-of2 in
+  past-third (a .out .now) (a .at) (a .head .now ++ octetsText (a .host .now) space) (a .port .now ++ octetsText (a .key .now) space) (a .counts .now) _ (sym (next .given .1) ∙ end-of .ensures space) _ (sym (last .given .1) ∙ end-of2 .ensures space) (sym (c .enum-told4 .given .1) ∙ c .before .before .read-run .ensures)
 
 write-requires : tie.Need-write-requires
 write-requires c κs = search needs
@@ -65,7 +77,17 @@ same-length-4 : tie.Need-same-length-4
 same-length-4 c = search needs
 
 returns-4 : tie.Need-returns-4
-returns-4 c = all-stored (c .before .before .before .before .before .before .before .before .before .before .before .before .before .before .before .before .before .before .before .before .before .before .before .before .before .before .before .before .before .before .before .before .args .out .now) (c .before .before .before .before .before .before .before .before .before .before .before .before .before .before .before .before .before .before .before .before .before .before .before .before .before .before .before .before .before .before .before .before .args .at) (c .before .before .before .before .before .before .before .before .before .before .before .before .before .before .before .before .before .before .before .before .before .before .before .before .before .before .before .before .before .before .before .before .args .head .now ++ octetsText (c .before .before .before .before .before .before .before .before .before .before .before .before .before .before .before .before .before .before .before .before .before .before .before .before .before .before .before .before .before .before .before .before .args .host .now) space) (c .before .before .before .before .before .before .before .before .before .before .before .before .before .before .before .before .before .before .before .before .before .before .before .before .before .before .before .before .before .before .before .before .args .port .now ++ octetsText (c .before .before .before .before .before .before .before .before .before .before .before .before .before .before .before .before .before .before .before .before .before .before .before .before .before .before .before .before .before .before .before .before .args .key .now) space) (c .before .before .before .before .before .before .before .before .before .before .before .before .before .before .before .before .before .before .before .before .before .before .before .before .before .before .before .before .before .before .before .before .args .counts .now) _ (sym (c .before .before .before .before .before .before .before .before .before .before .before .before .before .before .before .before .before .before .before .before .before .before .next .given .1) ∙ c .before .before .before .before .before .before .before .before .before .before .before .before .before .before .before .before .before .before .before .before .before .before .before .before .end-of .ensures space) _ (sym (c .before .before .before .before .before .before .before .before .before .before .before .before .before .before .before .before .before .last .given .1) ∙ c .before .before .before .before .before .before .before .before .before .before .before .before .before .before .before .before .before .before .before .end-of2 .ensures space) _ (sym (c .before .before .before .before .before .before .before .before .before .before .before .before .enum-told3 .given .1) ∙ c .before .before .before .before .before .before .before .before .before .before .before .before .before .before .read-run .ensures) _ _ (c .before .before .before .before .before .before .before .before .before .before .write .ensures) _ _ (c .before .before .before .before .before .before .write2 .ensures) _ _ (c .before .before .write-octets .ensures)
+returns-4 c =
+  let a = c .before .before .before .before .before .before .before .before .before .before .before .before .before .before .before .before .before .before .before .before .before .before .before .before .before .before .before .before .before .before .before .before .args in
+  let next = c .before .before .before .before .before .before .before .before .before .before .before .before .before .before .before .before .before .before .before .before .before .before .next in
+  let end-of = c .before .before .before .before .before .before .before .before .before .before .before .before .before .before .before .before .before .before .before .before .before .before .before .before .end-of in
+  let last = c .before .before .before .before .before .before .before .before .before .before .before .before .before .before .before .before .before .last in
+  let end-of2 = c .before .before .before .before .before .before .before .before .before .before .before .before .before .before .before .before .before .before .before .end-of2 in
+  let enum-told3 = c .before .before .before .before .before .before .before .before .before .before .before .before .enum-told3 in
+  let read-run = c .before .before .before .before .before .before .before .before .before .before .before .before .before .before .read-run in
+  let write = c .before .before .before .before .before .before .before .before .before .before .write in
+  let write2 = c .before .before .before .before .before .before .write2 in
+  all-stored (a .out .now) (a .at) (a .head .now ++ octetsText (a .host .now) space) (a .port .now ++ octetsText (a .key .now) space) (a .counts .now) _ (sym (next .given .1) ∙ end-of .ensures space) _ (sym (last .given .1) ∙ end-of2 .ensures space) _ (sym (enum-told3 .given .1) ∙ read-run .ensures) _ _ (write .ensures) _ _ (write2 .ensures) _ _ (c .before .before .write-octets .ensures)
 
 pub write-parts-spec : {M : Type 1} → statement M
 write-parts-spec =

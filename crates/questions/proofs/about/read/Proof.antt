@@ -6,16 +6,25 @@ use Rattle.questions.proofs.about.read.Statement.{statement}
 use Rattle.questions.proofs.about.read.Tie as tie
 
 sub-read : tie.Need-sub-read
-sub-read c = omega (arith, c .before .before .before .before .before .pre .0 .0)
+sub-read c =
+  let pre = c .before .before .before .before .before .pre in
+  omega (arith, pre .0 .0)
 
 part-read-start : tie.Need-part-read-start
-part-read-start c = omega (arith, c .before .before .before .before .before .pre .0 .0)
+part-read-start c =
+  let pre = c .before .before .before .before .before .pre in
+  omega (arith, pre .0 .0)
 
 part-read-end : tie.Need-part-read-end
-part-read-end c = omega (arith, c .before .before .before .before .before .pre .0 .0)
+part-read-end c =
+  let pre = c .before .before .before .before .before .pre in
+  omega (arith, pre .0 .0)
 
 read-requires : tie.Need-read-requires
-read-requires c κs = omega (arith, c .before .before .before .before .before .before .before .pre .1, part-most (c .before .before .before .before .before .before .before .args .rest .now) (c .before .before .before .before .before .before .before .args .subject .typed .from) (c .before .before .before .before .before .before .before .args .subject .typed .end))
+read-requires c κs =
+  let pre = c .before .before .before .before .before .before .before .pre in
+  let a = c .before .before .before .before .before .before .before .args in
+  omega (arith, pre .1, part-most (a .rest .now) (a .subject .typed .from) (a .subject .typed .end))
 
 enum-known-types : tie.Need-enum-known-types
 enum-known-types c = search needs
@@ -27,19 +36,31 @@ same-length : tie.Need-same-length
 same-length c = search needs
 
 returns : tie.Need-returns
-returns c = about-no-type (c .before .before .before .before .before .before .before .before .before .before .before .before .args .rest .now) (c .before .before .before .before .before .before .before .before .before .before .before .before .args .subject) _ _ (c .before .before .before .before .read .ensures) _ (c .enum-told .given .1)
+returns c =
+  let a = c .before .before .before .before .before .before .before .before .before .before .before .before .args in
+  let read = c .before .before .before .before .read in
+  about-no-type (a .rest .now) (a .subject) _ _ (read .ensures) _ (c .enum-told .given .1)
 
 sub-read-2 : tie.Need-sub-read-2
-sub-read-2 c = omega (arith, c .before .before .before .before .before .before .before .before .before .before .before .before .before .pre .0 .1)
+sub-read-2 c =
+  let pre = c .before .before .before .before .before .before .before .before .before .before .before .before .before .pre in
+  omega (arith, pre .0 .1)
 
 part-read-start-2 : tie.Need-part-read-start-2
-part-read-start-2 c = omega (arith, c .before .before .before .before .before .before .before .before .before .before .before .before .before .pre .0 .1)
+part-read-start-2 c =
+  let pre = c .before .before .before .before .before .before .before .before .before .before .before .before .before .pre in
+  omega (arith, pre .0 .1)
 
 part-read-end-2 : tie.Need-part-read-end-2
-part-read-end-2 c = omega (arith, c .before .before .before .before .before .before .before .before .before .before .before .before .before .pre .0 .1)
+part-read-end-2 c =
+  let pre = c .before .before .before .before .before .before .before .before .before .before .before .before .before .pre in
+  omega (arith, pre .0 .1)
 
 read-requires-2 : tie.Need-read-requires-2
-read-requires-2 c κs = omega (arith, c .before .before .before .before .before .before .before .before .before .before .before .before .before .before .before .pre .2, part-most (c .before .before .before .before .before .before .before .before .before .before .before .before .before .before .before .args .rest .now) (c .before .before .before .before .before .before .before .before .before .before .before .before .before .before .before .args .subject .value .from) (c .before .before .before .before .before .before .before .before .before .before .before .before .before .before .before .args .subject .value .end))
+read-requires-2 c κs =
+  let pre = c .before .before .before .before .before .before .before .before .before .before .before .before .before .before .before .pre in
+  let a = c .before .before .before .before .before .before .before .before .before .before .before .before .before .before .before .args in
+  omega (arith, pre .2, part-most (a .rest .now) (a .subject .value .from) (a .subject .value .end))
 
 enum-known-values : tie.Need-enum-known-values
 enum-known-values c = search needs
@@ -54,7 +75,12 @@ same-length-3 : tie.Need-same-length-3
 same-length-3 c = search needs
 
 returns-2 : tie.Need-returns-2
-returns-2 c = about-no-value (c .before .before .before .before .before .before .before .before .before .before .before .before .before .before .before .before .before .before .before .before .args .rest .now) (c .before .before .before .before .before .before .before .before .before .before .before .before .before .before .before .before .before .before .before .before .args .subject) _ _ (c .before .before .before .before .before .before .before .before .before .before .before .before .read .ensures) _ (c .before .before .before .before .before .before .before .before .types .given .1) _ _ (c .before .before .before .before .read2 .ensures) (c .enum-told2 .given .1)
+returns-2 c =
+  let a = c .before .before .before .before .before .before .before .before .before .before .before .before .before .before .before .before .before .before .before .before .args in
+  let read = c .before .before .before .before .before .before .before .before .before .before .before .before .read in
+  let types = c .before .before .before .before .before .before .before .before .types in
+  let read2 = c .before .before .before .before .read2 in
+  about-no-value (a .rest .now) (a .subject) _ _ (read .ensures) _ (types .given .1) _ _ (read2 .ensures) (c .enum-told2 .given .1)
 
 same-length-4 : tie.Need-same-length-4
 same-length-4 c = search needs
@@ -63,7 +89,12 @@ same-length-5 : tie.Need-same-length-5
 same-length-5 c = search needs
 
 returns-3 : tie.Need-returns-3
-returns-3 c = about-is (c .before .before .before .before .before .before .before .before .before .before .before .before .before .before .before .before .before .before .before .before .before .args .rest .now) (c .before .before .before .before .before .before .before .before .before .before .before .before .before .before .before .before .before .before .before .before .before .args .subject) _ _ (c .before .before .before .before .before .before .before .before .before .before .before .before .before .read .ensures) _ (c .before .before .before .before .before .before .before .before .before .types .given .1) _ _ (c .before .before .before .before .before .read2 .ensures) _ (c .before .values .given .1)
+returns-3 c =
+  let a = c .before .before .before .before .before .before .before .before .before .before .before .before .before .before .before .before .before .before .before .before .before .args in
+  let read = c .before .before .before .before .before .before .before .before .before .before .before .before .before .read in
+  let types = c .before .before .before .before .before .before .before .before .before .types in
+  let read2 = c .before .before .before .before .before .read2 in
+  about-is (a .rest .now) (a .subject) _ _ (read .ensures) _ (types .given .1) _ _ (read2 .ensures) _ (c .before .values .given .1)
 
 pub read-spec : {M : Type 1} → statement M
 read-spec =

@@ -14,13 +14,25 @@ same-length : tie.Need-same-length
 same-length c = search needs
 
 returns : tie.Need-returns
-returns c = (on (c .before .before .before .before .before .before .before .before .before .before .args .block .now) (c .before .before .before .before .before .before .before .before .before .before .args .at) (c .before .before .before .before .before .before .before .before .before .before .args .line .now) (c .before .before .before .before .before .before .before .before .before .before .args .out .now) _ (c .before .before .before .before .before .before .before .before .before .before .pre) _ _ (c .before .before .before .before .take-line .ensures), turn-begun (c .before .before .before .before .before .before .before .before .before .before .args .block .now) (c .before .before .before .before .before .before .before .before .before .before .args .at) (c .before .before .before .before .before .before .before .before .before .before .args .line .now) (c .before .before .before .before .before .before .before .before .before .before .args .out .now) _ (c .before .before .before .before .before .before .before .before .before .before .pre) _ _ (c .before .before .before .before .take-line .ensures) (not-true _ (c .if1 .taken)))
+returns c =
+  let a = c .before .before .before .before .before .before .before .before .before .before .args in
+  let pre = c .before .before .before .before .before .before .before .before .before .before .pre in
+  let take-line = c .before .before .before .before .take-line in
+  (on (a .block .now) (a .at) (a .line .now) (a .out .now) _ pre _ _ (take-line .ensures), turn-begun (a .block .now) (a .at) (a .line .now) (a .out .now) _ pre _ _ (take-line .ensures) (not-true _ (c .if1 .taken)))
 
 slice-reshare-prefix-answer-line : tie.Need-slice-reshare-prefix-answer-line
-slice-reshare-prefix-answer-line c = taken-within (c .before .before .before .before .before .before .before .before .before .before .args .block .now) (c .before .before .before .before .before .before .before .before .before .before .args .at) (c .before .before .before .before .before .before .before .before .before .before .args .line .now) (c .before .before .before .before .before .before .before .before .before .before .args .out .now) _ (c .before .before .before .before .before .before .before .before .before .before .pre) _ _ (c .before .before .before .before .take-line .ensures)
+slice-reshare-prefix-answer-line c =
+  let a = c .before .before .before .before .before .before .before .before .before .before .args in
+  let pre = c .before .before .before .before .before .before .before .before .before .before .pre in
+  let take-line = c .before .before .before .before .take-line in
+  taken-within (a .block .now) (a .at) (a .line .now) (a .out .now) _ pre _ _ (take-line .ensures)
 
 slice-aggregate-answer-line : tie.Need-slice-aggregate-answer-line
-slice-aggregate-answer-line c = sym (length-take-le _ _ (taken-within (c .before .before .before .before .before .before .before .before .before .before .before .args .block .now) (c .before .before .before .before .before .before .before .before .before .before .before .args .at) (c .before .before .before .before .before .before .before .before .before .before .before .args .line .now) (c .before .before .before .before .before .before .before .before .before .before .before .args .out .now) _ (c .before .before .before .before .before .before .before .before .before .before .before .pre) _ _ (c .before .before .before .before .before .take-line .ensures)))
+slice-aggregate-answer-line c =
+  let a = c .before .before .before .before .before .before .before .before .before .before .before .args in
+  let pre = c .before .before .before .before .before .before .before .before .before .before .before .pre in
+  let take-line = c .before .before .before .before .before .take-line in
+  sym (length-take-le _ _ (taken-within (a .block .now) (a .at) (a .line .now) (a .out .now) _ pre _ _ (take-line .ensures)))
 
 answer-line-requires : tie.Need-answer-line-requires
 answer-line-requires c κs = search needs
@@ -41,7 +53,13 @@ same-length-4 : tie.Need-same-length-4
 same-length-4 c = search needs
 
 returns-2 : tie.Need-returns-2
-returns-2 c = turn-always (c .before .before .before .before .before .before .before .before .before .before .before .before .before .before .before .before .before .before .before .before .args .block .now) (c .before .before .before .before .before .before .before .before .before .before .before .before .before .before .before .before .before .before .before .before .args .at) (c .before .before .before .before .before .before .before .before .before .before .before .before .before .before .before .before .before .before .before .before .args .line .now) (c .before .before .before .before .before .before .before .before .before .before .before .before .before .before .before .before .before .before .before .before .args .out .now) _ (c .before .before .before .before .before .before .before .before .before .before .before .before .before .before .before .before .before .before .before .before .pre) _ _ (c .before .before .before .before .before .before .before .before .before .before .before .before .before .before .take-line .ensures) (not-false _ (c .before .before .before .before .before .before .before .before .before .before .if1 .left)) _ _ (c .before .before .before .before .before .before .answer-line .ensures) (c .enum-told .given .1)
+returns-2 c =
+  let a = c .before .before .before .before .before .before .before .before .before .before .before .before .before .before .before .before .before .before .before .before .args in
+  let pre = c .before .before .before .before .before .before .before .before .before .before .before .before .before .before .before .before .before .before .before .before .pre in
+  let take-line = c .before .before .before .before .before .before .before .before .before .before .before .before .before .before .take-line in
+  let if1 = c .before .before .before .before .before .before .before .before .before .before .if1 in
+  let answer-line = c .before .before .before .before .before .before .answer-line in
+  turn-always (a .block .now) (a .at) (a .line .now) (a .out .now) _ pre _ _ (take-line .ensures) (not-false _ (if1 .left)) _ _ (answer-line .ensures) (c .enum-told .given .1)
 
 same-length-5 : tie.Need-same-length-5
 same-length-5 c = search needs
@@ -53,7 +71,13 @@ same-length-7 : tie.Need-same-length-7
 same-length-7 c = search needs
 
 returns-3 : tie.Need-returns-3
-returns-3 c = (on (c .before .before .before .before .before .before .before .before .before .before .before .before .before .before .before .before .before .before .before .before .before .args .block .now) (c .before .before .before .before .before .before .before .before .before .before .before .before .before .before .before .before .before .before .before .before .before .args .at) (c .before .before .before .before .before .before .before .before .before .before .before .before .before .before .before .before .before .before .before .before .before .args .line .now) (c .before .before .before .before .before .before .before .before .before .before .before .before .before .before .before .before .before .before .before .before .before .args .out .now) _ (c .before .before .before .before .before .before .before .before .before .before .before .before .before .before .before .before .before .before .before .before .before .pre) _ _ (c .before .before .before .before .before .before .before .before .before .before .before .before .before .before .before .take-line .ensures), turn-ended (c .before .before .before .before .before .before .before .before .before .before .before .before .before .before .before .before .before .before .before .before .before .args .block .now) (c .before .before .before .before .before .before .before .before .before .before .before .before .before .before .before .before .before .before .before .before .before .args .at) (c .before .before .before .before .before .before .before .before .before .before .before .before .before .before .before .before .before .before .before .before .before .args .line .now) (c .before .before .before .before .before .before .before .before .before .before .before .before .before .before .before .before .before .before .before .before .before .args .out .now) _ (c .before .before .before .before .before .before .before .before .before .before .before .before .before .before .before .before .before .before .before .before .before .pre) _ _ (c .before .before .before .before .before .before .before .before .before .before .before .before .before .before .before .take-line .ensures) (not-false _ (c .before .before .before .before .before .before .before .before .before .before .before .if1 .left)) _ _ (c .before .before .before .before .before .before .before .answer-line .ensures) _ (c .before .end .given .1))
+returns-3 c =
+  let a = c .before .before .before .before .before .before .before .before .before .before .before .before .before .before .before .before .before .before .before .before .before .args in
+  let pre = c .before .before .before .before .before .before .before .before .before .before .before .before .before .before .before .before .before .before .before .before .before .pre in
+  let take-line = c .before .before .before .before .before .before .before .before .before .before .before .before .before .before .before .take-line in
+  let if1 = c .before .before .before .before .before .before .before .before .before .before .before .if1 in
+  let answer-line = c .before .before .before .before .before .before .before .answer-line in
+  (on (a .block .now) (a .at) (a .line .now) (a .out .now) _ pre _ _ (take-line .ensures), turn-ended (a .block .now) (a .at) (a .line .now) (a .out .now) _ pre _ _ (take-line .ensures) (not-false _ (if1 .left)) _ _ (answer-line .ensures) _ (c .before .end .given .1))
 
 pub turn-spec : {M : Type 1} → statement M
 turn-spec =

@@ -25,10 +25,14 @@ returns : tie.Need-returns
 returns c = none-held _ _ (octets-not (c .before .before .before .read-lone .ensures) (c .enum-told .given .1) (λ v. profileIn v))
 
 array-share-prefix-v : tie.Need-array-share-prefix-v
-array-share-prefix-v c = octets-within (c .before .before .before .before .read-lone .ensures) _ (c .before .n .given .1)
+array-share-prefix-v c =
+  let read-lone = c .before .before .before .before .read-lone in
+  octets-within (read-lone .ensures) _ (c .before .n .given .1)
 
 slice-aggregate-read : tie.Need-slice-aggregate-read
-slice-aggregate-read c = sym (length-take-le _ _ (octets-within (c .before .before .before .before .before .read-lone .ensures) _ (c .before .before .n .given .1)))
+slice-aggregate-read c =
+  let read-lone = c .before .before .before .before .before .read-lone in
+  sym (length-take-le _ _ (octets-within (read-lone .ensures) _ (c .before .before .n .given .1)))
 
 read-requires : tie.Need-read-requires
 read-requires c κs = search needs
@@ -37,10 +41,16 @@ enum-known-said : tie.Need-enum-known-said
 enum-known-said c = search needs
 
 array-share-prefix-v-2 : tie.Need-array-share-prefix-v-2
-array-share-prefix-v-2 c = octets-within (c .before .before .before .before .before .before .before .before .before .before .read-lone .ensures) _ (c .before .before .before .before .before .before .before .n .given .1)
+array-share-prefix-v-2 c =
+  let read-lone = c .before .before .before .before .before .before .before .before .before .before .read-lone in
+  let n = c .before .before .before .before .before .before .before .n in
+  octets-within (read-lone .ensures) _ (n .given .1)
 
 slice-aggregate-write-octets : tie.Need-slice-aggregate-write-octets
-slice-aggregate-write-octets c = sym (length-take-le _ _ (octets-within (c .before .before .before .before .before .before .before .before .before .before .before .read-lone .ensures) _ (c .before .before .before .before .before .before .before .before .n .given .1)))
+slice-aggregate-write-octets c =
+  let read-lone = c .before .before .before .before .before .before .before .before .before .before .before .read-lone in
+  let n = c .before .before .before .before .before .before .before .before .n in
+  sym (length-take-le _ _ (octets-within (read-lone .ensures) _ (n .given .1)))
 
 write-octets-requires : tie.Need-write-octets-requires
 write-octets-requires c κs = search needs
@@ -55,10 +65,21 @@ same-length : tie.Need-same-length
 same-length c = search needs
 
 returns-2 : tie.Need-returns-2
-returns-2 c = rw (octets-asked (c .before .before .before .before .before .before .before .before .before .before .before .before .before .before .read-lone .ensures) _ (c .before .before .before .before .before .before .before .before .before .before .before .n .given .1) (λ v. profileIn v)) (profile-held _ _ (c .before .before .before .before .before .before .before .before .read .ensures) _ (c .before .before .before .before .before .before .said .given .1) (c .before .before .before .before .before .before .before .before .before .before .before .before .before .before .before .before .before .before .args .memory .now) (c .before .before .before .before .before .before .before .before .before .before .before .before .before .before .before .before .before .before .pre .1) _ _ (c .before .before .write-octets .ensures) _ (length-take-le _ _ (octets-within (c .before .before .before .before .before .before .before .before .before .before .before .before .before .before .read-lone .ensures) _ (c .before .before .before .before .before .before .before .before .before .before .before .n .given .1))))
+returns-2 c =
+  let read-lone = c .before .before .before .before .before .before .before .before .before .before .before .before .before .before .read-lone in
+  let n = c .before .before .before .before .before .before .before .before .before .before .before .n in
+  let read = c .before .before .before .before .before .before .before .before .read in
+  let said = c .before .before .before .before .before .before .said in
+  let a = c .before .before .before .before .before .before .before .before .before .before .before .before .before .before .before .before .before .before .args in
+  let pre = c .before .before .before .before .before .before .before .before .before .before .before .before .before .before .before .before .before .before .pre in
+  rw (octets-asked (read-lone .ensures) _ (n .given .1) (λ v. profileIn v)) (profile-held _ _ (read .ensures) _ (said .given .1) (a .memory .now) (pre .1) _ _ (c .before .before .write-octets .ensures) _ (length-take-le _ _ (octets-within (read-lone .ensures) _ (n .given .1))))
 
 returns-3 : tie.Need-returns-3
-returns-3 c = rw (octets-asked (c .before .before .before .before .before .before .before .before .before .before .read-lone .ensures) _ (c .before .before .before .before .before .before .before .n .given .1) (λ v. profileIn v)) (profile-refused _ _ (c .before .before .before .before .read .ensures) _ (c .before .before .refusal .given .1) _ (c .number .ensures) _)
+returns-3 c =
+  let read-lone = c .before .before .before .before .before .before .before .before .before .before .read-lone in
+  let n = c .before .before .before .before .before .before .before .n in
+  let read = c .before .before .before .before .read in
+  rw (octets-asked (read-lone .ensures) _ (n .given .1) (λ v. profileIn v)) (profile-refused _ _ (read .ensures) _ (c .before .before .refusal .given .1) _ (c .number .ensures) _)
 
 pub reply-profile-spec : {M : Type 1} → statement M
 reply-profile-spec =

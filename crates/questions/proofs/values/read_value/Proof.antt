@@ -17,7 +17,9 @@ slice-relend-prefix-read-value : tie.Need-slice-relend-prefix-read-value
 slice-relend-prefix-read-value c = search needs
 
 slice-aggregate-read-value : tie.Need-slice-aggregate-read-value
-slice-aggregate-read-value c = sym (length-take-le _ _ (omega (arith, c .before .room-of .ensures, c .before .before .before .before .before .pre)))
+slice-aggregate-read-value c =
+  let pre = c .before .before .before .before .before .pre in
+  sym (length-take-le _ _ (omega (arith, c .before .room-of .ensures, pre)))
 
 read-value-requires : tie.Need-read-value-requires
 read-value-requires c κs = search needs
@@ -32,13 +34,23 @@ same-length : tie.Need-same-length
 same-length c = search needs
 
 returns : tie.Need-returns
-returns c = value-accepted (c .before .before .before .before .before .before .before .before .before .before .before .args .t .now) (c .before .before .before .before .before .before .before .before .before .before .before .args .typed) _ (c .before .before .before .before .before .before .before .before .before .before .before .args .room) (c .before .before .before .before .before .before .before .before .before .before .before .args .table .now) _ (c .before .before .before .before .before .before .before .room-of .ensures) (omega (arith, c .before .before .before .before .before .before .before .room-of .ensures, c .before .before .before .before .before .before .before .before .before .before .before .pre)) _ (c .before .before .before .before .before .read-value .ensures .0) _ _ _ (c .before .answer .given .1) _ (c .before .before .before .before .before .read-value .ensures .1)
+returns c =
+  let a = c .before .before .before .before .before .before .before .before .before .before .before .args in
+  let room-of = c .before .before .before .before .before .before .before .room-of in
+  let pre = c .before .before .before .before .before .before .before .before .before .before .before .pre in
+  let read-value = c .before .before .before .before .before .read-value in
+  value-accepted (a .t .now) (a .typed) _ (a .room) (a .table .now) _ (room-of .ensures) (omega (arith, room-of .ensures, pre)) _ (read-value .ensures .0) _ _ _ (c .before .answer .given .1) _ (read-value .ensures .1)
 
 same-length-2 : tie.Need-same-length-2
 same-length-2 c = search needs
 
 returns-2 : tie.Need-returns-2
-returns-2 c = value-refused (c .before .before .before .before .before .before .before .before .before .before .before .args .t .now) (c .before .before .before .before .before .before .before .before .before .before .before .args .typed) _ (c .before .before .before .before .before .before .before .before .before .before .before .args .room) (c .before .before .before .before .before .before .before .before .before .before .before .args .table .now) _ (c .before .before .before .before .before .before .before .room-of .ensures) (omega (arith, c .before .before .before .before .before .before .before .room-of .ensures, c .before .before .before .before .before .before .before .before .before .before .before .pre)) _ (c .before .before .before .before .before .read-value .ensures .0) _ _ (c .before .answer2 .given .1) _
+returns-2 c =
+  let a = c .before .before .before .before .before .before .before .before .before .before .before .args in
+  let room-of = c .before .before .before .before .before .before .before .room-of in
+  let pre = c .before .before .before .before .before .before .before .before .before .before .before .pre in
+  let read-value = c .before .before .before .before .before .read-value in
+  value-refused (a .t .now) (a .typed) _ (a .room) (a .table .now) _ (room-of .ensures) (omega (arith, room-of .ensures, pre)) _ (read-value .ensures .0) _ _ (c .before .answer2 .given .1) _
 
 pub read-value-spec : {M : Type 1} → statement M
 read-value-spec =

@@ -17,7 +17,9 @@ add-result : tie.Need-add-result
 add-result c = let g = gap-small (c .before .before .args .size) (c .before .before .args .index .0 % 8 + c .before .before .args .at) in let o = octets-small (c .before .before .args .size) in let e = c .gap .ensures in omega (arith, c .before .before .pre)
 
 returns : tie.Need-returns
-returns c = ap (λ (g : ℕ). c .before .before .args .at + g) (c .gap .ensures ∙ gap-modulo-8 (c .before .before .args .size) (c .before .before .args .index .0) (c .before .before .args .at))
+returns c =
+  let a = c .before .before .args in
+  ap (λ (g : ℕ). a .at + g) (c .gap .ensures ∙ gap-modulo-8 (a .size) (a .index .0) (a .at))
 
 pub behind-gap-spec : {M : Type 1} → statement M
 behind-gap-spec = tie.close (tie.spec add-i gap-requires add-result returns)

@@ -18,7 +18,9 @@ add-result : tie.Need-add-result
 add-result c = search needs
 
 returns : tie.Need-returns
-returns c = octet-ends (c .before .before .args .index) (c .before .before .args .at) (c .before .before .args .kind) (c .before .before .args .content) (c .before .is-octet .ensures (c .if1 .taken))
+returns c =
+  let a = c .before .before .args in
+  octet-ends (a .index) (a .at) (a .kind) (a .content) (c .before .is-octet .ensures (c .if1 .taken))
 
 width-of-requires : tie.Need-width-of-requires
 width-of-requires c κs = search needs
@@ -30,16 +32,28 @@ octets-requires : tie.Need-octets-requires
 octets-requires c κs = search needs
 
 add-result-2 : tie.Need-add-result-2
-add-result-2 c = let g = gap-small (c .before .before .width-of .result) (c .before .before .before .before .before .args .index .0 + c .before .before .before .before .before .args .at) in let o = octets-small (c .before .before .width-of .result) in let e = c .before .behind-gap .ensures in let f = c .octets .ensures in omega (arith, c .before .before .before .before .before .pre .0)
+add-result-2 c =
+  let width-of = c .before .before .width-of in
+  let a = c .before .before .before .before .before .args in
+  let pre = c .before .before .before .before .before .pre in
+  let g = gap-small (width-of .result) (a .index .0 + a .at) in let o = octets-small (width-of .result) in let e = c .before .behind-gap .ensures in let f = c .octets .ensures in omega (arith, pre .0)
 
 tail-of-requires : tie.Need-tail-of-requires
 tail-of-requires c κs = search needs
 
 add-result-3 : tie.Need-add-result-3
-add-result-3 c = let g = gap-small (c .before .before .before .width-of .result) (c .before .before .before .before .before .before .args .index .0 + c .before .before .before .before .before .before .args .at) in let o = octets-small (c .before .before .before .width-of .result) in let e = c .before .before .behind-gap .ensures in let f = c .before .octets .ensures in let t = c .tail-of .ensures in omega (arith, c .before .before .before .before .before .before .pre .0, c .before .before .before .before .before .before .pre .1)
+add-result-3 c =
+  let width-of = c .before .before .before .width-of in
+  let a = c .before .before .before .before .before .before .args in
+  let pre = c .before .before .before .before .before .before .pre in
+  let g = gap-small (width-of .result) (a .index .0 + a .at) in let o = octets-small (width-of .result) in let e = c .before .before .behind-gap .ensures in let f = c .before .octets .ensures in let t = c .tail-of .ensures in omega (arith, pre .0, pre .1)
 
 returns-2 : tie.Need-returns-2
-returns-2 c = ap (λ (n : ℕ). n + c .before .octets .result + c .tail-of .result) (c .before .before .behind-gap .ensures) ∙ ap (λ (n : ℕ). behindGap (c .before .before .before .before .before .before .args .index) (c .before .before .before .before .before .before .args .at) (octets (c .before .before .before .width-of .result)) + n + c .tail-of .result) (c .before .octets .ensures) ∙ ap (λ (z : Size). behindGap (c .before .before .before .before .before .before .args .index) (c .before .before .before .before .before .before .args .at) (octets z) + octets z + c .tail-of .result) (c .before .before .before .width-of .ensures) ∙ ap (λ (n : ℕ). behindGap (c .before .before .before .before .before .before .args .index) (c .before .before .before .before .before .before .args .at) (octets (widthOf (c .before .before .before .before .before .before .args .kind))) + octets (widthOf (c .before .before .before .before .before .before .args .kind)) + n) (c .tail-of .ensures)
+returns-2 c =
+  let octets2 = c .before .octets in
+  let a = c .before .before .before .before .before .before .args in
+  let width-of = c .before .before .before .width-of in
+  ap (λ (n : ℕ). n + octets2 .result + c .tail-of .result) (c .before .before .behind-gap .ensures) ∙ ap (λ (n : ℕ). behindGap (a .index) (a .at) (octets (width-of .result)) + n + c .tail-of .result) (octets2 .ensures) ∙ ap (λ (z : Size). behindGap (a .index) (a .at) (octets z) + octets z + c .tail-of .result) (width-of .ensures) ∙ ap (λ (n : ℕ). behindGap (a .index) (a .at) (octets (widthOf (a .kind))) + octets (widthOf (a .kind)) + n) (c .tail-of .ensures)
 
 pub item-end-spec : {M : Type 1} → statement M
 item-end-spec =

@@ -13,7 +13,10 @@ cast-out : tie.Need-cast-out
 cast-out c = search needs
 
 slice-write-out : tie.Need-slice-write-out
-slice-write-out c = let e = octet-ends (c .before .before .before .before .args .index) (c .before .before .before .before .args .at) (c .before .before .before .before .args .kind) (c .before .before .before .before .args .content) (c .before .is-octet .ensures (c .if1 .taken)) in omega (arith, c .before .before .before .before .pre .2)
+slice-write-out c =
+  let a = c .before .before .before .before .args in
+  let pre = c .before .before .before .before .pre in
+  let e = octet-ends (a .index) (a .at) (a .kind) (a .content) (c .before .is-octet .ensures (c .if1 .taken)) in omega (arith, pre .2)
 
 add-result : tie.Need-add-result
 add-result c = search needs
@@ -22,7 +25,10 @@ same-length : tie.Need-same-length
 same-length c = search needs
 
 returns : tie.Need-returns
-returns c = (octet-ends (c .before .before .before .before .args .index) (c .before .before .before .before .args .at) (c .before .before .before .before .args .kind) (c .before .before .before .before .args .content) (c .before .is-octet .ensures (c .if1 .taken)), octet-octets (target (c .before .before .before .before .args .order) (c .before .before .before .before .args .index)) (c .before .before .before .before .args .v .now) (c .before .before .before .before .args .out .now) (c .before .before .before .before .args .at) (c .before .before .before .before .args .kind) (c .before .before .before .before .args .place) (c .before .before .before .before .args .content) (c .before .is-octet .ensures (c .if1 .taken)))
+returns c =
+  let a = c .before .before .before .before .args in
+  let is-octet = c .before .is-octet in
+  (octet-ends (a .index) (a .at) (a .kind) (a .content) (is-octet .ensures (c .if1 .taken)), octet-octets (target (a .order) (a .index)) (a .v .now) (a .out .now) (a .at) (a .kind) (a .place) (a .content) (is-octet .ensures (c .if1 .taken)))
 
 write-wide-requires : tie.Need-write-wide-requires
 write-wide-requires c κs = search needs

@@ -5,7 +5,9 @@ use Rattle.words.proofs.places.word_at.Statement.{statement}
 use Rattle.words.proofs.places.word_at.Tie as tie
 
 returns : tie.Need-returns
-returns c = word-none (c .before .before .args .line .now) (c .before .before .args .from) (c .if1 .taken)
+returns c =
+  let a = c .before .before .args in
+  word-none (a .line .now) (a .from) (c .if1 .taken)
 
 sub-first-end : tie.Need-sub-first-end
 sub-first-end c = search needs
@@ -23,7 +25,9 @@ add-t9 : tie.Need-add-t9
 add-t9 c = search needs
 
 returns-2 : tie.Need-returns-2
-returns-2 c = word-there (c .before .before .before .before .args .line .now) (c .before .before .before .before .args .from) (c .before .before .if1 .left) _ (c .first-end .ensures)
+returns-2 c =
+  let a = c .before .before .before .before .args in
+  word-there (a .line .now) (a .from) (c .before .before .if1 .left) _ (c .first-end .ensures)
 
 pub word-at-spec : {M : Type 1} → statement M
 word-at-spec =
