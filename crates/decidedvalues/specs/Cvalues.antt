@@ -23,8 +23,9 @@ use Rattle.loops.specs.Loops.{closure, anyBelow, loopFound}
 use Rattle.steps.specs.Steps.{steps}
 use Rattle.typecode.specs.TypeCode.{loopLast, checkedType}
 use Rattle.reading.specs.Sinks.{taken, done, numberStep}
-use Rattle.reading.specs.Visit.{inside, sizeOf, leafDone, leafAt, enter}
+use Rattle.reading.specs.Visit.{inside, sizeOf, leafDone, leafAt}
 use Rattle.reading.specs.Reading.{reads, reading}
+use Rattle.reading.specs.Opens.{readsNode, enterNode, own, opens, closes, shuts, next, entries}
 use Rattle.reading.specs.Value.{visitsIn, readingOf, valueAnswer}
 use Rattle.value.specs.Single.{givenIn, givenBy, itemAnswer}
 use Rattle.written.specs.Written.{target, unnamedOrder, wrote, writes}
@@ -37,17 +38,17 @@ unfolding choose readOf fieldOf kindAt typeAt walkedOf checkedType
 type-is-kept = refl
 
 pub visits-are-told : visitsIn (valueAnswer (octetsOf Big 4 4) (orderIs false) (valueAt [] false 0) 0) ≡ 1
-unfolding choose littleNumber littleOctets numberOf octetsOf numberAt readOf fieldOf formOf fieldIn parametersAt added findIn findPlace positionOf parametersOf belowTop entryOf entered closed enteredAt kindAt enterAt typeAt walkedOf closure anyBelow loopFound steps loopLast checkedType numberStep inside sizeOf leafAt enter reads reading readingOf valueAnswer
+unfolding choose littleNumber littleOctets numberOf octetsOf numberAt readOf fieldOf formOf fieldIn parametersAt added findIn findPlace positionOf parametersOf belowTop entryOf entered closed enteredAt kindAt enterAt typeAt walkedOf closure anyBelow loopFound steps loopLast checkedType numberStep inside sizeOf leafAt reads readsNode enterNode own opens closes shuts next entries reading readingOf valueAnswer
 visits-are-told = refl
 
 pub item-is-kept : givenIn (itemAnswer (octetsOf Big 4 4) (orderIs false) (valueAt [] false 0) 0) (8 ∷ 9 ∷ []) ≡ 8 ∷ 9 ∷ []
-unfolding choose littleNumber littleOctets numberOf octetsOf numberAt readOf fieldOf formOf fieldIn parametersAt added findIn findPlace positionOf parametersOf belowTop entryOf entered closed enteredAt kindAt enterAt typeAt walkedOf closure anyBelow loopFound steps loopLast checkedType numberStep inside sizeOf leafAt enter reads reading readingOf givenBy itemAnswer
+unfolding choose littleNumber littleOctets numberOf octetsOf numberAt readOf fieldOf formOf fieldIn parametersAt added findIn findPlace positionOf parametersOf belowTop entryOf entered closed enteredAt kindAt enterAt typeAt walkedOf closure anyBelow loopFound steps loopLast checkedType numberStep inside sizeOf leafAt reads readsNode enterNode own opens closes shuts next entries reading readingOf givenBy itemAnswer
 item-is-kept = refl
 
 pub chosen-is-little : outputAfter (octetsOf Big 4 4) (orderIs false) (valueAt (0 ∷ 1 ∷ []) false 0) (target (orderIs true) (indexOf 0)) (9 ∷ 9 ∷ 9 ∷ []) ≡ 1 ∷ 0 ∷ 9 ∷ []
-unfolding choose littleNumber littleOctets numberOf octetsOf numberAt readOf fieldOf formOf fieldIn parametersAt added findIn findPlace positionOf parametersOf belowTop entryOf entered closed enteredAt kindAt enterAt typeAt walkedOf closure anyBelow loopFound steps loopLast checkedType taken done numberStep inside sizeOf leafDone leafAt enter reads reading readingOf wrote writes rewriteOf rewriteAnswer outputAfter
+unfolding choose littleNumber littleOctets numberOf octetsOf numberAt readOf fieldOf formOf fieldIn parametersAt added findIn findPlace positionOf parametersOf belowTop entryOf entered closed enteredAt kindAt enterAt typeAt walkedOf closure anyBelow loopFound steps loopLast checkedType taken done numberStep inside sizeOf leafDone leafAt reads readsNode enterNode own opens closes shuts next entries reading readingOf wrote writes rewriteOf rewriteAnswer outputAfter
 chosen-is-little = refl
 
 pub no-room-keeps-count : writtenCount (rewriteAnswer (octetsOf Big 4 4) (orderIs false) (valueAt (0 ∷ 1 ∷ []) false 0) (target unnamedOrder (indexOf 0)) 1) 9 ≡ 9
-unfolding choose littleNumber littleOctets numberOf octetsOf numberAt readOf fieldOf formOf fieldIn parametersAt added findIn findPlace positionOf parametersOf belowTop entryOf entered closed enteredAt kindAt enterAt typeAt walkedOf closure anyBelow loopFound steps loopLast checkedType taken done numberStep inside sizeOf leafDone leafAt enter reads reading readingOf wrote writes rewriteOf rewriteAnswer
+unfolding choose littleNumber littleOctets numberOf octetsOf numberAt readOf fieldOf formOf fieldIn parametersAt added findIn findPlace positionOf parametersOf belowTop entryOf entered closed enteredAt kindAt enterAt typeAt walkedOf closure anyBelow loopFound steps loopLast checkedType taken done numberStep inside sizeOf leafDone leafAt reads readsNode enterNode own opens closes shuts next entries reading readingOf wrote writes rewriteOf rewriteAnswer
 no-room-keeps-count = refl

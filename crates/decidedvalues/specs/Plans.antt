@@ -20,8 +20,9 @@ use Rattle.kinds.specs.Parts.{placeOf, fieldIn, skipCounted, spotAt, memberAt}
 use Rattle.kinds.specs.Parameters.{fieldsOf, parametersAt}
 use Rattle.met.specs.Met.{noKinds, added, findIn, findPlace, positionOf, parametersOf}
 use Rattle.reading.specs.Sinks.{st, after, repeats, taken, done, numberStep}
-use Rattle.reading.specs.Visit.{checked, inside, sizeOf, contentOf, leafDone, leafAt, enter}
+use Rattle.reading.specs.Visit.{checked, inside, sizeOf, contentOf, leafDone, leafAt}
 use Rattle.reading.specs.Reading.{reads}
+use Rattle.reading.specs.Opens.{readsNode, enterNode, own, opens, closes, shuts, next, entries}
 use Rattle.leaves.specs.Lent.{lentOf, rowPut}
 use Rattle.plans.specs.declared.Plan.{Plan}
 use Rattle.plans.specs.Plans.{planSteps, planVisit, FlatDone, Right}
@@ -35,7 +36,7 @@ unfolding findIn findPlace positionOf inside
 unmet-is-fault = refl
 
 pub flat-is-visit : FlatDone filling (7 ∷ []) (Leaf 10) 1 (from-start (replicate 3 9)) false (st 1 0 7 (lentOf 1 1 (10 ∷ 0 ∷ 7 ∷ [])))
-unfolding choose littleNumber numberOf numberAt readOf taken done numberStep sizeOf contentOf leafDone leafAt enter reads rowPut
+unfolding choose littleNumber numberOf numberAt readOf taken done numberStep sizeOf contentOf leafDone leafAt reads readsNode enterNode own opens closes shuts next entries rowPut
 flat-is-visit t = refl
 
 pub member-is-octet : Right (checked (octetsOf Big 12 0x00000001000000000000000A) (added noKinds (placeOf 8) (placeOf 0) Big)) (fieldsOf (placeOf 0) Big 1 (indexOf 0)) (10 ∷ []) 1 0 (indexOf 0)

@@ -19,8 +19,9 @@ use Rattle.loops.specs.Loops.{closure, anyBelow, loopFound}
 use Rattle.steps.specs.Steps.{steps}
 use Rattle.typecode.specs.TypeCode.{loopLast, checkedType}
 use Rattle.reading.specs.Sinks.{source, taken, done, numberStep}
-use Rattle.reading.specs.Visit.{inside, sizeOf, leafDone, leafAt, enter}
+use Rattle.reading.specs.Visit.{inside, sizeOf, leafDone, leafAt}
 use Rattle.reading.specs.Reading.{reads, reading}
+use Rattle.reading.specs.Opens.{readsNode, enterNode, own, opens, closes, shuts, next, entries}
 use Rattle.reading.specs.Value.{readingOf}
 use Rattle.value.specs.declared.Judged.the-variants.{Refused}
 use Rattle.value.specs.Typed.{typedFor}
@@ -32,5 +33,5 @@ unfolding choose typedFor
 long-value-first = refl
 
 pub unnamed-is-big : outputAfter (octetsOf Big 4 4) Big (source (1 ∷ 0 ∷ []) Little (indexOf 0)) (target unnamedOrder (indexOf 0)) (9 ∷ 9 ∷ 9 ∷ []) ≡ 0 ∷ 1 ∷ 9 ∷ []
-unfolding choose littleNumber littleOctets numberOf octetsOf numberAt readOf fieldOf formOf fieldIn parametersAt added findIn findPlace positionOf parametersOf belowTop entryOf entered closed enteredAt kindAt enterAt typeAt walkedOf closure anyBelow loopFound steps loopLast checkedType taken done numberStep inside sizeOf leafDone leafAt enter reads reading readingOf wrote writes rewriteOf rewriteAnswer outputAfter
+unfolding choose littleNumber littleOctets numberOf octetsOf numberAt readOf fieldOf formOf fieldIn parametersAt added findIn findPlace positionOf parametersOf belowTop entryOf entered closed enteredAt kindAt enterAt typeAt walkedOf closure anyBelow loopFound steps loopLast checkedType taken done numberStep inside sizeOf leafDone leafAt reads readsNode enterNode own opens closes shuts next entries reading readingOf wrote writes rewriteOf rewriteAnswer outputAfter
 unnamed-is-big = refl

@@ -23,8 +23,9 @@ use Rattle.steps.specs.Steps.{memberIs, steps}
 use Rattle.typecode.specs.TypeCode.{loopLast, checkedType}
 use Rattle.cdr.specs.Number.{signExtended}
 use Rattle.reading.specs.Sinks.{after, repeats, taken, done, numberStep as numberTaken, octetsStep}
-use Rattle.reading.specs.Visit.{inside, sizeOf, contentOf, leafDone, leafAt, textDone, textGot, textAt, countDone, countAt, elementsAt, sequenceAt, enter, defaultOf, chosenOf, caseOf, memberNo, unionAt, enumDone, enumAt, exceptionAt, tagDone, tagAt, runDone, runGot, runAt, profileAt, profilesAt, objrefAt, membersAt as valueMembers}
+use Rattle.reading.specs.Visit.{inside, sizeOf, contentOf, leafDone, leafAt, textDone, textGot, textAt, countDone, countAt, elementsAt, sequenceAt, defaultOf, chosenOf, caseOf, memberNo, unionAt, enumDone, enumAt, exceptionAt, tagDone, tagAt, runDone, runGot, runAt, profileAt, profilesAt, objrefAt, membersAt as valueMembers}
 use Rattle.reading.specs.Reading.{reads, reading}
+use Rattle.reading.specs.Opens.{readsNode, enterNode, own, opens, closes, shuts, next, entries}
 use Rattle.reading.specs.Value.{readingOf}
 use lib.ListN.{replicate}
 use Prim.Native.Nat.{ℕ}
@@ -65,5 +66,5 @@ rewritings =
     ∷ []
 
 pub rewritings-hold : T (holds rewritings)
-unfolding littleNumber littleOctets numberOf octetsOf numberAt choose readOf fieldOf stringOf textOf endsText overBound runOf countedOf formOf fieldIn skipField skipCounted targetOf aimed spotAt memberAt namesIn countIn typeIn elementIn unionIn encapsulated parametersAt added findIn findPlace positionOf parametersOf leafLabels labelsAfter labelsFor outOfKind labelAmong belowTop entryOf textStep namesStep numberStep countStep anyCount headStep exceptionStep lengthStep textsStep enumStep partOf badDefault switchStep entered closed targetStep indirectionAt nameStep membersAt labelsAt switchedAt discriminantAt endedAt compositeAt enteredAt kindAt enterAt typeAt walkedOf closure anyBelow loopFound memberIs steps loopLast checkedType signExtended after repeats taken done numberTaken octetsStep inside sizeOf contentOf leafDone leafAt textDone textGot textAt countDone countAt elementsAt sequenceAt enter reads reading readingOf defaultOf chosenOf caseOf memberNo unionAt enumDone enumAt exceptionAt tagDone tagAt runDone runGot runAt profileAt profilesAt objrefAt valueMembers wrote writes rewriteOf rewriteAnswer outputAfter rewritings
+unfolding littleNumber littleOctets numberOf octetsOf numberAt choose readOf fieldOf stringOf textOf endsText overBound runOf countedOf formOf fieldIn skipField skipCounted targetOf aimed spotAt memberAt namesIn countIn typeIn elementIn unionIn encapsulated parametersAt added findIn findPlace positionOf parametersOf leafLabels labelsAfter labelsFor outOfKind labelAmong belowTop entryOf textStep namesStep numberStep countStep anyCount headStep exceptionStep lengthStep textsStep enumStep partOf badDefault switchStep entered closed targetStep indirectionAt nameStep membersAt labelsAt switchedAt discriminantAt endedAt compositeAt enteredAt kindAt enterAt typeAt walkedOf closure anyBelow loopFound memberIs steps loopLast checkedType signExtended after repeats taken done numberTaken octetsStep inside sizeOf contentOf leafDone leafAt textDone textGot textAt countDone countAt elementsAt sequenceAt reads readsNode enterNode own opens closes shuts next entries reading readingOf defaultOf chosenOf caseOf memberNo unionAt enumDone enumAt exceptionAt tagDone tagAt runDone runGot runAt profileAt profilesAt objrefAt valueMembers wrote writes rewriteOf rewriteAnswer outputAfter rewritings
 rewritings-hold = tt

@@ -38,8 +38,9 @@ use Rattle.typecode.specs.TypeCode.{answerNumbers, loopLast, checkedType}
 use Rattle.cdr.specs.Align.{indexOf}
 use Rattle.cdr.specs.Number.{signExtended}
 use Rattle.reading.specs.Sinks.{Source, source, after, repeats, taken, done, numberStep as numberTaken, octetsStep}
-use Rattle.reading.specs.Visit.{inside, sizeOf, contentOf, leafDone, leafAt, textDone, textGot, textAt, countDone, countAt, elementsAt, sequenceAt, enter}
+use Rattle.reading.specs.Visit.{inside, sizeOf, contentOf, leafDone, leafAt, textDone, textGot, textAt, countDone, countAt, elementsAt, sequenceAt}
 use Rattle.reading.specs.Reading.{reads, reading}
+use Rattle.reading.specs.Opens.{readsNode, enterNode, own, opens, closes, shuts, next, entries}
 use Rattle.reading.specs.Value.{roomIn, answerNumbers as valueNumbers, readingOf, valueAnswer, flat, tableAfter}
 use Rattle.written.specs.Written.{Target, target, wrote, writes}
 use Rattle.profile.specs.Profile.{profileNumbers, profileOf, componentNumbers, componentOf}
@@ -122,5 +123,5 @@ samples =
     ∷ []
 
 pub samples-hold : T (holds samples)
-unfolding littleNumber littleOctets numberOf octetsOf numberAt majorExists minorExists versionExists flagsAllowed typeExists bodyStartsWithId readsFragments isRequestOrReply isBare hasRequestId sizeAllowed fragmentAllowed eightsAllowed sizedOf messageOf frameOf choose readOf fieldOf stringOf textOf endsText overBound runOf countedOf formOf fieldIn skipField skipCounted targetOf aimed spotAt memberAt namesIn countIn typeIn elementIn unionIn encapsulated parametersAt added findIn findPlace positionOf parametersOf leafLabels labelsAfter labelsFor outOfKind labelAmong belowTop entryOf textStep namesStep numberStep countStep anyCount headStep exceptionStep lengthStep textsStep enumStep partOf badDefault switchStep entered closed targetStep indirectionAt nameStep membersAt labelsAt switchedAt discriminantAt endedAt compositeAt enteredAt kindAt enterAt typeAt walkedOf closure anyBelow loopFound memberIs steps loopLast checkedType signExtended after repeats taken done numberTaken octetsStep inside sizeOf contentOf leafDone leafAt textDone textGot textAt countDone countAt elementsAt sequenceAt enter reads reading readingOf valueAnswer flat tableAfter wrote writes rewriteOf rewriteAnswer outputAfter samples
+unfolding littleNumber littleOctets numberOf octetsOf numberAt majorExists minorExists versionExists flagsAllowed typeExists bodyStartsWithId readsFragments isRequestOrReply isBare hasRequestId sizeAllowed fragmentAllowed eightsAllowed sizedOf messageOf frameOf choose readOf fieldOf stringOf textOf endsText overBound runOf countedOf formOf fieldIn skipField skipCounted targetOf aimed spotAt memberAt namesIn countIn typeIn elementIn unionIn encapsulated parametersAt added findIn findPlace positionOf parametersOf leafLabels labelsAfter labelsFor outOfKind labelAmong belowTop entryOf textStep namesStep numberStep countStep anyCount headStep exceptionStep lengthStep textsStep enumStep partOf badDefault switchStep entered closed targetStep indirectionAt nameStep membersAt labelsAt switchedAt discriminantAt endedAt compositeAt enteredAt kindAt enterAt typeAt walkedOf closure anyBelow loopFound memberIs steps loopLast checkedType signExtended after repeats taken done numberTaken octetsStep inside sizeOf contentOf leafDone leafAt textDone textGot textAt countDone countAt elementsAt sequenceAt reads readsNode enterNode own opens closes shuts next entries reading readingOf valueAnswer flat tableAfter wrote writes rewriteOf rewriteAnswer outputAfter samples
 samples-hold = tt
