@@ -22,12 +22,11 @@ use Rattle.fields.specs.declared.Refusal.the-variants.{Ends, NoSuchKind, BadEnc
 use Rattle.fields.specs.declared.Entry.the-variants.{Barred, Enters}
 use Rattle.fields.specs.declared.Step.{Step}
 use Rattle.fields.specs.declared.Step.the-variants.{Refused, Next}
-use Rattle.fields.specs.declared.Count.the-variants.{Wrong, Stands}
+use Rattle.fields.specs.declared.Switch.the-variants.{NoSwitch, Cases}
 use Rattle.fields.specs.declared.Part.the-variants.{NoPart, Inside}
 use Rattle.cdr.specs.declared.Named.{Named}
 use Rattle.cdr.specs.declared.Named.the-variants.{Is, NoOrder}
-use Rattle.checking.specs.declared.Walk.{Walk}
-use Rattle.checking.specs.declared.Walked.{Walked}
+use Rattle.checking.specs.Walk.{Walk, Walked}
 use Rattle.encapsulation.specs.Encapsulation.{fieldOf}
 use Rattle.kinds.specs.Forms.{indirectionKind, formOf}
 use Rattle.kinds.specs.Parts.{behind}
@@ -114,14 +113,14 @@ module _ (v : List ℕ) (left : ℕ) (s : List ℕ) (b : Place) (order : Order) 
     unfolding typeAt kindAt choose
     type-indirection e = rw (r, eq-eqb kind indirectionKind e)
 
-    module _ (k : kind ≡ indirectionKind → ⊥) (form : Form) (f : form ≡ formOf kind) (here : ℕ) (h : here ≡ w .met .count) where
+    module _ (k : kind ≡ indirectionKind → ⊥) (form : Form) (f : form ≡ formOf kind) (here : ℕ) (h : here ≡ length (w .kinds)) where
       pub type-barred : (n : Refusal) → entryOf form kind left here ≡ Barred n → refusedAs n w ≡ typeAt v left s b order i w
       unfolding typeAt kindAt choose
       type-barred n e = rw (r, ne-eqb kind indirectionKind k, ← f, ← h, e)
 
       entering : entryOf form kind left here ≡ Enters → enterAt v left (formOf kind) s b order next w ≡ typeAt v left s b order i w
       unfolding typeAt kindAt choose
-      entering e = let e′ : entryOf (formOf kind) kind left (w .met .count) ≡ Enters = rw (f, h) at e in rw (r, ne-eqb kind indirectionKind k, e′)
+      entering e = let e′ : entryOf (formOf kind) kind left (length (w .kinds)) ≡ Enters = rw (f, h) at e in rw (r, ne-eqb kind indirectionKind k, e′)
 
       enter-on : (l : ℕ) (w₁ : Walk) → w₁ ≡ entered w (behind b next) b order form
           → insideAt v (typeAt v l) form s b order next w₁ here ≡ enterAt v (suc l) (formOf kind) s b order next w
@@ -134,40 +133,36 @@ module _ (v : List ℕ) (left : ℕ) (s : List ℕ) (b : Place) (order : Order) 
           let z : suc (left - 1) ≡ left = omega (arith, entry-facts form kind left here e .some) in
           enter-on (left - 1) w₁ q ∙ ap (λ (x : ℕ). enterAt v x (formOf kind) s b order next w) z ∙ entering e
 
-module _ (v : List ℕ) (go : Checker) (labels : Labels) (s : List ℕ) (b : Place) (order : Order) (first : Index) (n k : ℕ) (i : Index) (w : Walk) where
-  left-suc : k < n → n - k ≡ suc (n - (k + 1))
-  left-suc h = omega arith
+module _ (v : List ℕ) (go : Checker) (labels : Labels) (default : ℕ) (s : List ℕ) (b : Place) (order : Order) (first : Index) where
+  -- what n members from an index on give, of which k stand before: x is k, the index and what was met
+  abbrev pub membersFor : ℕ → ℕ × Index × Walk → Walked
+  membersFor n x = membersAt v go labels default s b order first n (x .0) (x .1) (x .2)
 
-  pub members-done : n ≤ k → goesOn i w ≡ membersAt v go labels s b order first (n - k) k i w
-  unfolding membersAt
-  members-done h = let z : n - k ≡ 0 = omega arith in rw z
-
-  pub members-refused : k < n → (r : Refusal) → nameStep labels v s b order k first i ≡ Refused r
-      → refusedAs r w ≡ membersAt v go labels s b order first (n - k) k i w
-  unfolding membersAt
-  members-refused h r e = rw (left-suc h, e)
-
-  module _ (h : k < n) (j : Index) (e : nameStep labels v s b order k first i ≡ Next j) (c : Walked) (q : c ≡ go s b order j w) where
-    pub members-cut : (r : Refusal) → c .step ≡ Refused r → refusedAs r (c .walk) ≡ membersAt v go labels s b order first (n - k) k i w
+  module _ (k : ℕ) (i : Index) (w : Walk) where
+    pub members-refused : (r : Refusal) → nameStep labels v s b order default k first i ≡ Refused r → (n : ℕ) → membersFor (suc n) (k, i, w) ≡ refusedAs r w
     unfolding membersAt
-    members-cut r f = rw (left-suc h, e, ← q, f)
+    members-refused r e n = rw e
 
-    pub members-on : (next : Index) → c .step ≡ Next next
-        → membersAt v go labels s b order first (n - (k + 1)) (k + 1) next (c .walk) ≡ membersAt v go labels s b order first (n - k) k i w
-    unfolding membersAt
-    members-on next f = rw (left-suc h, e, ← q, f)
+    module _ (j : Index) (e : nameStep labels v s b order default k first i ≡ Next j) (c : Walked) (q : c ≡ go s b order j w) where
+      pub members-cut : (r : Refusal) → c .step ≡ Refused r → (n : ℕ) → membersFor (suc n) (k, i, w) ≡ refusedAs r (c .walk)
+      unfolding membersAt
+      members-cut r f n = rw (e, ← q, f)
+
+      pub members-on : (next : Index) → c .step ≡ Next next → (n : ℕ) → membersFor (suc n) (k, i, w) ≡ membersFor n (k + 1, next, c .walk)
+      unfolding membersAt
+      members-on next f n = rw (e, ← q, f)
 
 module _ (v : List ℕ) (go : Checker) (s : List ℕ) (b : Place) (order : Order) (i : Index) (w : Walk) (c : Walked) (q : c ≡ go s b order i w) where
   pub switched-refused : (r : Refusal) → c .step ≡ Refused r → refusedAs r (c .walk) ≡ discriminantAt v go s b order i w
   unfolding discriminantAt
   switched-refused r f = rw (← q, f)
 
-  module _ (j : Index) (f : c .step ≡ Next j) (labels : Labels) (l : labels ≡ labelsAt v (c .walk .met) b i order) where
-    pub switched-wrong : (r : Refusal) → switchHead labels s j order ≡ Wrong r → refusedAs r (c .walk) ≡ discriminantAt v go s b order i w
+  module _ (j : Index) (f : c .step ≡ Next j) (labels : Labels) (l : labels ≡ labelsAt v (c .walk .kinds) b i order) where
+    pub switched-wrong : (r : Refusal) → switchHead labels s j order ≡ NoSwitch r → refusedAs r (c .walk) ≡ discriminantAt v go s b order i w
     unfolding discriminantAt switchedAt
     switched-wrong r e = rw (← q, f, ← l, e)
 
-    pub switched-on : (n : ℕ) (next : Index) → switchHead labels s j order ≡ Stands n next
-        → membersAt v go labels s b order next n 0 next (c .walk) ≡ discriminantAt v go s b order i w
+    pub switched-on : (default n : ℕ) (next : Index) → switchHead labels s j order ≡ Cases default n next
+        → membersAt v go labels default s b order next n 0 next (c .walk) ≡ discriminantAt v go s b order i w
     unfolding discriminantAt switchedAt
-    switched-on n next e = rw (← q, f, ← l, e)
+    switched-on default n next e = rw (← q, f, ← l, e)

@@ -10,6 +10,7 @@
 --   membersAt         so many members: a label if there are labels, a name, a type; `done` of them stand before, from `first` on
 --   labelsAt          what the discriminant at an index says of labels
 --   switchHead        35 for a discriminant of another kind, then default and count
+--   casesThen         what follows them, unless they are refused
 --   switchedAt        what follows a discriminant: default, count and members
 --   discriminantAt    a union's discriminant and what follows it
 --   contentsAt        what an encapsulation of a layout holds: "objref: id, name. Alias: id, name, type." and so on
@@ -43,30 +44,29 @@ use Rattle.kinds.specs.declared.Target.{Target}
 use Rattle.kinds.specs.declared.Target.the-variants.{To, Outside}
 use Rattle.kinds.specs.declared.Labels.{Labels}
 use Rattle.kinds.specs.declared.Labels.the-variants.{Of, NoLabels}
-use Rattle.met.specs.declared.Met.{Met}
+use Rattle.kinds.specs.declared.Kind.{Kind}
 use Rattle.fields.specs.declared.Refusal.the-variants.{Ends, NoSuchKind, BadEncapsulation, BadUnion, BadTarget, TooDeep, TooLong}
 use Rattle.fields.specs.declared.Entry.{Entry}
 use Rattle.fields.specs.declared.Entry.the-variants.{Barred, Enters}
 use Rattle.fields.specs.declared.Step.{Step}
-use Rattle.fields.specs.declared.Count.{Count}
-use Rattle.fields.specs.declared.Count.the-variants.{Wrong}
+use Rattle.fields.specs.declared.Switch.{Switch}
+use Rattle.fields.specs.declared.Switch.the-variants.{NoSwitch, Cases}
 use Rattle.fields.specs.declared.Part.{Part}
 use Rattle.fields.specs.declared.Part.the-variants.{NoPart, Inside}
-use Rattle.checking.specs.declared.Walk.{Walk}
-use Rattle.checking.specs.declared.Walked.{Walked}
 use Rattle.cdr.specs.Align.{indexOf}
 use Rattle.encapsulation.specs.Encapsulation.{fieldOf}
 use Rattle.kinds.specs.Forms.{indirectionKind, formOf}
-use Rattle.kinds.specs.Parts.{placeOf, onField, onSpot, behind, targetOf, spotAt}
-use Rattle.met.specs.Met.{findPlace}
+use Rattle.kinds.specs.Parts.{placeOf, placeIn, onField, onSpot, behind, targetOf, spotAt}
+use Rattle.met.specs.Met.{findKind}
 use Rattle.met.specs.Discriminants.{labelsFor}
+use Rattle.met.specs.Arms.{noDefault}
 use Rattle.fields.specs.Fields.{nestingLimit, entryOf, thenStep, textStep, namesStep, numberStep, lengthStep, headStep, exceptionStep, enumStep, switchStep, labelStep, partOf}
-use Rattle.checking.specs.Walk.{nothingMet, entered, closed, refusedAs, goesOn, onStep, countThen, after}
+use Rattle.checking.specs.Walk.{Walk, Walked, nothingMet, entered, closed, refusedAs, goesOn, onStep, countThen, after}
 
 unfoldable pub targetStep : Walk → Place → Index → Walked
 targetStep w p next =
-    cond (ltb (findPlace (w .met) p) (w .met .count))
-    (cond (getD (w .barred) (findPlace (w .met) p) false) (refusedAs BadTarget w) (goesOn next w))
+    cond (ltb (findKind (w .kinds) p) (length (w .kinds)))
+    (cond (getD (w .barred) (findKind (w .kinds) p) false) (refusedAs BadTarget w) (goesOn next w))
     (refusedAs BadTarget w)
 
 abbrev pub aimedStep : Target → Walk → Index → Walked
@@ -80,37 +80,41 @@ indirectionAt s b order i w =
 abbrev pub Checker : Type 0
 Checker = List ℕ → Place → Order → Index → Walk → Walked
 
-unfoldable pub nameStep : Labels → List ℕ → List ℕ → Place → Order → ℕ → Index → Index → Step
-nameStep labels v s b order done first i = thenStep (labelStep labels v s b order done first i) (λ h. textStep s h order)
+unfoldable pub nameStep : Labels → List ℕ → List ℕ → Place → Order → ℕ → ℕ → Index → Index → Step
+nameStep labels v s b order default done first i = thenStep (labelStep labels v s b order default done first i) (λ h. textStep s h order)
 
-unfoldable pub membersAt : List ℕ → Checker → Labels → List ℕ → Place → Order → Index → ℕ → ℕ → Index → Walk → Walked
-membersAt v go labels s b order first zero done i w = goesOn i w
-membersAt v go labels s b order first (suc n) done i w =
-    onStep (nameStep labels v s b order done first i) w (λ j.
-    after (go s b order j w) (λ k w′. membersAt v go labels s b order first n (done + 1) k w′))
+unfoldable pub membersAt : List ℕ → Checker → Labels → ℕ → List ℕ → Place → Order → Index → ℕ → ℕ → Index → Walk → Walked
+membersAt v go labels default s b order first zero done i w = goesOn i w
+membersAt v go labels default s b order first (suc n) done i w =
+    onStep (nameStep labels v s b order default done first i) w (λ j.
+    after (go s b order j w) (λ k w′. membersAt v go labels default s b order first n (done + 1) k w′))
 
-unfoldable pub labelsAt : List ℕ → Met → Place → Index → Order → Labels
-labelsAt v m b i order = onSpot (spotAt v b i order) NoLabels (λ p next. labelsFor v m p)
+unfoldable pub labelsAt : List ℕ → List Kind → Place → Index → Order → Labels
+labelsAt v ks b i order = onSpot (spotAt v b i order) NoLabels (λ x next. labelsFor v ks (placeIn x))
 
-abbrev pub switchHead : Labels → List ℕ → Index → Order → Count
-switchHead NoLabels s i order = Wrong BadUnion
+abbrev pub switchHead : Labels → List ℕ → Index → Order → Switch
+switchHead NoLabels s i order = NoSwitch BadUnion
 switchHead (Of size limit) s i order = switchStep s i order
+
+abbrev pub casesThen : Switch → Walk → (ℕ → ℕ → Index → Walked) → Walked
+casesThen (NoSwitch r) w f = refusedAs r w
+casesThen (Cases default n next) w f = f default n next
 
 unfoldable pub switchedAt : List ℕ → Checker → Labels → List ℕ → Place → Order → Index → Walk → Walked
 switchedAt v go labels s b order i w =
-    countThen (switchHead labels s i order) w (λ n next. membersAt v go labels s b order next n 0 next w)
+    casesThen (switchHead labels s i order) w (λ default n next. membersAt v go labels default s b order next n 0 next w)
 
 unfoldable pub discriminantAt : List ℕ → Checker → List ℕ → Place → Order → Index → Walk → Walked
 discriminantAt v go s b order i w =
-    after (go s b order i w) (λ j w′. switchedAt v go (labelsAt v (w′ .met) b i order) s b order j w′)
+    after (go s b order i w) (λ j w′. switchedAt v go (labelsAt v (w′ .kinds) b i order) s b order j w′)
 
 abbrev pub contentsAt : List ℕ → Checker → Layout → List ℕ → Place → Order → Walk → Walked
 contentsAt v go Objref s b order w = onStep (namesStep s order) w (λ i. goesOn i w)
 contentsAt v go Alias s b order w = onStep (namesStep s order) w (λ i. go s b order i w)
 contentsAt v go Struct s b order w =
-    countThen (headStep s order) w (λ n next. membersAt v go NoLabels s b order next n 0 next w)
+    countThen (headStep s order) w (λ n next. membersAt v go NoLabels noDefault s b order next n 0 next w)
 contentsAt v go Exception s b order w =
-    countThen (exceptionStep s order) w (λ n next. membersAt v go NoLabels s b order next n 0 next w)
+    countThen (exceptionStep s order) w (λ n next. membersAt v go NoLabels noDefault s b order next n 0 next w)
 contentsAt v go Union s b order w =
     onStep (namesStep s order) w (λ i. discriminantAt v go s b order i w)
 contentsAt v go Enum s b order w = onStep (enumStep s order) w (λ i. goesOn i w)
@@ -138,7 +142,7 @@ insideAt v go Bounded s b order i w here = onStep (numberStep s i order) w (λ n
 insideAt v go (Composite layout) s b order i w here = compositeAt v go layout s b order i w here
 
 unfoldable pub enteredAt : List ℕ → Checker → Form → List ℕ → Place → Order → Index → Walk → Walked
-enteredAt v go form s b order next w = insideAt v go form s b order next (entered w (behind b next) b order form) (w .met .count)
+enteredAt v go form s b order next w = insideAt v go form s b order next (entered w (behind b next) b order form) (length (w .kinds))
 
 abbrev pub Enterer : Type 0
 Enterer = Form → List ℕ → Place → Order → Index → Walk → Walked
@@ -152,7 +156,7 @@ kindAt left enter s b order i w =
     onField (fieldOf s i Four order) (refusedAs Ends w) (λ kind next.
     choose (eqb kind indirectionKind)
     (λ _. indirectionAt s b order next w)
-    (λ _. onEntry (entryOf (formOf kind) kind left (w .met .count)) w (λ _. enter (formOf kind) s b order next w)))
+    (λ _. onEntry (entryOf (formOf kind) kind left (length (w .kinds))) w (λ _. enter (formOf kind) s b order next w)))
 
 unfoldable pub enterAt : List ℕ → ℕ → Enterer
 enterAt v zero form s b order next w = refusedAs TooDeep w

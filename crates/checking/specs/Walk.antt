@@ -1,4 +1,7 @@
 -- What a check has met so far, and how it goes on.
+--   Walk           the kinds met, in order, and of each whether it is no target yet
+--   Walked         where a check goes on, or why it does not; and what it has met
+--   seen           what the struct that the code keeps stands for; `seenAs` the same with where the check goes on
 --   nothingMet     no kind met
 --   layoutBarred   a layout whose kinds are no target while they are read: "one still being read that is neither struct nor union"
 --   isBarred       the same of a form; what holds no type is read to its end before an indirection can follow
@@ -10,11 +13,13 @@
 --   countThen      what follows a count, unless it is refused
 --   after          what follows a type that was checked
 use Prim.Native.Nat.{ℕ}
+use mathlib.Core.List.{List, [], _∷_, _++_}
 use mathlib.Core.Bool.{Bool, true, false}
-use lib.ListN.{set, replicate}
+use lib.ListN.{length, set, take}
 use Rattle.cdr.specs.declared.Index.{Index}
 use Rattle.cdr.specs.declared.Place.{Place}
 use Rattle.cdr.specs.declared.Order.{Order}
+use Rattle.kinds.specs.declared.Kind.{Kind}
 use Rattle.kinds.specs.declared.Form.{Form}
 use Rattle.kinds.specs.declared.Form.the-variants.{Unlisted, Plain, Bounded, Composite}
 use Rattle.kinds.specs.declared.Layout.{Layout}
@@ -24,12 +29,27 @@ use Rattle.fields.specs.declared.Step.{Step}
 use Rattle.fields.specs.declared.Step.the-variants.{Refused, Next}
 use Rattle.fields.specs.declared.Count.{Count}
 use Rattle.fields.specs.declared.Count.the-variants.{Wrong, Stands}
-use Rattle.checking.specs.declared.Walk.{Walk}
-use Rattle.checking.specs.declared.Walked.{Walked}
-use Rattle.met.specs.Met.{noKinds, added}
+use Rattle.checking.specs.declared.Walk as kept
+use Rattle.checking.specs.declared.Walked as left
+use Rattle.kinds.specs.Parts.{writtenAt}
+use Rattle.met.specs.Arrays.{kindsMet}
+
+pub record Walk : Type 0 where
+  pub kinds : List Kind
+  pub barred : List Bool
+
+pub record Walked : Type 0 where
+  pub step : Step
+  pub walk : Walk
+
+abbrev pub seen : kept.Walk → Walk
+seen w = record { kinds = kindsMet (w .met); barred = take (length (kindsMet (w .met))) (w .barred) }
+
+abbrev pub seenAs : left.Walked → Walked
+seenAs c = record { step = c .step; walk = seen (c .walk) }
 
 abbrev pub nothingMet : Walk
-nothingMet = record { met = noKinds; barred = replicate 64 false }
+nothingMet = record { kinds = []; barred = [] }
 
 abbrev pub layoutBarred : Layout → Bool
 layoutBarred Objref = true
@@ -48,11 +68,10 @@ isBarred Bounded = true
 isBarred (Composite layout) = layoutBarred layout
 
 unfoldable pub entered : Walk → Place → Place → Order → Form → Walk
-entered w p b order form =
-    record { met = added (w .met) p b order; barred = set (w .barred) (w .met .count) (isBarred form) }
+entered w p b order form = record { kinds = w .kinds ++ (writtenAt p b order ∷ []); barred = w .barred ++ (isBarred form ∷ []) }
 
 unfoldable pub closed : Walk → ℕ → Walk
-closed w here = record { met = w .met; barred = set (w .barred) here false }
+closed w here = record { kinds = w .kinds; barred = set (w .barred) here false }
 
 abbrev pub refusedAs : Refusal → Walk → Walked
 refusedAs r w = record { step = Refused r; walk = w }

@@ -2,6 +2,9 @@
 ghost use mathlib.Core.Path.{_≡_};
 ghost use Prim.Native.Nat.{_+_, _≤_, _<_};
 ghost use lib.ListN.{length};
+ghost use Rattle.kinds.specs.Parts.{behind};
+ghost use Rattle.met.specs.Arrays.{kindsMet};
+ghost use Rattle.checking.specs.Walk.{seen, seenAs};
 ghost use Rattle.checking.specs.Types.{indirectionAt, discriminantAt, membersAt, labelsAt, contentsAt, insideAt, typeAt, walkedOf};
 use cdr::Index;
 use cdr::Order;
@@ -13,6 +16,7 @@ use fields::Entry;
 use fields::Part;
 use fields::Refusal;
 use fields::Step;
+use fields::Switch;
 use kinds::Form;
 use kinds::Labels;
 use kinds::Layout;
@@ -36,7 +40,7 @@ pub struct Walked {
 
 // Checks octets as a TypeCode in a byte order: where it ends or why it is refused, 42 and 30 to 38 and 40, and the kinds met.
 pub fn walk_type(v: &[u8], order: Order) -> Walked
-    ensures { λ r. ⌜ r ≡ walkedOf (now (v .entry)) order ⌝ }
+    ensures { λ r. ⌜ seenAs r ≡ walkedOf (now (v .entry)) order ⌝ }
 {
     let walk = walks::nothing_met();
     if cdr::OCTETS_LIMIT < v.len() {
@@ -45,10 +49,18 @@ pub fn walk_type(v: &[u8], order: Order) -> Walked
     check(v, v, Place(0), order, Index::START, fields::NESTING, walk)
 }
 
+// The place of the unsigned long that ends before an index.
+fn behind(start: Place, next: Index) -> Place
+    requires { ⌜ (4 ≤ next .0) × (start .0 + next .0 ≤ 16384) ⌝ }
+    ensures { λ r. ⌜ r ≡ behind start next ⌝ }
+{
+    Place(start.0 + (next.0 - 4))
+}
+
 // Where an indirection leads whose offset stands at an index.
 fn indirection(s: &[u8], start: Place, order: Order, at: Index, walk: Walk) -> Walked
     requires { ⌜ start .0 + length (now s) ≤ 16384 ⌝ }
-    ensures { λ r. ⌜ r ≡ indirectionAt (now (s .entry)) start order at walk ⌝ }
+    ensures { λ r. ⌜ seenAs r ≡ indirectionAt (now (s .entry)) start order at (seen walk) ⌝ }
 {
     let Field::Value {
         value: offset,
@@ -57,7 +69,7 @@ fn indirection(s: &[u8], start: Place, order: Order, at: Index, walk: Walk) -> W
     else {
         return walks::refused(Refusal::Ends, walk);
     };
-    match kinds::target_of(Place(start.0 + (next.0 - 4)), offset) {
+    match kinds::target_of(behind(start, next), offset) {
         Target::To(place) => walks::target_step(walk, place, next),
         Target::Outside => walks::refused(Refusal::BadTarget, walk),
     }
@@ -65,10 +77,10 @@ fn indirection(s: &[u8], start: Place, order: Order, at: Index, walk: Walk) -> W
 
 // What the discriminant at an index says of labels.
 fn labels_at(v: &[u8], met: Met, start: Place, at: Index, order: Order) -> Labels
-    ensures { λ r. ⌜ r ≡ labelsAt (now (v .entry)) met start at order ⌝ }
+    ensures { λ r. ⌜ r ≡ labelsAt (now (v .entry)) (kindsMet met) start at order ⌝ }
 {
     match kinds::spot_at(v, start, at, order) {
-        Spot::At { place, next: _ } => met::labels_for(v, met, place),
+        Spot::At { inner, next: _ } => met::labels_for(v, met, kinds::place_in(inner)),
         Spot::Nowhere => Labels::NoLabels,
     }
 }
@@ -76,7 +88,7 @@ fn labels_at(v: &[u8], met: Met, start: Place, at: Index, order: Order) -> Label
 // A TypeCode at an index, with so many levels left.
 fn check(v: &[u8], s: &[u8], start: Place, order: Order, at: Index, left: u8, walk: Walk) -> Walked
     requires { ⌜ start .0 + length (now s) ≤ 16384 ⌝ }
-    ensures { λ r. ⌜ r ≡ typeAt (now (v .entry)) left (now (s .entry)) start order at walk ⌝ }
+    ensures { λ r. ⌜ seenAs r ≡ typeAt (now (v .entry)) left (now (s .entry)) start order at (seen walk) ⌝ }
 {
     let Field::Value { value: kind, next } = encapsulation::read_field(s, at, Size::Four, order)
     else {
@@ -90,7 +102,7 @@ fn check(v: &[u8], s: &[u8], start: Place, order: Order, at: Index, left: u8, wa
     match fields::entry_of(form, kind, left, here) {
         Entry::Barred(refusal) => walks::refused(refusal, walk),
         Entry::Enters => {
-            let place = Place(start.0 + (next.0 - 4));
+            let place = behind(start, next);
             let entered = walks::enter(walk, place, start, order, form);
             inside(v, form, s, start, order, next, left - 1, entered, here)
         }
@@ -110,7 +122,7 @@ fn inside(
     here: usize,
 ) -> Walked
     requires { ⌜ (start .0 + length (now s) ≤ 16384) × (here < 64) ⌝ }
-    ensures { λ r. ⌜ r ≡ insideAt (now (v .entry)) (typeAt (now (v .entry)) left) form (now (s .entry)) start order at walk here ⌝ }
+    ensures { λ r. ⌜ seenAs r ≡ insideAt (now (v .entry)) (typeAt (now (v .entry)) left) form (now (s .entry)) start order at (seen walk) here ⌝ }
 {
     match form {
         Form::Unlisted => walks::refused(Refusal::NoSuchKind, walk),
@@ -142,7 +154,7 @@ fn parameters(
     walk: Walk,
 ) -> Walked
     requires { ⌜ start .0 + length (now s) ≤ 16384 ⌝ }
-    ensures { λ r. ⌜ r ≡ contentsAt (now (v .entry)) (typeAt (now (v .entry)) left) layout (now (s .entry)) start order walk ⌝ }
+    ensures { λ r. ⌜ seenAs r ≡ contentsAt (now (v .entry)) (typeAt (now (v .entry)) left) layout (now (s .entry)) start order (seen walk) ⌝ }
 {
     match layout {
         Layout::Objref => walks::on(fields::names_step(s, order), walk),
@@ -153,6 +165,7 @@ fn parameters(
                 member_types(
                     v,
                     Labels::NoLabels,
+                    met::NO_DEFAULT,
                     s,
                     start,
                     order,
@@ -169,6 +182,7 @@ fn parameters(
                 member_types(
                     v,
                     Labels::NoLabels,
+                    met::NO_DEFAULT,
                     s,
                     start,
                     order,
@@ -209,7 +223,7 @@ fn switched(
     walk: Walk,
 ) -> Walked
     requires { ⌜ start .0 + length (now s) ≤ 16384 ⌝ }
-    ensures { λ r. ⌜ r ≡ discriminantAt (now (v .entry)) (typeAt (now (v .entry)) left) (now (s .entry)) start order at walk ⌝ }
+    ensures { λ r. ⌜ seenAs r ≡ discriminantAt (now (v .entry)) (typeAt (now (v .entry)) left) (now (s .entry)) start order at (seen walk) ⌝ }
 {
     let c = check(v, s, start, order, at, left, walk);
     let w = c.walk;
@@ -220,10 +234,12 @@ fn switched(
         Step::Next(i) => {
             let labels = labels_at(v, met, start, at, order);
             match walks::switch_head(labels, s, i, order) {
-                Count::Wrong(refusal) => walks::refused(refusal, w),
-                Count::Stands { count, next } => {
-                    member_types(v, labels, s, start, order, next, count, left, w)
-                }
+                Switch::NoSwitch(refusal) => walks::refused(refusal, w),
+                Switch::Cases {
+                    default,
+                    count,
+                    next,
+                } => member_types(v, labels, default, s, start, order, next, count, left, w),
             }
         }
     }
@@ -233,6 +249,7 @@ fn switched(
 fn member_types(
     v: &[u8],
     labels: Labels,
+    default: u64,
     s: &[u8],
     start: Place,
     order: Order,
@@ -242,13 +259,13 @@ fn member_types(
     walk: Walk,
 ) -> Walked
     requires { ⌜ start .0 + length (now s) ≤ 16384 ⌝ }
-    ensures { λ r. ⌜ r ≡ membersAt (now (v .entry)) (typeAt (now (v .entry)) left) labels (now (s .entry)) start order first count 0 first walk ⌝ }
+    ensures { λ r. ⌜ seenAs r ≡ membersAt (now (v .entry)) (typeAt (now (v .entry)) left) labels default (now (s .entry)) start order first count 0 first (seen walk) ⌝ }
 {
     let mut w = walk;
     let mut at = first;
     let mut k: u64 = 0;
     while k < count {
-        let name = walks::name_after(labels, v, s, start, order, k, first, at);
+        let name = walks::name_after(labels, v, s, start, order, default, k, first, at);
         match name {
             Step::Refused(refusal) => {
                 return walks::refused(refusal, w);

@@ -2,8 +2,8 @@
 ghost use mathlib.Core.Path.{_≡_};
 ghost use mathlib.Core.Bool.{false};
 ghost use Prim.Native.Nat.{_<_};
-ghost use lib.ListN.{getD};
-ghost use Rattle.checking.specs.Walk.{nothingMet, layoutBarred, isBarred, entered, closed, refusedAs, goesOn, onStep, after};
+ghost use lib.ListN.{getD, length};
+ghost use Rattle.checking.specs.Walk.{seen, seenAs, nothingMet, layoutBarred, isBarred, entered, closed, refusedAs, goesOn, onStep, after};
 ghost use Rattle.checking.specs.Types.{targetStep, nameStep, switchHead, endedAt};
 ghost use Rattle.fields.specs.Fields.{numberStep, lengthStep};
 use crate::Walk;
@@ -11,9 +11,9 @@ use crate::Walked;
 use cdr::Index;
 use cdr::Order;
 use cdr::Place;
-use fields::Count;
 use fields::Refusal;
 use fields::Step;
+use fields::Switch;
 use kinds::Form;
 use kinds::Labels;
 use kinds::Layout;
@@ -22,7 +22,7 @@ use met::Position;
 
 // No kind met.
 pub(crate) fn nothing_met() -> Walk
-    ensures { λ r. ⌜ r ≡ nothingMet ⌝ }
+    ensures { λ r. ⌜ seen r ≡ nothingMet ⌝ }
 {
     Walk {
         met: Met::none(),
@@ -32,7 +32,7 @@ pub(crate) fn nothing_met() -> Walk
 
 // The check ends.
 pub(crate) fn refused(refusal: Refusal, walk: Walk) -> Walked
-    ensures { λ r. ⌜ r ≡ refusedAs refusal walk ⌝ }
+    ensures { λ r. ⌜ seenAs r ≡ refusedAs refusal (seen walk) ⌝ }
 {
     Walked {
         step: Step::Refused(refusal),
@@ -42,7 +42,7 @@ pub(crate) fn refused(refusal: Refusal, walk: Walk) -> Walked
 
 // The check goes on at an index.
 pub(crate) fn goes_on(at: Index, walk: Walk) -> Walked
-    ensures { λ r. ⌜ r ≡ goesOn at walk ⌝ }
+    ensures { λ r. ⌜ seenAs r ≡ goesOn at (seen walk) ⌝ }
 {
     Walked {
         step: Step::Next(at),
@@ -52,17 +52,17 @@ pub(crate) fn goes_on(at: Index, walk: Walk) -> Walked
 
 // The check goes on after a step, or ends.
 pub(crate) fn on(step: Step, walk: Walk) -> Walked
-    ensures { λ r. ⌜ r ≡ onStep step walk (λ i. goesOn i walk) ⌝ }
+    ensures { λ r. ⌜ seenAs r ≡ onStep step (seen walk) (λ i. goesOn i (seen walk)) ⌝ }
 {
     Walked { step, walk }
 }
 
 // The kinds met.
 pub(crate) fn count(walk: Walk) -> usize
-    ensures { λ r. ⌜ r ≡ walk .met .count ⌝ }
+    ensures { λ r. ⌜ r ≡ length (seen walk .kinds) ⌝ }
 {
     let met = walk.met;
-    met.count
+    met.held()
 }
 
 // Whether the kind at a position is no target yet.
@@ -74,7 +74,7 @@ fn barred_at(barred: [bool; 64], i: usize) -> bool
 
 // The target of an indirection is judged.
 pub(crate) fn target_step(walk: Walk, place: Place, next: Index) -> Walked
-    ensures { λ r. ⌜ r ≡ targetStep walk place next ⌝ }
+    ensures { λ r. ⌜ seenAs r ≡ targetStep (seen walk) place next ⌝ }
 {
     let met = walk.met;
     let barred = walk.barred;
@@ -117,12 +117,12 @@ fn is_barred(form: Form) -> bool
 
 // One more kind is met.
 pub(crate) fn enter(walk: Walk, place: Place, start: Place, order: Order, form: Form) -> Walk
-    requires { ⌜ walk .met .count < 64 ⌝ }
-    ensures { λ r. ⌜ r ≡ entered walk place start order form ⌝ }
+    requires { ⌜ (length (seen walk .kinds) < 64) × (place .0 < 65536) × (start .0 < 65536) ⌝ }
+    ensures { λ r. ⌜ seen r ≡ entered (seen walk) place start order form ⌝ }
 {
     let met = walk.met;
     let mut barred = walk.barred;
-    let i = met.count;
+    let i = met.held();
     barred[i] = is_barred(form);
     Walk {
         met: met.add(place, start, order),
@@ -133,7 +133,7 @@ pub(crate) fn enter(walk: Walk, place: Place, start: Place, order: Order, form: 
 // The kind at a position is read to its end.
 pub(crate) fn close(walk: Walk, here: usize) -> Walk
     requires { ⌜ here < 64 ⌝ }
-    ensures { λ r. ⌜ r ≡ closed walk here ⌝ }
+    ensures { λ r. ⌜ seen r ≡ closed (seen walk) here ⌝ }
 {
     let met = walk.met;
     let mut barred = walk.barred;
@@ -144,7 +144,7 @@ pub(crate) fn close(walk: Walk, here: usize) -> Walk
 // The bound of a string, the kind at a position.
 pub(crate) fn bounded(s: &[u8], order: Order, at: Index, walk: Walk, here: usize) -> Walked
     requires { ⌜ here < 64 ⌝ }
-    ensures { λ r. ⌜ r ≡ onStep (numberStep (now (s .entry)) at order) walk (λ next. goesOn next (closed walk here)) ⌝ }
+    ensures { λ r. ⌜ seenAs r ≡ onStep (numberStep (now (s .entry)) at order) (seen walk) (λ next. goesOn next (closed (seen walk) here)) ⌝ }
 {
     match fields::number_step(s, at, order) {
         Step::Refused(refusal) => refused(refusal, walk),
@@ -155,7 +155,7 @@ pub(crate) fn bounded(s: &[u8], order: Order, at: Index, walk: Walk, here: usize
 // The parameters have to end with their encapsulation.
 pub(crate) fn ended(c: Walked, here: usize, length: usize, end: usize) -> Walked
     requires { ⌜ here < 64 ⌝ }
-    ensures { λ r. ⌜ r ≡ endedAt here length end c ⌝ }
+    ensures { λ r. ⌜ seenAs r ≡ endedAt here length end (seenAs c) ⌝ }
 {
     let walk = c.walk;
     let step = c.step;
@@ -172,7 +172,7 @@ pub(crate) fn ended(c: Walked, here: usize, length: usize, end: usize) -> Walked
 
 // The bound after a sequence's type.
 pub(crate) fn then_number(s: &[u8], order: Order, c: Walked) -> Walked
-    ensures { λ r. ⌜ r ≡ after c (λ i w. onStep (numberStep (now (s .entry)) i order) w (λ next. goesOn next w)) ⌝ }
+    ensures { λ r. ⌜ seenAs r ≡ after (seenAs c) (λ i w. onStep (numberStep (now (s .entry)) i order) w (λ next. goesOn next w)) ⌝ }
 {
     let walk = c.walk;
     let step = c.step;
@@ -184,7 +184,7 @@ pub(crate) fn then_number(s: &[u8], order: Order, c: Walked) -> Walked
 
 // The length after an array's type.
 pub(crate) fn then_length(s: &[u8], order: Order, c: Walked) -> Walked
-    ensures { λ r. ⌜ r ≡ after c (λ i w. onStep (lengthStep (now (s .entry)) i order) w (λ next. goesOn next w)) ⌝ }
+    ensures { λ r. ⌜ seenAs r ≡ after (seenAs c) (λ i w. onStep (lengthStep (now (s .entry)) i order) w (λ next. goesOn next w)) ⌝ }
 {
     let walk = c.walk;
     let step = c.step;
@@ -201,24 +201,25 @@ pub(crate) fn name_after(
     s: &[u8],
     start: Place,
     order: Order,
+    default: u64,
     done: u64,
     first: Index,
     at: Index,
 ) -> Step
-    ensures { λ r. ⌜ r ≡ nameStep labels (now (v .entry)) (now (s .entry)) start order done first at ⌝ }
+    ensures { λ r. ⌜ r ≡ nameStep labels (now (v .entry)) (now (s .entry)) start order default done first at ⌝ }
 {
-    match fields::label_step(labels, v, s, start, order, done, first, at) {
+    match fields::label_step(labels, v, s, start, order, default, done, first, at) {
         Step::Refused(refusal) => Step::Refused(refusal),
         Step::Next(i) => fields::text_step(s, i, order),
     }
 }
 
 // Default and count of a union, if its discriminant may be one.
-pub(crate) fn switch_head(labels: Labels, s: &[u8], at: Index, order: Order) -> Count
+pub(crate) fn switch_head(labels: Labels, s: &[u8], at: Index, order: Order) -> Switch
     ensures { λ r. ⌜ r ≡ switchHead labels (now (s .entry)) at order ⌝ }
 {
     match labels {
-        Labels::NoLabels => Count::Wrong(Refusal::BadUnion),
+        Labels::NoLabels => Switch::NoSwitch(Refusal::BadUnion),
         Labels::Of { size: _, limit: _ } => fields::switch_step(s, at, order),
     }
 }

@@ -1,2 +1,3 @@
--- Laws of tests.
+-- Laws of tests and of loops.
 pub mod Choices
+pub mod Turns

@@ -1,2 +1,3 @@
--- How definitions branch.
+-- How definitions branch, and lists.
 pub mod Branch
+pub mod Lists

@@ -2,12 +2,14 @@
 // value's visits.
 ghost use mathlib.Core.Path.{_≡_};
 ghost use Rattle.cdr.specs.Align.{indexOf};
+ghost use Rattle.met.specs.Arrays.{kindsMet, noKinds, gathered};
 ghost use Rattle.written.specs.Written.{target, unnamedOrder};
 ghost use Rattle.written.specs.Rewriting.{rewriteNumber, writtenCount};
 ghost use Rattle.cvalues.specs.Values.{valueAt, ReadsC, PicksC, RewritesC};
 ghost use Rattle.cvalues.specs.Types.{orderIs, ChecksC};
 use cdr::Index;
 use cdr::Order;
+use met::Met;
 use reading::ValueAnswer;
 use typecode::TypeAnswer;
 use value::ItemAnswer;
@@ -18,6 +20,22 @@ fn order_is(little: bool) -> Order
     ensures { λ r. ⌜ r ≡ orderIs little ⌝ }
 {
     if little { Order::Little } else { Order::Big }
+}
+
+// The kinds met, with 0 past the last.
+fn gather(met: Met) -> Met
+    ensures { λ r. ⌜ r ≡ gathered noKinds (kindsMet met) ⌝ }
+{
+    let n = met.held();
+    let mut all = Met::none();
+    let mut i = 0;
+    while i < n {
+        let kind = met::entry_at(met, i);
+        let order = kind.order;
+        all = all.add(kind.place, kind.start, order);
+        i += 1;
+    }
+    all
 }
 
 // A TypeCode checked: 0, or 30 to 40, or 42. Of an accepted one `numbers` gets the octets used and the kinds written; `places`, `starts`
@@ -34,7 +52,7 @@ pub extern "C" fn haulspar_type(
     ensures { λ r. ⌜ ChecksC (now (octets .entry)) little (now (places .entry)) (now (starts .entry)) (now (orders .entry)) (now (numbers .entry)) r (now (places .exit)) (now (starts .exit)) (now (orders .exit)) (now (numbers .exit)) ⌝ }
 {
     let c = typecode::check_type(octets, order_is(little));
-    let met = c.met;
+    let met = gather(c.met);
     let at = met.places;
     let from = met.starts;
     let in_order = met.orders;

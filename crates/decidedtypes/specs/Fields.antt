@@ -20,26 +20,36 @@
 --   default-below-none    a default of -2 is 35
 --   default-at-count      a default that is the count is 35
 --   boolean-label-2       a boolean's label of 2 is 35
+--   twice                 the octets of two members with the label 5: an empty name, a long
+--   equal-before          the label of a member is that of one before it
+--   own-not-before        a label is not compared with itself
+--   equal-is-35           two equal labels are 35
 use Prim.Native.Nat.{ℕ, _+_}
 use mathlib.Core.Path.{_≡_, refl}
 use mathlib.Core.List.{List, [], _∷_}
+use mathlib.Core.Bool.{true, false}
+use Rattle.choices.specs.Branch.{choose}
 use Rattle.cdr.specs.declared.Order.the-variants.{Big, Little}
-use Rattle.cdr.specs.declared.Size.the-variants.{One}
+use Rattle.cdr.specs.declared.Size.the-variants.{One, Four}
 use Rattle.cdr.specs.Align.{indexOf}
 use Rattle.cdr.specs.Number.{littleNumber, littleOctets, numberOf, octetsOf, numberAt, readOf}
-use Rattle.texts.specs.Text.{overBound, endsText, textOf}
-use Rattle.encapsulation.specs.Encapsulation.{fieldOf, stringOf}
+use Rattle.texts.specs.Text.{overBound, endsText, textOf, runOf}
+use Rattle.encapsulation.specs.Encapsulation.{fieldOf, stringOf, countedOf}
 use Rattle.kinds.specs.declared.Form.the-variants.{Plain}
 use Rattle.kinds.specs.declared.Labels.the-variants.{Of}
-use Rattle.kinds.specs.Parts.{placeOf}
+use Rattle.kinds.specs.Forms.{formOf}
+use Rattle.kinds.specs.Parts.{placeOf, fieldIn, skipField, skipCounted, spotAt, memberAt}
+use Rattle.kinds.specs.Members.{membersFrom}
 use Rattle.met.specs.Discriminants.{outOfKind}
+use Rattle.met.specs.Arms.{caseFrom, noDefault}
 use Rattle.fields.specs.declared.Refusal.the-variants.{Ends, BadText, BadEncapsulation, NoCount, BadUnion, TooManyKinds, TooDeep, BelowTop}
 use Rattle.fields.specs.declared.Entry.the-variants.{Barred}
 use Rattle.fields.specs.declared.Step.the-variants.{Refused, Next}
 use Rattle.fields.specs.declared.Count.the-variants.{Wrong, Stands}
+use Rattle.fields.specs.declared.Switch.the-variants.{NoSwitch, Cases}
 use Rattle.fields.specs.declared.Part.the-variants.{NoPart, Inside}
 use Rattle.fields.specs.Refusals.{refusalNumber}
-use Rattle.fields.specs.Fields.{belowTop, entryOf, textStep, namesStep, numberStep, countStep, anyCount, headStep, exceptionStep, lengthStep, textsStep, enumStep, partOf, badDefault, switchStep, labelStep}
+use Rattle.fields.specs.Fields.{belowTop, entryOf, textStep, namesStep, numberStep, countStep, anyCount, headStep, exceptionStep, lengthStep, textsStep, enumStep, partOf, badDefault, switchStep, labelBefore, labelStep}
 
 abbrev pub headed : ℕ → List ℕ
 headed count = octetsOf Big 24 (0x000000000000000100000000000000010000000000000000 + count)
@@ -110,14 +120,29 @@ pub part-beyond-end : partOf (octetsOf Big 6 0x000000030000) (indexOf 0) Big ≡
 unfolding littleNumber littleOctets numberOf octetsOf numberAt readOf fieldOf partOf
 part-beyond-end = refl
 
-pub default-below-none : switchStep (octetsOf Big 8 0xFFFFFFFE00000001) (indexOf 0) Big ≡ Wrong BadUnion
+pub default-below-none : switchStep (octetsOf Big 8 0xFFFFFFFE00000001) (indexOf 0) Big ≡ NoSwitch BadUnion
 unfolding littleNumber littleOctets numberOf octetsOf numberAt readOf fieldOf countStep badDefault switchStep
 default-below-none = refl
 
-pub default-at-count : switchStep (octetsOf Big 8 0x0000000100000001) (indexOf 0) Big ≡ Wrong BadUnion
+pub default-at-count : switchStep (octetsOf Big 8 0x0000000100000001) (indexOf 0) Big ≡ NoSwitch BadUnion
 unfolding littleNumber littleOctets numberOf octetsOf numberAt readOf fieldOf countStep badDefault switchStep
 default-at-count = refl
 
-pub boolean-label-2 : labelStep (Of One 2) [] (2 ∷ []) (placeOf 0) Big 0 (indexOf 0) (indexOf 0) ≡ Refused BadUnion
+pub boolean-label-2 : labelStep (Of One 2) [] (2 ∷ []) (placeOf 0) Big noDefault 0 (indexOf 0) (indexOf 0) ≡ Refused BadUnion
 unfolding littleNumber numberOf numberAt readOf fieldOf outOfKind
 boolean-label-2 = refl
+
+abbrev pub twice : List ℕ
+twice = octetsOf Big 32 0x0000000500000001000000000000000300000005000000010000000000000003
+
+pub equal-before : labelBefore (Of Four 0) twice (placeOf 0) Big noDefault 1 (indexOf 0) 5 ≡ true
+unfolding choose littleNumber littleOctets numberOf octetsOf numberAt readOf runOf fieldOf countedOf formOf fieldIn skipField skipCounted spotAt memberAt membersFrom caseFrom labelBefore
+equal-before = refl
+
+pub own-not-before : labelBefore (Of Four 0) twice (placeOf 0) Big noDefault 0 (indexOf 0) 5 ≡ false
+unfolding membersFrom caseFrom labelBefore
+own-not-before = refl
+
+pub equal-is-35 : labelStep (Of Four 0) twice twice (placeOf 0) Big noDefault 1 (indexOf 0) (indexOf 16) ≡ Refused BadUnion
+unfolding choose littleNumber littleOctets numberOf octetsOf numberAt readOf runOf fieldOf countedOf formOf fieldIn skipField skipCounted spotAt memberAt membersFrom outOfKind caseFrom labelBefore
+equal-is-35 = refl

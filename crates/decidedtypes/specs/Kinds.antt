@@ -8,11 +8,11 @@
 --   spot-of-target       an indirection counts as its target, and what follows it is after its offset
 --   name-after-label     a member's name is after its label
 --   label-of-eight       a label of eight octets is passed over whole
---   order-of-own         a kind's parameters are in the order of its own encapsulation
+--   order-of-own         a kind's parameters are in the order of its own encapsulation, and so is the type inside
 --   kind-at-place        a kind is read at its place, and not where its encapsulation starts
 use Prim.Native.Nat.{_^_}
 use mathlib.Core.Path.{_≡_, refl}
-use Rattle.cdr.specs.declared.Order.the-variants.{Big}
+use Rattle.cdr.specs.declared.Order.the-variants.{Big, Little}
 use Rattle.cdr.specs.declared.Size.the-variants.{Four, Eight}
 use Rattle.cdr.specs.Align.{indexOf}
 use Rattle.cdr.specs.Number.{littleNumber, littleOctets, numberOf, octetsOf, numberAt, readOf}
@@ -23,10 +23,12 @@ use Rattle.kinds.specs.declared.Form.the-variants.{Unlisted, Plain, Composite}
 use Rattle.kinds.specs.declared.Layout.the-variants.{Struct, Alias}
 use Rattle.kinds.specs.declared.Labels.the-variants.{Of}
 use Rattle.kinds.specs.declared.Target.the-variants.{To, Outside}
+use Rattle.kinds.specs.declared.Inner.the-variants.{Here, There}
 use Rattle.kinds.specs.declared.Spot.the-variants.{At}
-use Rattle.kinds.specs.declared.Parameters.the-variants.{Fault, Leaf, Sequence}
+use Rattle.kinds.specs.declared.Inert.the-variants.{Leaf}
+use Rattle.kinds.specs.declared.Parameters.the-variants.{Fault, Flat, Sequence}
 use Rattle.kinds.specs.Forms.{formOf}
-use Rattle.kinds.specs.Parts.{placeOf, fieldIn, skipField, skipCounted, targetOf, aimed, spotAt, memberAt}
+use Rattle.kinds.specs.Parts.{placeOf, writtenAt, fieldIn, skipField, skipCounted, targetOf, aimed, spotAt, memberAt}
 use Rattle.kinds.specs.Parameters.{elementIn, encapsulated, parametersAt}
 
 pub alias-is-alias : formOf 21 ≡ Composite Alias
@@ -53,22 +55,25 @@ pub before-is-outside : targetOf (placeOf 3) 0xFFFFFFFC ≡ Outside
 unfolding targetOf
 before-is-outside = refl
 
-pub spot-of-target : spotAt (octetsOf Big 12 0x00000003FFFFFFFFFFFFFFF8) (placeOf 0) (indexOf 4) Big ≡ At (placeOf 0) (indexOf 12)
+pub spot-of-target : spotAt (octetsOf Big 12 0x00000003FFFFFFFFFFFFFFF8) (placeOf 0) (indexOf 4) Big ≡ At (There (placeOf 0)) (indexOf 12)
 unfolding littleNumber littleOctets numberOf octetsOf numberAt readOf fieldOf fieldIn targetOf aimed spotAt
 spot-of-target = refl
 
-pub name-after-label : memberAt (Of Four 0) (octetsOf Big 16 0x00000001000000010000000000000003) (placeOf 0) (indexOf 0) Big ≡ At (placeOf 12) (indexOf 16)
+pub name-after-label : memberAt (Of Four 0) (octetsOf Big 16 0x00000001000000010000000000000003) (placeOf 0) (indexOf 0) Big
+    ≡ At (Here (writtenAt (placeOf 12) (placeOf 0) Big)) (indexOf 16)
 unfolding littleNumber littleOctets numberOf octetsOf numberAt readOf runOf fieldOf countedOf formOf fieldIn skipField skipCounted spotAt memberAt
 name-after-label = refl
 
-pub label-of-eight : memberAt (Of Eight 0) (octetsOf Big 20 0x0000000000000001000000010000000000000003) (placeOf 0) (indexOf 0) Big ≡ At (placeOf 16) (indexOf 20)
+pub label-of-eight : memberAt (Of Eight 0) (octetsOf Big 20 0x0000000000000001000000010000000000000003) (placeOf 0) (indexOf 0) Big
+    ≡ At (Here (writtenAt (placeOf 16) (placeOf 0) Big)) (indexOf 20)
 unfolding littleNumber littleOctets numberOf octetsOf numberAt readOf runOf fieldOf countedOf formOf fieldIn skipField skipCounted spotAt memberAt
 label-of-eight = refl
 
-pub order-of-own : parametersAt (octetsOf Big 20 0x000000130000000C010000000300000005000000) (placeOf 0) Big (placeOf 0) ≡ Sequence (placeOf 12) 5
+pub order-of-own : parametersAt (octetsOf Big 20 0x000000130000000C010000000300000005000000) (writtenAt (placeOf 0) (placeOf 0) Big)
+    ≡ Sequence (Here (writtenAt (placeOf 12) (placeOf 8) Little)) 5
 unfolding littleNumber littleOctets numberOf octetsOf numberAt readOf fieldOf formOf fieldIn spotAt elementIn encapsulated parametersAt
 order-of-own = refl
 
-pub kind-at-place : parametersAt (octetsOf Big 8 0x0000000300000005) (placeOf 0) Big (placeOf 4) ≡ Leaf 5
+pub kind-at-place : parametersAt (octetsOf Big 8 0x0000000300000005) (writtenAt (placeOf 4) (placeOf 0) Big) ≡ Flat (Leaf 5)
 unfolding littleNumber littleOctets numberOf octetsOf numberAt readOf fieldOf formOf fieldIn parametersAt
 kind-at-place = refl

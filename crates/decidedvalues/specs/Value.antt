@@ -4,6 +4,7 @@
 use mathlib.Core.Path.{_≡_, refl}
 use mathlib.Core.List.{[], _∷_}
 use Rattle.choices.specs.Branch.{choose}
+use Rattle.choices.specs.Lists.{anyOf}
 use Rattle.cdr.specs.declared.Order.the-variants.{Big, Little}
 use Rattle.cdr.specs.Align.{indexOf}
 use Rattle.cdr.specs.Number.{littleNumber, littleOctets, numberOf, octetsOf, numberAt, readOf}
@@ -11,17 +12,18 @@ use Rattle.encapsulation.specs.Encapsulation.{fieldOf}
 use Rattle.kinds.specs.Forms.{formOf}
 use Rattle.kinds.specs.Parts.{fieldIn}
 use Rattle.kinds.specs.Parameters.{parametersAt}
-use Rattle.met.specs.Met.{added, findIn, findPlace, positionOf, parametersOf}
+use Rattle.met.specs.Met.{findKind, positionOf, parametersOf, foundAt, insideOf}
+use Rattle.met.specs.Shapes.{shapeOf, look}
 use Rattle.fields.specs.Fields.{belowTop, entryOf}
 use Rattle.checking.specs.Walk.{entered, closed}
 use Rattle.checking.specs.Types.{enteredAt, kindAt, enterAt, typeAt, walkedOf}
 use Rattle.loops.specs.Loops.{closure, anyBelow, loopFound}
-use Rattle.steps.specs.Steps.{steps}
+use Rattle.steps.specs.Steps.{stepsOf, steps}
 use Rattle.typecode.specs.TypeCode.{loopLast, checkedType}
 use Rattle.reading.specs.Sinks.{source, taken, done, numberStep}
-use Rattle.reading.specs.Visit.{inside, sizeOf, leafDone, leafAt}
+use Rattle.reading.specs.Visit.{sizeOf, leafDone, leafAt, inertAt}
 use Rattle.reading.specs.Reading.{reads, reading}
-use Rattle.reading.specs.Opens.{readsNode, enterNode, own, opens, closes, shuts, next, entries}
+use Rattle.reading.specs.Opens.{readsNode, enterNode, ownOf, opens, closes, shuts, next, entries}
 use Rattle.reading.specs.Value.{readingOf}
 use Rattle.value.specs.declared.Judged.the-variants.{Refused}
 use Rattle.value.specs.Typed.{typedFor}
@@ -33,5 +35,5 @@ unfolding choose typedFor
 long-value-first = refl
 
 pub unnamed-is-big : outputAfter (octetsOf Big 4 4) Big (source (1 ∷ 0 ∷ []) Little (indexOf 0)) (target unnamedOrder (indexOf 0)) (9 ∷ 9 ∷ 9 ∷ []) ≡ 0 ∷ 1 ∷ 9 ∷ []
-unfolding choose littleNumber littleOctets numberOf octetsOf numberAt readOf fieldOf formOf fieldIn parametersAt added findIn findPlace positionOf parametersOf belowTop entryOf entered closed enteredAt kindAt enterAt typeAt walkedOf closure anyBelow loopFound steps loopLast checkedType taken done numberStep inside sizeOf leafDone leafAt reads readsNode enterNode own opens closes shuts next entries reading readingOf wrote writes rewriteOf rewriteAnswer outputAfter
+unfolding choose littleNumber littleOctets numberOf octetsOf numberAt readOf fieldOf formOf fieldIn parametersAt findKind positionOf parametersOf foundAt insideOf shapeOf look belowTop entryOf entered closed enteredAt kindAt enterAt typeAt walkedOf closure anyBelow loopFound anyOf stepsOf steps loopLast checkedType taken done numberStep sizeOf leafDone leafAt inertAt reads readsNode enterNode ownOf opens closes shuts next entries reading readingOf wrote writes rewriteOf rewriteAnswer outputAfter
 unnamed-is-big = refl

@@ -24,12 +24,12 @@
 --   partFrom         an encapsulation by its order octet: 33 "above 1"
 --   partOf           "a length, then an order octet": where an encapsulation starts and ends, and its order; 33 for "length 0 or beyond
 --                    its surroundings"
---   noDefault        "-1 for none", as an unsigned long
 --   badDefault       "default below -1 or not below count", a long
 --   judged           a default "tested after the count"
 --   switchStep       default and count of a union
---   labelStep        a label before a member: 30, then 35 "out of its kind" or equal to one of those `done` from `first` on, which are
---                    read again over the whole octets v, from the place b on
+--   labelBefore      a label is that of one of the `done` members before it, from `first` on; they were checked, and are read again over the
+--                    whole octets v, from the place b of their encapsulation on
+--   labelStep        a label before a member: 30, then, if it counts, 35 "out of its kind" or equal to one before it
 use Prim.Native.Nat.{ℕ, zero, suc, _+_, _-_, _/_}
 use mathlib.Core.List.{List}
 use mathlib.Core.Bool.{Bool, true, false, cond, not, _||_}
@@ -54,13 +54,18 @@ use Rattle.fields.specs.declared.Step.{Step}
 use Rattle.fields.specs.declared.Step.the-variants.{Refused, Next}
 use Rattle.fields.specs.declared.Count.{Count}
 use Rattle.fields.specs.declared.Count.the-variants.{Wrong, Stands}
+use Rattle.fields.specs.declared.Switch.{Switch}
+use Rattle.fields.specs.declared.Switch.the-variants.{NoSwitch, Cases}
 use Rattle.fields.specs.declared.Part.{Part}
 use Rattle.fields.specs.declared.Part.the-variants.{NoPart, Inside}
 use Rattle.cdr.specs.Align.{indexOf}
 use Rattle.cdr.specs.Orders.{orderOf}
 use Rattle.encapsulation.specs.Encapsulation.{fieldOf, stringOf}
 use Rattle.kinds.specs.Parts.{onField, longRange}
-use Rattle.met.specs.Discriminants.{outOfKind, labelAmong}
+use Rattle.kinds.specs.Members.{membersOf}
+use Rattle.kinds.specs.Parameters.{fieldsOf}
+use Rattle.met.specs.Discriminants.{outOfKind}
+use Rattle.met.specs.Arms.{counts, caseOf, noDefault, isChosen}
 
 abbrev pub topOnly : ℕ → Bool
 topOnly kind = eqb kind 0 || (eqb kind 1 || eqb kind 22)
@@ -147,23 +152,25 @@ partOf s i order =
     (cond (ltb (length s - next .0) n) (NoPart BadEncapsulation)
     (partFrom (orderOf (getD s (next .0) 0)) (next .0) (next .0 + n))))
 
-abbrev pub noDefault : ℕ
-noDefault = longRange - 1
-
 unfoldable pub badDefault : ℕ → ℕ → Bool
 badDefault d n = cond (eqb d noDefault) false (cond (leb (longRange / 2) d) true (leb n d))
 
-abbrev pub judged : ℕ → Count → Count
-judged d (Wrong r) = Wrong r
-judged d (Stands n next) = cond (badDefault d n) (Wrong BadUnion) (Stands n next)
+abbrev pub judged : ℕ → Count → Switch
+judged d (Wrong r) = NoSwitch r
+judged d (Stands n next) = cond (badDefault d n) (NoSwitch BadUnion) (Cases d n next)
 
-unfoldable pub switchStep : List ℕ → Index → Order → Count
-switchStep s i order = onField (fieldOf s i Four order) (Wrong Ends) (λ d j. judged d (countStep s j order))
+unfoldable pub switchStep : List ℕ → Index → Order → Switch
+switchStep s i order = onField (fieldOf s i Four order) (NoSwitch Ends) (λ d j. judged d (countStep s j order))
 
-abbrev pub labelStep : Labels → List ℕ → List ℕ → Place → Order → ℕ → Index → Index → Step
-labelStep NoLabels v s b order done first i = Next i
-labelStep (Of size limit) v s b order done first i =
+unfoldable pub labelBefore : Labels → List ℕ → Place → Order → ℕ → ℕ → Index → ℕ → Bool
+labelBefore labels v b order default done first x = isChosen (caseOf default x (membersOf labels v (fieldsOf b order done first)))
+
+abbrev pub labelStep : Labels → List ℕ → List ℕ → Place → Order → ℕ → ℕ → Index → Index → Step
+labelStep NoLabels v s b order default done first i = Next i
+labelStep (Of size limit) v s b order default done first i =
     onField (fieldOf s i size order) (Refused Ends) (λ x next.
-    cond (outOfKind limit x) (Refused BadUnion)
-    (cond (labelAmong (Of size limit) v b order x done first) (Refused BadUnion)
+    cond (counts default done)
+    (cond (outOfKind limit x) (Refused BadUnion)
+    (cond (labelBefore (Of size limit) v b order default done first x) (Refused BadUnion)
     (Next next)))
+    (Next next))

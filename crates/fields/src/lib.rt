@@ -2,7 +2,7 @@
 // function answers for any octets.
 ghost use mathlib.Core.Path.{_≡_};
 ghost use Rattle.fields.specs.Refusals.{refusalNumber};
-ghost use Rattle.fields.specs.Fields.{topOnly, belowTop, isListed, entryOf, textStep, namesStep, numberStep, countStep, anyCount, headStep, exceptionStep, lengthStep, textsStep, enumStep, partOf, badDefault, switchStep, labelStep};
+ghost use Rattle.fields.specs.Fields.{topOnly, belowTop, isListed, entryOf, textStep, namesStep, numberStep, countStep, anyCount, headStep, exceptionStep, lengthStep, textsStep, enumStep, partOf, badDefault, switchStep, labelBefore, labelStep};
 use cdr::Index;
 use cdr::Named;
 use cdr::Order;
@@ -10,8 +10,10 @@ use cdr::Place;
 use cdr::Size;
 use encapsulation::Field;
 use encapsulation::Str;
+use kinds::Fields;
 use kinds::Form;
 use kinds::Labels;
+use met::Arm;
 
 // Why the octets of a type are refused.
 pub enum Refusal {
@@ -74,6 +76,16 @@ pub enum Part {
         start: usize,
         end: usize,
         order: Order,
+    },
+}
+
+// Default, count and the index after them, of a union; or why there are none.
+pub enum Switch {
+    NoSwitch(Refusal),
+    Cases {
+        default: u64,
+        count: u64,
+        next: Index,
     },
 }
 
@@ -278,7 +290,7 @@ pub fn part_at(s: &[u8], at: Index, order: Order) -> Part
 fn bad_default(default: u64, count: u64) -> bool
     ensures { λ r. ⌜ r ≡ badDefault default count ⌝ }
 {
-    if default == 4294967295 {
+    if default == met::NO_DEFAULT {
         return false;
     }
     if 2147483648 <= default {
@@ -288,7 +300,7 @@ fn bad_default(default: u64, count: u64) -> bool
 }
 
 // Default and count of a union.
-pub fn switch_step(s: &[u8], at: Index, order: Order) -> Count
+pub fn switch_step(s: &[u8], at: Index, order: Order) -> Switch
     ensures { λ r. ⌜ r ≡ switchStep (now (s .entry)) at order ⌝ }
 {
     let Field::Value {
@@ -296,16 +308,45 @@ pub fn switch_step(s: &[u8], at: Index, order: Order) -> Count
         next: i,
     } = encapsulation::read_field(s, at, Size::Four, order)
     else {
-        return Count::Wrong(Refusal::Ends);
+        return Switch::NoSwitch(Refusal::Ends);
     };
     match count_step(s, i, order) {
-        Count::Wrong(refusal) => Count::Wrong(refusal),
+        Count::Wrong(refusal) => Switch::NoSwitch(refusal),
         Count::Stands { count, next } => {
             if bad_default(default, count) {
-                return Count::Wrong(Refusal::BadUnion);
+                return Switch::NoSwitch(Refusal::BadUnion);
             }
-            Count::Stands { count, next }
+            Switch::Cases {
+                default,
+                count,
+                next,
+            }
         }
+    }
+}
+
+// Whether a label is that of one of the first members.
+fn label_before(
+    labels: Labels,
+    v: &[u8],
+    start: Place,
+    order: Order,
+    default: u64,
+    done: u64,
+    first: Index,
+    label: u64,
+) -> bool
+    ensures { λ r. ⌜ r ≡ labelBefore labels (now (v .entry)) start order default done first label ⌝ }
+{
+    let fields = Fields {
+        start,
+        order,
+        count: done,
+        first,
+    };
+    match met::case_of(labels, v, fields, default, label) {
+        Arm::Chosen(_) => true,
+        Arm::NoneChosen => false,
     }
 }
 
@@ -316,11 +357,12 @@ pub fn label_step(
     s: &[u8],
     start: Place,
     order: Order,
+    default: u64,
     done: u64,
     first: Index,
     at: Index,
 ) -> Step
-    ensures { λ r. ⌜ r ≡ labelStep labels (now (v .entry)) (now (s .entry)) start order done first at ⌝ }
+    ensures { λ r. ⌜ r ≡ labelStep labels (now (v .entry)) (now (s .entry)) start order default done first at ⌝ }
 {
     let Labels::Of { size, limit } = labels else {
         return Step::Next(at);
@@ -328,11 +370,14 @@ pub fn label_step(
     let Field::Value { value: label, next } = encapsulation::read_field(s, at, size, order) else {
         return Step::Refused(Refusal::Ends);
     };
-    if met::out_of_kind(limit, label) {
-        return Step::Refused(Refusal::BadUnion);
-    }
-    if met::label_among(labels, v, start, order, label, done, first) {
-        return Step::Refused(Refusal::BadUnion);
+    if met::counts(default, done) {
+        if met::out_of_kind(limit, label) {
+            return Step::Refused(Refusal::BadUnion);
+        }
+        if label_before(labels, v, start, order, default, done, first, label) {
+            return Step::Refused(Refusal::BadUnion);
+        }
+        return Step::Next(next);
     }
     Step::Next(next)
 }

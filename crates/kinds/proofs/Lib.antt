@@ -1,2 +1,4 @@
 -- Laws that other crates cite.
 pub mod Reading
+pub mod Turns
+pub mod Plains

@@ -1,6 +1,5 @@
 -- What a kind's parameters are, by its place, and the start and order of the encapsulation it stands in, over the octets v of the whole
--- TypeCode. A type inside is given by its place, an indirection's by its target's. From `countIn` to `encapsulated`, b is the start of the
--- kind's own encapsulation.
+-- TypeCode. From `countIn` to `encapsulated`, b is the start of the kind's own encapsulation.
 --   fieldsOf            where members are listed: the encapsulation, their count, and the index of the first
 --   countIn             the count after id and name
 --   typeIn              the type after id and name
@@ -11,7 +10,7 @@
 --   onOrder             what follows an order octet
 --   encapsulated        the same behind its order octet
 --   parametersAfter     what follows a kind that was read
---   parametersAt        the parameters of the kind at a place
+--   parametersAt        the parameters of a kind that is written
 use Prim.Native.Nat.{ℕ, _+_, _-_}
 use mathlib.Core.List.{List}
 use mathlib.Core.Bool.{cond}
@@ -29,13 +28,16 @@ use Rattle.kinds.specs.declared.Form.{Form}
 use Rattle.kinds.specs.declared.Form.the-variants.{Unlisted, Plain, Bounded, Composite}
 use Rattle.kinds.specs.declared.Layout.{Layout}
 use Rattle.kinds.specs.declared.Layout.the-variants.{Objref as objref, Struct as struct, Union as union, Enum as enum, Sequence as sequence, Array as array, Alias as alias, Exception as exception}
+use Rattle.kinds.specs.declared.Kind.{Kind}
+use Rattle.kinds.specs.declared.Inner.{Inner}
 use Rattle.kinds.specs.declared.Spot.{Spot}
 use Rattle.kinds.specs.declared.Spot.the-variants.{Nowhere}
 use Rattle.kinds.specs.declared.Element.{Element}
 use Rattle.kinds.specs.declared.Element.the-variants.{Holds, NoElement}
 use Rattle.kinds.specs.declared.Fields.{Fields}
+use Rattle.kinds.specs.declared.Inert.the-variants.{Leaf, Text, Objref, Enum}
 use Rattle.kinds.specs.declared.Parameters.{Parameters}
-use Rattle.kinds.specs.declared.Parameters.the-variants.{Fault, Leaf, Text, Objref, Struct, Exception, Union, Enum, Sequence, Array, Alias}
+use Rattle.kinds.specs.declared.Parameters.the-variants.{Fault, Flat, Struct, Exception, Union, Sequence, Array, Alias}
 use Rattle.cdr.specs.Align.{indexOf}
 use Rattle.cdr.specs.Orders.{orderOf}
 use Rattle.kinds.specs.Forms.{formOf}
@@ -52,26 +54,26 @@ typeIn v b order = onSkip (namesIn v b order) Nowhere (λ i. spotAt v b i order)
 
 unfoldable pub elementIn : List ℕ → Place → Order → Element
 elementIn v b order =
-    onSpot (spotAt v b (indexOf 1) order) NoElement (λ p i. onField (fieldIn v b i Four order) NoElement (λ n next. Holds p n))
+    onSpot (spotAt v b (indexOf 1) order) NoElement (λ x i. onField (fieldIn v b i Four order) NoElement (λ n next. Holds x n))
 
-abbrev pub onElement : Element → (Place → ℕ → Parameters) → Parameters
-onElement (Holds p n) f = f p n
+abbrev pub onElement : Element → (Inner → ℕ → Parameters) → Parameters
+onElement (Holds x n) f = f x n
 onElement NoElement f = Fault
 
-unfoldable pub unionIn : List ℕ → Place → Order → Place → Index → Parameters
+unfoldable pub unionIn : List ℕ → Place → Order → Inner → Index → Parameters
 unionIn v b order d i =
     onField (fieldIn v b i Four order) Fault (λ default j.
     onField (fieldIn v b j Four order) Fault (λ n next. Union (fieldsOf b order n next) d default))
 
 abbrev pub parametersIn : Layout → List ℕ → Place → Order → Parameters
-parametersIn objref v b order = Objref
-parametersIn alias v b order = onSpot (typeIn v b order) Fault (λ p next. Alias p)
+parametersIn objref v b order = Flat Objref
+parametersIn alias v b order = onSpot (typeIn v b order) Fault (λ x next. Alias x)
 parametersIn struct v b order = onField (countIn v b order) Fault (λ n next. Struct (fieldsOf b order n next))
 parametersIn exception v b order = onField (countIn v b order) Fault (λ n next. Exception (fieldsOf b order n next))
 parametersIn union v b order = onSpot (typeIn v b order) Fault (λ d i. unionIn v b order d i)
-parametersIn enum v b order = onField (countIn v b order) Fault (λ n next. Enum n)
-parametersIn sequence v b order = onElement (elementIn v b order) (λ p n. Sequence p n)
-parametersIn array v b order = onElement (elementIn v b order) (λ p n. Array p n)
+parametersIn enum v b order = onField (countIn v b order) Fault (λ n next. Flat (Enum n))
+parametersIn sequence v b order = onElement (elementIn v b order) (λ x n. Sequence x n)
+parametersIn array v b order = onElement (elementIn v b order) (λ x n. Array x n)
 
 abbrev pub onOrder : Named → (Order → Parameters) → Parameters
 onOrder (Is order) f = f order
@@ -82,11 +84,12 @@ encapsulated layout v b = cond (ltb (b .0) (length v)) (onOrder (orderOf (getD v
 
 abbrev pub parametersAfter : Form → List ℕ → Place → Order → ℕ → Index → Parameters
 parametersAfter Unlisted v b order kind i = Fault
-parametersAfter Plain v b order kind i = Leaf kind
-parametersAfter Bounded v b order kind i = onField (fieldIn v b i Four order) Fault (λ bound next. Text bound)
+parametersAfter Plain v b order kind i = Flat (Leaf kind)
+parametersAfter Bounded v b order kind i = onField (fieldIn v b i Four order) Fault (λ bound next. Flat (Text bound))
 parametersAfter (Composite layout) v b order kind i =
     onField (fieldIn v b i Four order) Fault (λ n next. encapsulated layout v (placeOf (b .0 + next .0)))
 
-unfoldable pub parametersAt : List ℕ → Place → Order → Place → Parameters
-parametersAt v b order p =
-    onField (fieldIn v b (indexOf (p .0 - b .0)) Four order) Fault (λ kind next. parametersAfter (formOf kind) v b order kind next)
+unfoldable pub parametersAt : List ℕ → Kind → Parameters
+parametersAt v a =
+    onField (fieldIn v (a .start) (indexOf (a .place .0 - a .start .0)) Four (a .order)) Fault
+    (λ kind next. parametersAfter (formOf kind) v (a .start) (a .order) kind next)

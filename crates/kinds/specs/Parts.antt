@@ -1,8 +1,9 @@
 -- What stands at an index of an encapsulation, read from the octets of the whole TypeCode: v are these, b is the place where the
--- encapsulation starts, its own index 0. Nothing is judged here; an indirection is followed. The octets from b on go further than the
--- encapsulation does: of a kind that was read to its end all of it lies inside, and of a union that is asked for its own discriminant
--- it only matters that it is none.
+-- encapsulation starts, its own index 0. Nothing is judged here. The octets from b on go further than the encapsulation does: of a kind
+-- that was read to its end all of it lies inside, and of a union that is asked for its own discriminant it only matters that it is none.
 --   placeOf        a place in the whole TypeCode
+--   writtenAt      the kind that is written at a place, in an encapsulation of a start and an order
+--   placeIn        the place of a type inside another, an indirection counting as its target
 --   onField        what follows a number
 --   onSkip         what follows something passed over
 --   onSpot         what follows a type
@@ -16,7 +17,7 @@
 --   targetOf       "the offset's own place plus the offset", a long, if a machine word holds it
 --   aimedAt        the target's place, if there is one
 --   aimed          the target of the indirection whose offset is at an index
---   spotAt         the place of the type that is written at an index, an indirection counting as its target; and the index after it
+--   spotAt         the type that stands at an index, a kind that is written there or an indirection; and the index after it
 --   leadIn         the label before a member's name, where members have labels, passed over
 --   memberAt       a member: a label where there are labels, a name, a type
 --   namesIn        id and name passed over, the first two parameters of all but a sequence and an array
@@ -40,6 +41,9 @@ use Rattle.kinds.specs.declared.Skip.{Skip}
 use Rattle.kinds.specs.declared.Skip.the-variants.{Past, NoEnd}
 use Rattle.kinds.specs.declared.Target.{Target}
 use Rattle.kinds.specs.declared.Target.the-variants.{To, Outside}
+use Rattle.kinds.specs.declared.Kind.{Kind}
+use Rattle.kinds.specs.declared.Inner.{Inner}
+use Rattle.kinds.specs.declared.Inner.the-variants.{Here, There}
 use Rattle.kinds.specs.declared.Spot.{Spot}
 use Rattle.kinds.specs.declared.Spot.the-variants.{At, Nowhere}
 use Rattle.kinds.specs.declared.Labels.{Labels}
@@ -51,6 +55,13 @@ use Rattle.kinds.specs.Forms.{indirectionKind, formOf}
 abbrev pub placeOf : ℕ → Place
 placeOf p = record { 0 = p }
 
+abbrev pub writtenAt : Place → Place → Order → Kind
+writtenAt p b order = record { place = p; start = b; order = order }
+
+abbrev pub placeIn : Inner → Place
+placeIn (Here a) = a .place
+placeIn (There p) = p
+
 abbrev pub onField : {A : Type 0} → Field → A → (ℕ → Index → A) → A
 onField (Value x next) a f = f x next
 onField NoField a f = a
@@ -59,8 +70,8 @@ abbrev pub onSkip : {A : Type 0} → Skip → A → (Index → A) → A
 onSkip (Past next) a f = f next
 onSkip NoEnd a f = a
 
-abbrev pub onSpot : {A : Type 0} → Spot → A → (Place → Index → A) → A
-onSpot (At p next) a f = f p next
+abbrev pub onSpot : {A : Type 0} → Spot → A → (Inner → Index → A) → A
+onSpot (At x next) a f = f x next
 onSpot Nowhere a f = a
 
 unfoldable pub fieldIn : List ℕ → Place → Index → Size → Order → Field
@@ -94,7 +105,7 @@ targetOf p x =
     (cond (ltb (p .0) (longRange - x)) Outside (To (placeOf (p .0 - (longRange - x)))))
 
 abbrev pub aimedAt : Target → Index → Spot
-aimedAt (To p) next = At p next
+aimedAt (To p) next = At (There p) next
 aimedAt Outside next = Nowhere
 
 unfoldable pub aimed : List ℕ → Place → Index → Order → Spot
@@ -105,7 +116,7 @@ spotAt v b i order =
     onField (fieldIn v b i Four order) Nowhere (λ kind next.
     cond (eqb kind indirectionKind)
     (aimed v b next order)
-    (onSkip (skipKind (formOf kind) v b next order) Nowhere (λ over. At (behind b next) over)))
+    (onSkip (skipKind (formOf kind) v b next order) Nowhere (λ over. At (Here (writtenAt (behind b next) b order)) over)))
 
 abbrev pub leadIn : Labels → List ℕ → Place → Index → Order → Skip
 leadIn (Of size limit) v b i order = skipField v b i size order

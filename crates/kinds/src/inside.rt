@@ -6,6 +6,8 @@ ghost use Rattle.kinds.specs.Parameters.{countIn, typeIn, elementIn, uni
 use crate::Element;
 use crate::Fields;
 use crate::Form;
+use crate::Inert;
+use crate::Inner;
 use crate::Layout;
 use crate::Parameters;
 use crate::Skip;
@@ -42,20 +44,20 @@ fn type_in(v: &[u8], start: Place, order: Order) -> Spot
 fn element_in(v: &[u8], start: Place, order: Order) -> Element
     ensures { λ r. ⌜ r ≡ elementIn (now (v .entry)) start order ⌝ }
 {
-    let Spot::At { place, next } = crate::spot_at(v, start, Index(1), order) else {
+    let Spot::At { inner, next } = crate::spot_at(v, start, Index(1), order) else {
         return Element::NoElement;
     };
     match crate::field_in(v, start, next, Size::Four, order) {
         Field::Value {
             value: number,
             next: _,
-        } => Element::Holds { place, number },
+        } => Element::Holds { inner, number },
         Field::NoField => Element::NoElement,
     }
 }
 
 // Default and count after a union's discriminant.
-fn union_in(v: &[u8], start: Place, order: Order, discriminant: Place, at: Index) -> Parameters
+fn union_in(v: &[u8], start: Place, order: Order, discriminant: Inner, at: Index) -> Parameters
     ensures { λ r. ⌜ r ≡ unionIn (now (v .entry)) start order discriminant at ⌝ }
 {
     let Field::Value {
@@ -127,7 +129,7 @@ fn enum_in(v: &[u8], start: Place, order: Order) -> Parameters
         Field::Value {
             value: count,
             next: _,
-        } => Parameters::Enum(count),
+        } => Parameters::Flat(Inert::Enum(count)),
         Field::NoField => Parameters::Fault,
     }
 }
@@ -137,8 +139,8 @@ fn sequence_in(v: &[u8], start: Place, order: Order) -> Parameters
     ensures { λ r. ⌜ r ≡ parametersIn Sequence (now (v .entry)) start order ⌝ }
 {
     match element_in(v, start, order) {
-        Element::Holds { place, number } => Parameters::Sequence {
-            element: place,
+        Element::Holds { inner, number } => Parameters::Sequence {
+            element: inner,
             bound: number,
         },
         Element::NoElement => Parameters::Fault,
@@ -150,8 +152,8 @@ fn array_in(v: &[u8], start: Place, order: Order) -> Parameters
     ensures { λ r. ⌜ r ≡ parametersIn Array (now (v .entry)) start order ⌝ }
 {
     match element_in(v, start, order) {
-        Element::Holds { place, number } => Parameters::Array {
-            element: place,
+        Element::Holds { inner, number } => Parameters::Array {
+            element: inner,
             length: number,
         },
         Element::NoElement => Parameters::Fault,
@@ -163,7 +165,7 @@ fn alias_in(v: &[u8], start: Place, order: Order) -> Parameters
     ensures { λ r. ⌜ r ≡ parametersIn Alias (now (v .entry)) start order ⌝ }
 {
     match type_in(v, start, order) {
-        Spot::At { place, next: _ } => Parameters::Alias(place),
+        Spot::At { inner, next: _ } => Parameters::Alias(inner),
         Spot::Nowhere => Parameters::Fault,
     }
 }
@@ -173,7 +175,7 @@ fn switch_in(v: &[u8], start: Place, order: Order) -> Parameters
     ensures { λ r. ⌜ r ≡ parametersIn Union (now (v .entry)) start order ⌝ }
 {
     match type_in(v, start, order) {
-        Spot::At { place, next } => union_in(v, start, order, place, next),
+        Spot::At { inner, next } => union_in(v, start, order, inner, next),
         Spot::Nowhere => Parameters::Fault,
     }
 }
@@ -183,7 +185,7 @@ fn parameters_in(layout: Layout, v: &[u8], start: Place, order: Order) -> Parame
     ensures { λ r. ⌜ r ≡ parametersIn layout (now (v .entry)) start order ⌝ }
 {
     match layout {
-        Layout::Objref => Parameters::Objref,
+        Layout::Objref => Parameters::Flat(Inert::Objref),
         Layout::Struct => struct_in(v, start, order),
         Layout::Union => switch_in(v, start, order),
         Layout::Enum => enum_in(v, start, order),
@@ -221,7 +223,7 @@ pub(crate) fn parameters_after(
 {
     match form {
         Form::Unlisted => Parameters::Fault,
-        Form::Plain => Parameters::Leaf(kind),
+        Form::Plain => Parameters::Flat(Inert::Leaf(kind)),
         Form::Bounded => text_after(v, start, order, at),
         Form::Composite(layout) => composite_after(layout, v, start, order, at),
     }
@@ -235,7 +237,7 @@ fn text_after(v: &[u8], start: Place, order: Order, at: Index) -> Parameters
         Field::Value {
             value: bound,
             next: _,
-        } => Parameters::Text(bound),
+        } => Parameters::Flat(Inert::Text(bound)),
         Field::NoField => Parameters::Fault,
     }
 }

@@ -2,7 +2,8 @@
 // function answers for any octets and places.
 ghost use mathlib.Core.Path.{_≡_};
 ghost use Rattle.kinds.specs.Forms.{formOf};
-ghost use Rattle.kinds.specs.Parts.{fieldIn, targetOf, spotAt, memberAt};
+ghost use Rattle.kinds.specs.Parts.{placeIn, fieldIn, targetOf, spotAt, memberAt};
+ghost use Rattle.kinds.specs.Members.{labelAt};
 ghost use Rattle.kinds.specs.Parameters.{parametersAt};
 use cdr::Index;
 use cdr::Order;
@@ -91,9 +92,22 @@ pub enum Target {
     Outside,
 }
 
-// The place of a type that is written at an index, an indirection counting as its target, and the index after it.
+// A kind that is written: its place, and the start and order of the encapsulation it stands in.
+pub struct Kind {
+    pub place: Place,
+    pub start: Place,
+    pub order: Order,
+}
+
+// A type inside another: a kind that is written there, or an indirection, by its target's place.
+pub enum Inner {
+    Here(Kind),
+    There(Place),
+}
+
+// The type that stands at an index, and the index after it.
 pub enum Spot {
-    At { place: Place, next: Index },
+    At { inner: Inner, next: Index },
     Nowhere,
 }
 
@@ -105,7 +119,7 @@ pub enum Labels {
 
 // The type and the number of a sequence or an array.
 pub enum Element {
-    Holds { place: Place, number: u64 },
+    Holds { inner: Inner, number: u64 },
     NoElement,
 }
 
@@ -117,30 +131,45 @@ pub struct Fields {
     pub first: Index,
 }
 
-// The parameters of a kind: of a leaf its kind, of a string its bound, of an enum the number of its names; a union's default as the
-// unsigned long that is recorded. A fault is what octets give that are no kind's parameters.
-pub enum Parameters {
-    Fault,
+// A kind that holds no other: of a leaf its kind, of a string its bound, of an enum the number of its names.
+pub enum Inert {
     Leaf(u64),
     Text(u64),
     Objref,
+    Enum(u64),
+}
+
+// The parameters of a kind; a union's default as the unsigned long that is recorded. A fault is what octets give that are no kind's
+// parameters.
+pub enum Parameters {
+    Fault,
+    Flat(Inert),
     Struct(Fields),
     Exception(Fields),
     Union {
         fields: Fields,
-        discriminant: Place,
+        discriminant: Inner,
         default: u64,
     },
-    Enum(u64),
     Sequence {
-        element: Place,
+        element: Inner,
         bound: u64,
     },
     Array {
-        element: Place,
+        element: Inner,
         length: u64,
     },
-    Alias(Place),
+    Alias(Inner),
+}
+
+// The place of a type inside another, an indirection counting as its target.
+pub fn place_in(inner: Inner) -> Place
+    ensures { λ r. ⌜ r ≡ placeIn inner ⌝ }
+{
+    match inner {
+        Inner::Here(kind) => kind.place,
+        Inner::There(place) => place,
+    }
 }
 
 // The number at an index of the encapsulation that starts at a place.
@@ -173,7 +202,7 @@ pub fn target_of(at: Place, offset: u64) -> Target
     Target::To(Place(p - back))
 }
 
-// The place of the type that is written at an index of the encapsulation that starts at a place, and the index after it.
+// The type that stands at an index of the encapsulation that starts at a place, and the index after it.
 pub fn spot_at(v: &[u8], start: Place, at: Index, order: Order) -> Spot
     ensures { λ r. ⌜ r ≡ spotAt (now (v .entry)) start at order ⌝ }
 {
@@ -185,14 +214,18 @@ pub fn spot_at(v: &[u8], start: Place, at: Index, order: Order) -> Spot
     }
     match parts::skip_kind(form_of(kind), v, start, next, order) {
         Skip::Past(over) => Spot::At {
-            place: Place(start.0 + (next.0 - 4)),
+            inner: Inner::Here(Kind {
+                place: parts::behind(start, next),
+                start,
+                order,
+            }),
             next: over,
         },
         Skip::NoEnd => Spot::Nowhere,
     }
 }
 
-// A member at an index, with a label before it or none: the place of its type, and the index after it.
+// A member at an index, with a label before it or none: its type, and the index after it.
 pub fn member_at(labels: Labels, v: &[u8], start: Place, at: Index, order: Order) -> Spot
     ensures { λ r. ⌜ r ≡ memberAt labels (now (v .entry)) start at order ⌝ }
 {
@@ -205,14 +238,29 @@ pub fn member_at(labels: Labels, v: &[u8], start: Place, at: Index, order: Order
     spot_at(v, start, i, order)
 }
 
-// The parameters of the kind at a place, in the encapsulation that starts at a place.
-pub fn parameters_at(v: &[u8], start: Place, order: Order, place: Place) -> Parameters
-    ensures { λ r. ⌜ r ≡ parametersAt (now (v .entry)) start order place ⌝ }
+// The label at an index, 0 where members have no labels.
+pub fn label_at(labels: Labels, v: &[u8], start: Place, at: Index, order: Order) -> u64
+    ensures { λ r. ⌜ r ≡ labelAt labels (now (v .entry)) start at order ⌝ }
 {
-    let at = parts::since(place, start);
+    let Labels::Of { size, limit: _ } = labels else {
+        return 0;
+    };
+    match field_in(v, start, at, size, order) {
+        Field::Value { value, next: _ } => value,
+        Field::NoField => 0,
+    }
+}
+
+// The parameters of a kind that is written.
+pub fn parameters_at(v: &[u8], kind: Kind) -> Parameters
+    ensures { λ r. ⌜ r ≡ parametersAt (now (v .entry)) kind ⌝ }
+{
+    let start = kind.start;
+    let order = kind.order;
+    let at = parts::since(kind.place, start);
     match field_in(v, start, at, Size::Four, order) {
-        Field::Value { value: kind, next } => {
-            inside::parameters_after(form_of(kind), v, start, order, kind, next)
+        Field::Value { value, next } => {
+            inside::parameters_after(form_of(value), v, start, order, value, next)
         }
         Field::NoField => Parameters::Fault,
     }

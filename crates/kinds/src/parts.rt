@@ -1,9 +1,10 @@
 // What is passed over, and where an indirection leads.
 ghost use mathlib.Core.Path.{_≡_};
-ghost use Prim.Native.Nat.{_-_};
-ghost use Rattle.kinds.specs.Parts.{skipField, skipCounted, skipKind, aimed, leadIn, namesIn};
+ghost use Prim.Native.Nat.{_+_, _-_, _^_, _≤_, _<_};
+ghost use Rattle.kinds.specs.Parts.{behind, skipField, skipCounted, skipKind, aimed, leadIn, namesIn};
 ghost use Rattle.cdr.specs.Align.{indexOf};
 use crate::Form;
+use crate::Inner;
 use crate::Labels;
 use crate::Skip;
 use crate::Spot;
@@ -59,6 +60,14 @@ pub(crate) fn skip_counted(v: &[u8], start: Place, at: Index, order: Order) -> S
     }
 }
 
+// The place of the unsigned long that ends before an index.
+pub(crate) fn behind(start: Place, next: Index) -> Place
+    requires { ⌜ (4 ≤ next .0) × (start .0 + next .0 < 2 ^ 64) ⌝ }
+    ensures { λ r. ⌜ r ≡ behind start next ⌝ }
+{
+    Place(start.0 + (next.0 - 4))
+}
+
 // What follows a kind is passed over.
 pub(crate) fn skip_kind(form: Form, v: &[u8], start: Place, at: Index, order: Order) -> Skip
     ensures { λ r. ⌜ r ≡ skipKind form (now (v .entry)) start at order ⌝ }
@@ -78,8 +87,11 @@ pub(crate) fn aimed(v: &[u8], start: Place, at: Index, order: Order) -> Spot
     let Field::Value { value, next } = crate::field_in(v, start, at, Size::Four, order) else {
         return Spot::Nowhere;
     };
-    match crate::target_of(Place(start.0 + (next.0 - 4)), value) {
-        Target::To(place) => Spot::At { place, next },
+    match crate::target_of(behind(start, next), value) {
+        Target::To(place) => Spot::At {
+            inner: Inner::There(place),
+            next,
+        },
         Target::Outside => Spot::Nowhere,
     }
 }

@@ -5,12 +5,13 @@ ghost use mathlib.Core.List.{List};
 ghost use Prim.Native.Nat.{ℕ};
 ghost use Rattle.cdr.specs.Number.{readOf};
 ghost use Rattle.reading.specs.Sinks.{number, run, failed, repeats, begun, taken};
-ghost use Rattle.reading.specs.Visit.{sizeOf, leafAt, enumAt, textAt, countAt, objrefAt};
+ghost use Rattle.reading.specs.Visit.{sizeOf, leafAt, enumAt, textAt, countAt, objrefAt, inertAt};
 ghost use Rattle.leaves.specs.Walk.{sinkOf, sourceOf, stateOf, startOf, leafVisit};
 use cdr::Index;
 use cdr::Order;
 use cdr::Read;
 use cdr::Size;
+use kinds::Inert;
 
 mod primitives;
 mod references;
@@ -221,4 +222,16 @@ pub fn reference(v: &[u8], m: Mode, table: &mut [u64], c: Cursor) -> Cursor
         return d;
     }
     references::profiles(v, m, table, d)
+}
+
+// A kind that holds no other.
+pub fn inert(v: &[u8], m: Mode, table: &mut [u64], inert: Inert, c: Cursor) -> Cursor
+    ensures { λ r. ⌜ stateOf r (now (table .exit)) ≡ inertAt (sinkOf m) (sourceOf m (now (v .entry))) inert (stateOf c (now (table .entry))) ⌝ }
+{
+    match inert {
+        Inert::Leaf(kind) => leaf(v, m, table, kind, c),
+        Inert::Text(bound) => text(v, m, table, bound, c),
+        Inert::Objref => reference(v, m, table, c),
+        Inert::Enum(names) => enumerated(v, m, table, names, c),
+    }
 }

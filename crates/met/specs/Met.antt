@@ -1,60 +1,54 @@
--- "A list of at most 64 kinds met, with place, start and byte order": the first `count` entries of three arrays.
---   noKinds         nothing met
---   roomFor         there is room for one more kind, at a place and in an encapsulation that the arrays can hold, as every one of a type
---                   of at most 16,384 octets is
---   added           the list and one more kind
---   findIn          the first of n positions from i on whose entry is p, else the one after them
---   findPlace       the position of the kind at a place, the count where none is there
---   positionOf      the position of the kind at a place, if one is there
---   orderIn         the order that an entry of the list says
+-- "A list of at most 64 kinds met, with place, start and byte order": the list, and what is found in it.
+--   noKind          what stands past the end of the list
+--   kindNo          the kind at a position
+--   findKind        the position of the kind at a place, the length where none is there
+--   positionOf      the same, if one is there
 --   parametersOf    the parameters of the kind at a position
-use Prim.Native.Nat.{ℕ, zero, suc, _+_}
-use mathlib.Core.List.{List}
-use mathlib.Core.Bool.{Bool, cond, _&&_}
+--   atPosition      the same, a fault where there is none
+--   foundAt         the parameters of the kind at a place
+--   insideOf        the parameters of a type inside another: of a kind that is written there by its own octets, of an indirection's target by
+--                   the list; where the list has none there, which no accepted type leads to, a fault
+use Prim.Native.Nat.{ℕ, suc}
+use mathlib.Core.List.{List, [], _∷_}
+use mathlib.Core.Bool.{cond}
 use lib.Dec.{ltb, eqb}
-use lib.ListN.{getD, set, replicate}
+use lib.ListN.{length, getD}
 use Rattle.choices.specs.Branch.{choose}
 use Rattle.cdr.specs.declared.Place.{Place}
-use Rattle.cdr.specs.declared.Order.{Order}
-use Rattle.cdr.specs.declared.Order.the-variants.{Big, Little}
+use Rattle.cdr.specs.declared.Order.the-variants.{Big}
+use Rattle.kinds.specs.declared.Kind.{Kind}
+use Rattle.kinds.specs.declared.Inner.{Inner}
+use Rattle.kinds.specs.declared.Inner.the-variants.{Here, There}
 use Rattle.kinds.specs.declared.Parameters.{Parameters}
-use Rattle.met.specs.declared.Met.{Met}
+use Rattle.kinds.specs.declared.Parameters.the-variants.{Fault}
 use Rattle.met.specs.declared.Position.{Position}
 use Rattle.met.specs.declared.Position.the-variants.{Is, NoPosition}
-use Rattle.cdr.specs.Orders.{orderOctet}
-use Rattle.kinds.specs.Parts.{placeOf}
+use Rattle.kinds.specs.Parts.{placeOf, writtenAt}
 use Rattle.kinds.specs.Parameters.{parametersAt}
 
-abbrev pub noKinds : Met
-noKinds = record { places = replicate 64 0; starts = replicate 64 0; orders = replicate 64 0; count = 0 }
+abbrev pub noKind : Kind
+noKind = writtenAt (placeOf 0) (placeOf 0) Big
 
-abbrev pub roomFor : Met → Place → Place → Bool
-roomFor m p b = ltb (m .count) 64 && (ltb (p .0) 65536 && ltb (b .0) 65536)
+abbrev pub kindNo : List Kind → ℕ → Kind
+kindNo ks j = getD ks j noKind
 
-unfoldable pub added : Met → Place → Place → Order → Met
-added m p b order =
-    cond (roomFor m p b)
-    (record {
-      places = set (m .places) (m .count) (p .0);
-      starts = set (m .starts) (m .count) (b .0);
-      orders = set (m .orders) (m .count) (orderOctet order);
-      count = m .count + 1;
-    })
-    m
+unfoldable pub findKind : List Kind → Place → ℕ
+findKind [] p = 0
+findKind (a ∷ ks) p = choose (eqb (a .place .0) (p .0)) (λ _. 0) (λ _. suc (findKind ks p))
 
-unfoldable pub findIn : List ℕ → ℕ → ℕ → ℕ → ℕ
-findIn places p zero i = i
-findIn places p (suc n) i = choose (eqb (getD places i 0) p) (λ _. i) (λ _. findIn places p n (i + 1))
+unfoldable pub positionOf : List Kind → Place → Position
+positionOf ks p = cond (ltb (findKind ks p) (length ks)) (Is (findKind ks p)) NoPosition
 
-unfoldable pub findPlace : Met → Place → ℕ
-findPlace m p = findIn (m .places) (p .0) (m .count) 0
+unfoldable pub parametersOf : List ℕ → List Kind → ℕ → Parameters
+parametersOf v ks j = parametersAt v (kindNo ks j)
 
-unfoldable pub positionOf : Met → Place → Position
-positionOf m p = cond (ltb (findPlace m p) (m .count)) (Is (findPlace m p)) NoPosition
+abbrev pub atPosition : List ℕ → List Kind → Position → Parameters
+atPosition v ks (Is j) = parametersOf v ks j
+atPosition v ks NoPosition = Fault
 
-abbrev pub orderIn : ℕ → Order
-orderIn octet = cond (eqb octet 1) Little Big
+unfoldable pub foundAt : List ℕ → List Kind → Place → Parameters
+foundAt v ks p = atPosition v ks (positionOf ks p)
 
-unfoldable pub parametersOf : List ℕ → Met → ℕ → Parameters
-parametersOf v m j =
-    parametersAt v (placeOf (getD (m .starts) j 0)) (orderIn (getD (m .orders) j 0)) (placeOf (getD (m .places) j 0))
+unfoldable pub insideOf : List ℕ → List Kind → Inner → Parameters
+insideOf v ks (Here a) = parametersAt v a
+insideOf v ks (There p) = foundAt v ks p

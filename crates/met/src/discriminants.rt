@@ -1,18 +1,16 @@
-// What a discriminant's type says of labels, and whether a label was there before.
+// What a discriminant's type says of labels.
 ghost use mathlib.Core.Path.{_≡_};
 ghost use Rattle.kinds.specs.declared.Labels.the-variants.{Of};
-ghost use Rattle.met.specs.Discriminants.{leafLabels, discriminantOf, labelsFor, outOfKind, labelIs, labelAmong};
+ghost use Rattle.met.specs.Arrays.{kindsMet};
+ghost use Rattle.met.specs.Discriminants.{leafLabels, inertLabels, discriminantOf, labelsFor, outOfKind};
 use crate::Discriminant;
 use crate::Met;
 use crate::Position;
-use cdr::Index;
-use cdr::Order;
 use cdr::Place;
 use cdr::Size;
-use encapsulation::Field;
+use kinds::Inert;
 use kinds::Labels;
 use kinds::Parameters;
-use kinds::Spot;
 
 // Labels of a size, below a limit.
 fn sized(size: Size, limit: u64) -> Labels
@@ -52,15 +50,26 @@ fn leaf_labels(kind: u64) -> Labels
     Labels::NoLabels
 }
 
+// The labels of a kind that holds no other.
+fn inert_labels(inert: Inert) -> Labels
+    ensures { λ r. ⌜ r ≡ inertLabels inert ⌝ }
+{
+    match inert {
+        Inert::Leaf(kind) => leaf_labels(kind),
+        Inert::Text(_) => Labels::NoLabels,
+        Inert::Objref => Labels::NoLabels,
+        Inert::Enum(names) => sized(Size::Four, names),
+    }
+}
+
 // What the parameters of a discriminant's type say.
 fn discriminant_of(parameters: Parameters) -> Discriminant
     ensures { λ r. ⌜ r ≡ discriminantOf parameters ⌝ }
 {
     match parameters {
+        Parameters::Flat(inert) => Discriminant::Says(inert_labels(inert)),
+        Parameters::Alias(inner) => Discriminant::Through(inner),
         Parameters::Fault => Discriminant::Says(Labels::NoLabels),
-        Parameters::Leaf(kind) => Discriminant::Says(leaf_labels(kind)),
-        Parameters::Text(_) => Discriminant::Says(Labels::NoLabels),
-        Parameters::Objref => Discriminant::Says(Labels::NoLabels),
         Parameters::Struct(_) => Discriminant::Says(Labels::NoLabels),
         Parameters::Exception(_) => Discriminant::Says(Labels::NoLabels),
         Parameters::Union {
@@ -68,10 +77,6 @@ fn discriminant_of(parameters: Parameters) -> Discriminant
             discriminant: _,
             default: _,
         } => Discriminant::Says(Labels::NoLabels),
-        Parameters::Enum(names) => Discriminant::Says(Labels::Of {
-            size: Size::Four,
-            limit: names,
-        }),
         Parameters::Sequence {
             element: _,
             bound: _,
@@ -80,13 +85,12 @@ fn discriminant_of(parameters: Parameters) -> Discriminant
             element: _,
             length: _,
         } => Discriminant::Says(Labels::NoLabels),
-        Parameters::Alias(place) => Discriminant::Through(place),
     }
 }
 
 // The labels of a union whose discriminant stands at a place.
 pub fn labels_for(v: &[u8], met: Met, place: Place) -> Labels
-    ensures { λ r. ⌜ r ≡ labelsFor (now (v .entry)) met place ⌝ }
+    ensures { λ r. ⌜ r ≡ labelsFor (now (v .entry)) (kindsMet met) place ⌝ }
 {
     let mut at = place;
     let mut left: usize = 64;
@@ -96,7 +100,7 @@ pub fn labels_for(v: &[u8], met: Met, place: Place) -> Labels
         };
         match discriminant_of(crate::parameters_of(v, met, j)) {
             Discriminant::Through(next) => {
-                at = next;
+                at = kinds::place_in(next);
             }
             Discriminant::Says(labels) => {
                 return labels;
@@ -112,44 +116,4 @@ pub fn out_of_kind(limit: u64, label: u64) -> bool
     ensures { λ r. ⌜ r ≡ outOfKind limit label ⌝ }
 {
     if limit == 0 { false } else { limit <= label }
-}
-
-// Whether the label at an index is this one.
-pub fn label_is(labels: Labels, v: &[u8], start: Place, order: Order, label: u64, at: Index) -> bool
-    ensures { λ r. ⌜ r ≡ labelIs labels (now (v .entry)) start order label at ⌝ }
-{
-    let Labels::Of { size, limit: _ } = labels else {
-        return false;
-    };
-    match kinds::field_in(v, start, at, size, order) {
-        Field::Value { value, next: _ } => value == label,
-        Field::NoField => false,
-    }
-}
-
-// Whether one of the first members has this label.
-pub fn label_among(
-    labels: Labels,
-    v: &[u8],
-    start: Place,
-    order: Order,
-    label: u64,
-    count: u64,
-    first: Index,
-) -> bool
-    ensures { λ r. ⌜ r ≡ labelAmong labels (now (v .entry)) start order label count first ⌝ }
-{
-    let mut at = first;
-    let mut k: u64 = 0;
-    while k < count {
-        if label_is(labels, v, start, order, label, at) {
-            return true;
-        }
-        let Spot::At { place: _, next } = kinds::member_at(labels, v, start, at, order) else {
-            return false;
-        };
-        at = next;
-        k += 1;
-    }
-    false
 }

@@ -1,16 +1,23 @@
 // The kinds met in a TypeCode: where each stands, and what its parameters are. Every function answers for any octets and lists.
 ghost use mathlib.Core.Path.{_≡_};
-ghost use Rattle.met.specs.Met.{noKinds, added, positionOf, orderIn, parametersOf};
-ghost use lib.ListN.{getD};
+ghost use Rattle.met.specs.Met.{kindNo, positionOf, parametersOf, foundAt, insideOf};
+ghost use Rattle.met.specs.Arrays.{orderIn, heldIn, kindsMet, noKinds, added};
+ghost use Prim.Native.Nat.{min};
+ghost use lib.ListN.{getD, length};
 use cdr::Order;
 use cdr::Place;
+use kinds::Inner;
+use kinds::Kind;
 use kinds::Labels;
 use kinds::Parameters;
 
+mod arms;
 mod discriminants;
 
-pub use discriminants::label_among;
-pub use discriminants::label_is;
+pub use arms::case_of;
+pub use arms::chosen_of;
+pub use arms::counts;
+pub use arms::NO_DEFAULT;
 pub use discriminants::labels_for;
 pub use discriminants::out_of_kind;
 
@@ -34,8 +41,24 @@ pub enum Position {
 
 // What a discriminant's parameters say: an alias leads on, and every other kind has its labels or none.
 pub enum Discriminant {
-    Through(Place),
+    Through(Inner),
     Says(Labels),
+}
+
+// The type of a member that is chosen, or that none is.
+pub enum Arm {
+    Chosen(Inner),
+    NoneChosen,
+}
+
+// How many kinds the list has, of which its arrays have room for 64.
+fn held_in(count: usize) -> usize
+    ensures { λ r. ⌜ r ≡ min count 64 ⌝ }
+{
+    if count < KINDS_LIMIT {
+        return count;
+    }
+    KINDS_LIMIT
 }
 
 // A place of the list, 0 past its end.
@@ -94,12 +117,19 @@ impl Met {
         met
     }
 
+    // How many kinds the list has.
+    pub fn held(self) -> usize
+        ensures { λ r. ⌜ r ≡ length (kindsMet self) ⌝ }
+    {
+        held_in(self.count)
+    }
+
     // The position of the kind at a place.
     pub fn position(self, place: Place) -> Position
-        ensures { λ r. ⌜ r ≡ positionOf self place ⌝ }
+        ensures { λ r. ⌜ r ≡ positionOf (kindsMet self) place ⌝ }
     {
         let places = self.places;
-        let n = self.count;
+        let n = held_in(self.count);
         let mut i = 0;
         while i < n {
             if entry(places, i) == place.0 {
@@ -111,14 +141,76 @@ impl Met {
     }
 }
 
-// The parameters of the kind at a position.
-pub fn parameters_of(v: &[u8], met: Met, j: usize) -> Parameters
-    ensures { λ r. ⌜ r ≡ parametersOf (now (v .entry)) met j ⌝ }
+// The kind at a position, one at place 0 past the last.
+pub fn entry_at(met: Met, j: usize) -> Kind
+    ensures { λ r. ⌜ r ≡ kindNo (kindsMet met) j ⌝ }
 {
+    if held_in(met.count) <= j {
+        return Kind {
+            place: Place(0),
+            start: Place(0),
+            order: Order::Big,
+        };
+    }
     let starts = met.starts;
     let orders = met.orders;
     let places = met.places;
-    let start = Place(entry(starts, j));
-    let place = Place(entry(places, j));
-    kinds::parameters_at(v, start, order_entry(orders, j), place)
+    Kind {
+        place: Place(entry(places, j)),
+        start: Place(entry(starts, j)),
+        order: order_entry(orders, j),
+    }
+}
+
+// The parameters of the kind at a position.
+pub fn parameters_of(v: &[u8], met: Met, j: usize) -> Parameters
+    ensures { λ r. ⌜ r ≡ parametersOf (now (v .entry)) (kindsMet met) j ⌝ }
+{
+    kinds::parameters_at(v, entry_at(met, j))
+}
+
+// The order that an entry of the list says.
+fn order_in(octet: u8) -> Order
+    ensures { λ r. ⌜ r ≡ orderIn octet ⌝ }
+{
+    if octet == 1 {
+        Order::Little
+    } else {
+        Order::Big
+    }
+}
+
+// The parameters of the kind at a place, a fault where the list has none there. The lists are indexed here, since a function would copy
+// them for each entry.
+fn found_at(v: &[u8], met: Met, place: Place) -> Parameters
+    ensures { λ r. ⌜ r ≡ foundAt (now (v .entry)) (kindsMet met) place ⌝ }
+{
+    let n = held_in(met.count);
+    let mut i: usize = 0;
+    while i < n {
+        if met.places[i] as usize == place.0 {
+            let start = Place(met.starts[i] as usize);
+            let order = order_in(met.orders[i]);
+            return kinds::parameters_at(
+                v,
+                Kind {
+                    place,
+                    start,
+                    order,
+                },
+            );
+        }
+        i += 1;
+    }
+    Parameters::Fault
+}
+
+// The parameters of a type inside another. The list is searched for an indirection's target alone.
+pub fn inside_of(v: &[u8], met: Met, inner: Inner) -> Parameters
+    ensures { λ r. ⌜ r ≡ insideOf (now (v .entry)) (kindsMet met) inner ⌝ }
+{
+    match inner {
+        Inner::Here(kind) => kinds::parameters_at(v, kind),
+        Inner::There(place) => found_at(v, met, place),
+    }
 }

@@ -1,123 +1,208 @@
--- A plan that is right reads a struct as its type does; and the loops over a plan's members.
+-- A plan that fits reads a struct as its type does; a plan that is found fits; the making of a plan, and the loop over its members.
 use mathlib.Core.Path.{_≡_, refl, sym, ap, subst, _∙_}
-use mathlib.Core.List.{List}
-use mathlib.Core.Bool.{Bool, true, false}
+use mathlib.Core.List.{List, [], _∷_}
+use mathlib.Core.Bool.{Bool, true, false, cond, _&&_, false≢true}
 use Prim.Native.Nat.{ℕ, zero, suc, _+_, _-_, _≤_, _<_}
 use native.Mathlib.Nat.{sub-zero}
 use native.Mathlib.Omega.{arith}
-use lib.Dec.{eqb}
-use lib.ListN.{getD, set, length, length-set}
+use lib.Dec.{eqb, ltb, leb}
+use lib.ListN.{getD, set, length, length-set, length-replicate, replicate}
 use lib.Seq.{getD-set-same, getD-set-other}
+use types.Run.{OneOf, miss}
+use denote.Enum.Declared.{tagOf}
+use borrow.Author.Tests.{eq-eqb, ne-eqb, eqb-true, le-leb, lt-leb, leb-true}
 use Rattle.choices.specs.Branch.{choose}
+use Rattle.choices.proofs.Choices.{by-test, and-true}
 use Rattle.cdr.specs.declared.Index.{Index}
 use Rattle.cdr.specs.declared.Place.{Place}
+use Rattle.cdr.specs.declared.Order.{Order}
+use Rattle.kinds.specs.declared.Inner.{Inner}
+use Rattle.kinds.specs.declared.Inert.{Inert}
+use Rattle.kinds.specs.declared.Inert.the-variants.{Leaf, Text, Objref, Enum}
 use Rattle.kinds.specs.declared.Labels.the-variants.{NoLabels}
-use Rattle.kinds.specs.declared.Fields.{Fields}
-use Rattle.kinds.specs.declared.Spot.{Spot}
 use Rattle.kinds.specs.declared.Spot.the-variants.{At, Nowhere}
 use Rattle.kinds.specs.declared.Parameters.{Parameters}
-use Rattle.kinds.specs.declared.Parameters.the-variants.{Leaf, Struct}
-use Rattle.kinds.specs.Parts.{onSpot, memberAt}
-use Rattle.reading.specs.Sinks.{Source, Sink, St, after, repeats, begun}
-use Rattle.reading.specs.Visit.{Checked, inside, membersAt, elementsAt, enter}
+use Rattle.kinds.specs.declared.Parameters.the-variants.{Fault, Flat, Struct, Exception, Union, Sequence, Array, Alias}
+use Rattle.kinds.specs.Parts.{memberAt}
+use Rattle.kinds.specs.Members.{membersFrom, typesOf}
+use Rattle.kinds.proofs.Parameters.{the-type as parameters-type}
+use Rattle.kinds.proofs.Turns.{members-cut, members-more}
+use Rattle.kinds.specs.declared.Kind.{Kind}
+use Rattle.met.specs.Shapes.{Shape, shapeOf}
+use Rattle.met.specs.Shapes.Shape.{fault, flat, struct, exception, union, sequence, array, alias}
+use Rattle.reading.specs.Sinks.{Source, Sink, St, after, begun}
+use Rattle.reading.specs.Visit.{Checked, inertAt}
+use Rattle.reading.specs.Opens.{ownOf, opens, entries, next, closes, shuts, enterNode, readsNode}
+use Rattle.reading.specs.Opens.Open.{row}
 use Rattle.reading.specs.Reading.{reads}
-use Rattle.reading.proofs.Ways.{after-same, repeats-same, visit-some, goes-on, stops}
-use Rattle.leaves.specs.declared.Mode.{Mode}
+use Rattle.reading.proofs.Ways.{after-same, reads-some, reads-flat, goes-on, stops}
 use Rattle.leaves.specs.Lent.{Lent}
-use Rattle.leaves.specs.Walk.{sinkOf, sourceOf}
 use Rattle.leaves.proofs.Loops.{rows}
 use Rattle.plans.specs.declared.Plan.{Plan}
-use Rattle.plans.specs.Plans.{FlatDone, leafStep, planSteps, onMember, Right, Fits}
+use Rattle.plans.specs.Plans.{leafStep, planSteps, mostMembers, noLeaf, inertKind, leafKind, plannable, laid, planFound, noPlan, planOf, Right, Fits}
 
--- a visit that enters nothing is done, and one that enters something is not
-module _ (m : Mode) (v : List ℕ) (e : Parameters) (l : ℕ) (s r : St Lent) (b : Bool) (flat : FlatDone m v e l s b r) where
-  pub flat-done : b ≡ false → (t : Checked) → r ≡ reads (sinkOf m) (sourceOf m v) t l e s
-  flat-done q = subst (λ (a : Bool). FlatDone m v e l s a r) q flat
+-- ---- a struct by the plan that fits it
 
-  pub flat-left : b ≡ true → r ≡ s
-  flat-left q = subst (λ (a : Bool). FlatDone m v e l s a r) q flat
+module _ {A : Type 0} (k : Sink A) (x : Source) (t : Checked) (l : ℕ) (some : l ≡ 0 → ⊥) (kinds : List ℕ) where
+  leaf-one : (y : Inner) (kind : ℕ) (s : St A) → t .look y ≡ flat (Leaf kind) → reads k x t l (t .look y) s ≡ leafStep k x kind s
+  unfolding inertAt
+  leaf-one y kind s e = ap (λ (p : Shape). reads k x t l p s) e ∙ reads-flat k x t l (Leaf kind) s some
 
--- a struct's members by its plan
-module _ {A : Type 0} (k : Sink A) (x : Source) (t : Checked) (l : ℕ) (some : l ≡ 0 → ⊥) (g : Fields) (kinds : List ℕ) where
-  abbrev f : Parameters → St A → St A
-  f = reads k x t l
+  row-planned : (j : ℕ) (ys : List Inner) (s : St A) → Right t kinds j ys
+      → closes (readsNode k x l) t (length ys) (row ys) s ≡ planSteps k x kinds j (length ys) s
+  unfolding closes next planSteps Right reads
+  row-planned j [] s r = refl
+  row-planned j (y ∷ ys) s r =
+      after-same (reads k x t l (t .look y) s) (leafStep k x (getD kinds j 0) s)
+      (closes (readsNode k x l) t (length ys) (row ys)) (planSteps k x kinds (j + 1) (length ys))
+      (leaf-one y (getD kinds j 0) s (r .0)) (λ u. row-planned (j + 1) ys u (r .1))
 
-  leaf-one : (p : Place) (kind : ℕ) (s : St A) → inside t p ≡ Leaf kind → f (inside t p) s ≡ leafStep k x kind s
-  unfolding enter
-  leaf-one p kind s e = visit-some k x t l (inside t p) (Leaf kind) s (begun k s) some e refl
-
-  member-one : (n j : ℕ) (s : St A) (a : Spot) → onMember a (λ p next. (inside t p ≡ Leaf (getD kinds j 0)) × Right t g kinds n (j + 1) next)
-      → ((next : Index) (u : St A) → Right t g kinds n (j + 1) next → membersAt k x f t g n next u ≡ planSteps k x kinds (j + 1) n u)
-      → onSpot a s (λ p next. after (f (inside t p) s) (membersAt k x f t g n next)) ≡ after (leafStep k x (getD kinds j 0) s) (planSteps k x kinds (j + 1) n)
-  member-one n j s (At p next) r more =
-      after-same (f (inside t p) s) (leafStep k x (getD kinds j 0) s) (membersAt k x f t g n next) (planSteps k x kinds (j + 1) n)
-      (leaf-one p (getD kinds j 0) s (r .0)) (λ u. more next u (r .1))
-  member-one n j s Nowhere r more = absurd r
-
-  plan-members : (n j : ℕ) (i : Index) (s : St A) → Right t g kinds n j i → membersAt k x f t g n i s ≡ planSteps k x kinds j n s
-  unfolding membersAt planSteps Right
-  plan-members zero j i s r = refl
-  plan-members (suc n) j i s r =
-      member-one n j s (memberAt NoLabels (t .octets) (g .start) i (g .order)) r (λ next u q. plan-members n (j + 1) next u q)
-
--- structs by the plan that fits them
-pub plan-elements : {A : Type 0} (k : Sink A) (x : Source) (t : Checked) (e : Parameters) (g : Fields) (l : ℕ) (plan : Plan) → e ≡ Struct g → Fits t g l plan
-    → (n : ℕ) (s : St A) → elementsAt k x (reads k x t l) e n s ≡ repeats (λ u. planSteps k x (plan .kinds) 0 (plan .count) (begun k u)) n s
-unfolding elementsAt enter
-plan-elements {A} k x t e g l plan is fit n s =
+pub plan-reads : {A : Type 0} (k : Sink A) (x : Source) (t : Checked) (l : ℕ) (ys : List Inner) (plan : Plan) → Fits t l ys plan
+    → (s : St A) → reads k x t l (struct ys) s ≡ planSteps k x (plan .kinds) 0 (plan .count) (begun k s)
+unfolding enterNode ownOf opens shuts entries
+plan-reads k x t l ys plan fit s =
     let h = fit .levels in
-    let one : (u : St A) → reads k x t l e u ≡ planSteps k x (plan .kinds) 0 (plan .count) (begun k u) =
-    λ u. visit-some k x t l e (Struct g) u (begun k u) (λ z. omega arith) is refl
-    ∙ ap (λ (i : ℕ). membersAt k x (reads k x t (l - 1)) t g i (g .first) (begun k u)) (sym (fit .whole))
-    ∙ plan-members k x t (l - 1) (λ z. omega arith) g (plan .kinds) (plan .count) 0 (g .first) (begun k u) (fit .right) in
-    repeats-same (reads k x t l e) (λ u. planSteps k x (plan .kinds) 0 (plan .count) (begun k u)) one n s
+    reads-some k x t l (struct ys) s (λ z. omega arith)
+    ∙ row-planned k x t (l - 1) (λ z. omega arith) (plan .kinds) 0 ys (begun k s) (fit .right)
+    ∙ ap (λ (n : ℕ). planSteps k x (plan .kinds) 0 n (begun k s)) (sym (fit .whole))
 
--- a plan in the making: j of n members are known, the next one stands at i
-module _ (t : Checked) (g : Fields) where
-  pub record Planning (n j : ℕ) (first i : Index) (plan : Plan) : Type 0 where
-    pub few : j ≤ n
-    pub long : length (plan .kinds) ≡ 16
-    pub all : plan .count ≡ n
-    pub rest : (other : List ℕ) → ((h : ℕ) → h < j → getD other h 0 ≡ getD (plan .kinds) h 0) → Right t g other (n - j) j i → Right t g other n 0 first
+-- ---- a plan that is found fits
 
-  module _ {n : ℕ} {first : Index} {plan : Plan} where
-    pub planning-none : length (plan .kinds) ≡ 16 → plan .count ≡ n → Planning n 0 first first plan
-    planning-none long all =
-        record { few = omega arith; long = long; all = all; rest = λ other same r. subst (λ (j : ℕ). Right t g other j 0 first) (sub-zero n) r }
+-- of other parameters than those of a kind that holds no other
+pub other-none : (p : Parameters) → OneOf (0 ∷ 2 ∷ 3 ∷ 4 ∷ 5 ∷ 6 ∷ 7 ∷ []) (tagOf parameters-type p) → (v : List ℕ) (ks : List Kind)
+    → noLeaf ≡ leafKind (shapeOf v ks p)
+unfolding shapeOf leafKind
+other-none Fault k v ks = refl
+other-none (Flat i) k v ks = absurd (miss (0 ∷ 2 ∷ 3 ∷ 4 ∷ 5 ∷ 6 ∷ 7 ∷ []) 1 tt k)
+other-none (Struct g) k v ks = refl
+other-none (Exception g) k v ks = refl
+other-none (Union g d default) k v ks = refl
+other-none (Sequence y bound) k v ks = refl
+other-none (Array y n) k v ks = refl
+other-none (Alias y) k v ks = refl
 
-    module _ {j : ℕ} {i : Index} (on : Planning n j first i plan) where
-      pub planning-all : n ≤ j → Right t g (plan .kinds) (plan .count) 0 first
-      unfolding Right
-      planning-all h =
-          let e : n - j ≡ 0 = omega arith in
-          subst (λ (c : ℕ). Right t g (plan .kinds) c 0 first) (sym (on .all))
-          (on .rest (plan .kinds) (λ a less. refl) (subst (λ (c : ℕ). Right t g (plan .kinds) c j i) (sym e) tt))
+inert-leaf : (i : Inert) → (inertKind i ≡ noLeaf → ⊥) → i ≡ Leaf (inertKind i)
+unfolding inertKind
+inert-leaf (Leaf kind) h = by-test (ltb kind noLeaf) (λ e. rw e) (λ e. absurd (h (rw e)))
+inert-leaf (Text bound) h = absurd (h refl)
+inert-leaf Objref h = absurd (h refl)
+inert-leaf (Enum names) h = absurd (h refl)
 
-      module _ (p : Place) (next : Index) (kind : ℕ) (more : j < n) (most : n ≤ 16)
-          (at : memberAt NoLabels (t .octets) (g .start) i (g .order) ≡ At p next) (is : inside t p ≡ Leaf kind) where
-        abbrev longer : List ℕ
-        longer = set (plan .kinds) j kind
+leaf-shape : (p : Shape) → (leafKind p ≡ noLeaf → ⊥) → p ≡ flat (Leaf (leafKind p))
+unfolding leafKind
+leaf-shape fault h = absurd (h refl)
+leaf-shape (flat i) h = ap flat (inert-leaf i h)
+leaf-shape (struct ys) h = absurd (h refl)
+leaf-shape (exception ys) h = absurd (h refl)
+leaf-shape (union d ms default) h = absurd (h refl)
+leaf-shape (sequence y bound) h = absurd (h refl)
+leaf-shape (array y n) h = absurd (h refl)
+leaf-shape (alias y) h = absurd (h refl)
 
-        right-one : (other : List ℕ) → getD other j 0 ≡ kind → Right t g other (n - (j + 1)) (j + 1) next → Right t g other (n - j) j i
-        unfolding Right
-        right-one other e r =
-            let z : n - j ≡ suc (n - (j + 1)) = omega arith in
-            subst (λ (c : ℕ). Right t g other c j i) (sym z)
-            (subst (λ (a : Spot). onMember a (λ q o. (inside t q ≡ Leaf (getD other j 0)) × Right t g other (n - (j + 1)) (j + 1) o)) (sym at)
-            (is ∙ ap Leaf (sym e), r))
+module _ (t : Checked) where
+  -- a member that a plan can hold, and those after it
+  plannable-more : (n : ℕ) (y : Inner) (ys : List Inner) → plannable t (suc n) (y ∷ ys) ≡ true
+      → (leafKind (t .look y) ≡ noLeaf → ⊥) × (plannable t n ys ≡ true)
+  unfolding plannable
+  plannable-more n y ys e =
+      by-test (eqb (leafKind (t .look y)) noLeaf)
+      (λ a. absurd (false≢true (rw a at e)))
+      (λ a. ((λ z. absurd (false≢true (sym a ∙ eq-eqb (leafKind (t .look y)) noLeaf z))), rw a at e))
 
-        pub planning-more : (r : Plan) → r .kinds ≡ longer → r .count ≡ plan .count → Planning n (j + 1) first next r
-        planning-more r e c =
-            let long = on .long in
-            record {
-              few = omega arith;
-              long = ap (λ (l : List ℕ). length l) e ∙ length-set (plan .kinds) j kind ∙ long;
-              all = c ∙ on .all;
-              rest = λ other same right.
-                  let like : (h : ℕ) → h < j + 1 → getD other h 0 ≡ getD longer h 0 = λ h less. same h less ∙ ap (λ (l : List ℕ). getD l h 0) e in
-                  on .rest other (λ h less. like h (omega arith) ∙ getD-set-other (plan .kinds) j h kind 0 (λ z. omega arith))
-                  (right-one other (like j (omega arith) ∙ getD-set-same (plan .kinds) j kind 0 (omega arith)) right);
-            }
+  plannable-all : (n : ℕ) (ys : List Inner) → plannable t n ys ≡ true → n ≡ length ys
+  unfolding plannable
+  plannable-all zero [] e = refl
+  plannable-all zero (y ∷ ys) e = absurd (false≢true e)
+  plannable-all (suc n) [] e = absurd (false≢true e)
+  plannable-all (suc n) (y ∷ ys) e = ap suc (plannable-all n ys (plannable-more n y ys e .1))
+
+  -- what is laid later leaves what is laid
+  laid-before : (kinds : List ℕ) (j : ℕ) (ys : List Inner) (h : ℕ) → h < j → getD (laid t kinds j ys) h 0 ≡ getD kinds h 0
+  unfolding laid
+  laid-before kinds j [] h less = refl
+  laid-before kinds j (y ∷ ys) h less =
+      laid-before (set kinds j (leafKind (t .look y))) (j + 1) ys h (omega arith)
+      ∙ getD-set-other kinds j h (leafKind (t .look y)) 0 (λ z. omega arith)
+
+  laid-right : (n : ℕ) (kinds : List ℕ) (j : ℕ) (ys : List Inner) → plannable t n ys ≡ true → j + length ys ≤ length kinds
+      → Right t (laid t kinds j ys) j ys
+  unfolding laid Right
+  laid-right n kinds j [] e h = tt
+  laid-right zero kinds j (y ∷ ys) e h = let z = plannable-all zero (y ∷ ys) e in absurd (omega arith)
+  laid-right (suc n) kinds j (y ∷ ys) e h =
+      let more = plannable-more n y ys e in
+      let kind : ℕ = leafKind (t .look y) in
+      let long = length-set kinds j kind in
+      (leaf-shape (t .look y) (more .0)
+      ∙ ap (λ (i : ℕ). flat (Leaf i)) (sym (laid-before (set kinds j kind) (j + 1) ys j (omega arith) ∙ getD-set-same kinds j kind 0 (omega arith))),
+      laid-right n (set kinds j kind) (j + 1) ys (more .1) (omega arith))
+
+  pub plan-fits : (left count : ℕ) (ys : List Inner) → planOf t left count ys .found ≡ true → Fits t left ys (planOf t left count ys)
+  unfolding planOf choose
+  plan-fits left count ys found =
+      by-test (leb count mostMembers && (leb 2 left && plannable t count ys))
+      (λ e.
+          let a = and-true (leb count mostMembers) (leb 2 left && plannable t count ys) e in
+          let b = and-true (leb 2 left) (plannable t count ys) (a .1) in
+          let few = leb-true count mostMembers (a .0) in
+          let all = plannable-all count ys (b .1) in
+          let long = length-replicate {A = ℕ} mostMembers 0 in
+          rw e (record {
+            levels = leb-true 2 left (b .0);
+            right = laid-right count (replicate mostMembers 0) 0 ys (b .1) (omega arith);
+            whole = all;
+          }))
+      (λ e. absurd (false≢true (rw e at found)))
+
+-- ---- a plan in the making, of members that are listed in an encapsulation
+
+module _ (t : Checked) (v : List ℕ) (b : Place) (order : Order) (count : ℕ) where
+  abbrev listed : ℕ → Index → List Inner
+  listed m i = typesOf (membersFrom NoLabels v b order m i)
+
+  -- what m members from an index on give, the first of them the j-th, with the kinds before it laid
+  abbrev pub makes : ℕ → ℕ × Index × List ℕ → Plan
+  makes m s = choose (plannable t m (listed m (s .1))) (λ _. planFound (laid t (s .2) (s .0) (listed m (s .1))) count) (λ _. noPlan)
+
+  module _ (j : ℕ) (i : Index) (kinds : List ℕ) where
+    pub make-end : makes 0 (j, i, kinds) ≡ planFound kinds count
+    unfolding membersFrom typesOf plannable laid choose
+    make-end = refl
+
+    pub make-cut : memberAt NoLabels v b i order ≡ Nowhere → (m : ℕ) → makes (suc m) (j, i, kinds) ≡ noPlan
+    unfolding typesOf plannable choose
+    make-cut e m = rw (members-cut NoLabels v b order i e m)
+
+    module _ (y : Inner) (next : Index) (at : memberAt NoLabels v b i order ≡ At y next) (kind : ℕ) (is : kind ≡ leafKind (t .look y)) where
+      pub make-none : kind ≡ noLeaf → (m : ℕ) → makes (suc m) (j, i, kinds) ≡ noPlan
+      unfolding typesOf plannable choose
+      make-none e m = rw (members-more NoLabels v b order i y next at m, ← is, eq-eqb kind noLeaf e)
+
+      pub make-more : (kind ≡ noLeaf → ⊥) → (m : ℕ) → makes (suc m) (j, i, kinds) ≡ makes m (j + 1, next, set kinds j kind)
+      unfolding typesOf plannable laid
+      make-more e m =
+          let one : makes (suc m) (j, i, kinds) ≡ makes m (j + 1, next, set kinds j (leafKind (t .look y))) =
+          rw (members-more NoLabels v b order i y next at m, ne-eqb (leafKind (t .look y)) noLeaf (λ z. e (is ∙ z))) in
+          one ∙ ap (λ (h : ℕ). makes m (j + 1, next, set kinds j h)) (sym is)
+
+-- a plan that is found, by its parts
+pub plan-is : (p : Plan) (n : ℕ) → p .found ≡ true → p .count ≡ n → p ≡ planFound (p .kinds) n
+plan-is p n f c =
+    ap (λ (b : Bool). record { found = b; kinds = p .kinds; count = p .count }) f ∙ ap (λ (i : ℕ). planFound (p .kinds) i) c
+
+module _ (t : Checked) (left count : ℕ) (ys : List Inner) where
+  pub plan-many : mostMembers < count → noPlan ≡ planOf t left count ys
+  unfolding planOf choose
+  plan-many h = rw (lt-leb count mostMembers h)
+
+  pub plan-deep : left < 2 → noPlan ≡ planOf t left count ys
+  unfolding planOf choose
+  plan-deep h = by-test (leb count mostMembers) (λ a. rw (a, lt-leb 2 left h)) (λ a. rw a)
+
+  pub plan-made : count ≤ mostMembers → 2 ≤ left
+      → choose (plannable t count ys) (λ _. planFound (laid t (replicate mostMembers 0) 0 ys) count) (λ _. noPlan) ≡ planOf t left count ys
+  unfolding planOf
+  plan-made h l = rw (le-leb count mostMembers h, le-leb 2 left l)
 
 -- j of n members of a plan are read from s₀ on, and s is the state
 module _ (k : Sink Lent) (x : Source) (kinds : List ℕ) where

@@ -1,28 +1,31 @@
 -- A plan of a struct whose members are all kinds without parameters, which is read without its type.
---   leafStep     a visit of a kind without parameters
---   planSteps    n members of a plan from the j-th on, each a visit
---   planVisit    a visit of a struct that has a plan
---   FlatDone     a visit is done where it enters nothing, else nothing is done
---   onMember     what is asked of a member that is there
---   Right        n members from an index on have the kinds of a plan from the j-th on
---   Fits         a plan is a struct's, and there are levels for the struct and its members
+--   leafStep      a visit of a kind without parameters
+--   planSteps     n members of a plan from the j-th on, each a visit
+--   planVisit     a visit of a struct that has a plan
+--   mostMembers   the most members of a plan
+--   noLeaf        what stands for a kind that a plan cannot hold: one with parameters, or one that is no octet below this
+--   inertKind     the kind of what holds no other
+--   leafKind      the kind of a shape
+--   plannable     members are n, and all are kinds without parameters
+--   laid          the kinds of members, laid into a list from the j-th place on
+--   planFound     a plan of these kinds; `noPlan` none
+--   planOf        the plan of a struct of so many members, of which those that are there have these types, with so many levels left
+--   Right         members have the kinds of a plan from the j-th on
+--   Fits          a plan is a struct's, and there are levels for the struct and its members
 use Prim.Native.Nat.{ℕ, zero, suc, _+_, _≤_}
 use mathlib.Core.Path.{_≡_}
-use mathlib.Core.List.{List}
-use mathlib.Core.Bool.{Bool, true, false}
-use lib.ListN.{getD}
-use Rattle.cdr.specs.declared.Index.{Index}
-use Rattle.cdr.specs.declared.Place.{Place}
-use Rattle.kinds.specs.declared.Labels.the-variants.{NoLabels}
-use Rattle.kinds.specs.declared.Fields.{Fields}
-use Rattle.kinds.specs.declared.Spot.{Spot}
-use Rattle.kinds.specs.declared.Spot.the-variants.{At, Nowhere}
-use Rattle.kinds.specs.declared.Parameters.{Parameters}
-use Rattle.kinds.specs.declared.Parameters.the-variants.{Leaf}
-use Rattle.kinds.specs.Parts.{memberAt}
+use mathlib.Core.List.{List, [], _∷_}
+use mathlib.Core.Bool.{Bool, true, false, cond, _&&_}
+use lib.Dec.{eqb, ltb, leb}
+use lib.ListN.{length, getD, set, replicate}
+use Rattle.choices.specs.Branch.{choose}
+use Rattle.kinds.specs.declared.Inner.{Inner}
+use Rattle.kinds.specs.declared.Inert.{Inert}
+use Rattle.kinds.specs.declared.Inert.the-variants.{Leaf, Text, Objref, Enum}
+use Rattle.met.specs.Shapes.{Shape}
+use Rattle.met.specs.Shapes.Shape.{fault, flat, struct, exception, union, sequence, array, alias}
 use Rattle.reading.specs.Sinks.{Source, Sink, St, after, begun}
-use Rattle.reading.specs.Visit.{Checked, inside, leafAt}
-use Rattle.reading.specs.Reading.{reads}
+use Rattle.reading.specs.Visit.{Checked, leafAt}
 use Rattle.leaves.specs.declared.Mode.{Mode}
 use Rattle.leaves.specs.Lent.{Lent}
 use Rattle.leaves.specs.Walk.{sinkOf, sourceOf}
@@ -39,21 +42,55 @@ module _ {A : Type 0} (k : Sink A) (x : Source) where
 abbrev pub planVisit : Mode → List ℕ → Plan → St Lent → St Lent
 planVisit m v plan s = planSteps (sinkOf m) (sourceOf m v) (plan .kinds) 0 (plan .count) (begun (sinkOf m) s)
 
-abbrev pub FlatDone : Mode → List ℕ → Parameters → ℕ → St Lent → Bool → St Lent → Type 0
-FlatDone m v e left s false r = (t : Checked) → r ≡ reads (sinkOf m) (sourceOf m v) t left e s
-FlatDone m v e left s true r = r ≡ s
+abbrev pub mostMembers : ℕ
+mostMembers = 16
 
-abbrev pub onMember : Spot → (Place → Index → Type 0) → Type 0
-onMember (At p next) f = f p next
-onMember Nowhere f = ⊥
+abbrev pub noLeaf : ℕ
+noLeaf = 255
 
-unfoldable pub Right : Checked → Fields → List ℕ → ℕ → ℕ → Index → Type 0
-Right t g kinds zero j i = Unit {0}
-Right t g kinds (suc n) j i =
-    onMember (memberAt NoLabels (t .octets) (g .start) i (g .order))
-    (λ p next. (inside t p ≡ Leaf (getD kinds j 0)) × Right t g kinds n (j + 1) next)
+unfoldable pub inertKind : Inert → ℕ
+inertKind (Leaf kind) = cond (ltb kind noLeaf) kind noLeaf
+inertKind (Text bound) = noLeaf
+inertKind Objref = noLeaf
+inertKind (Enum names) = noLeaf
 
-pub record Fits (t : Checked) (g : Fields) (left : ℕ) (plan : Plan) : Type 0 where
+unfoldable pub leafKind : Shape → ℕ
+leafKind fault = noLeaf
+leafKind (flat i) = inertKind i
+leafKind (struct ys) = noLeaf
+leafKind (exception ys) = noLeaf
+leafKind (union d ms default) = noLeaf
+leafKind (sequence y bound) = noLeaf
+leafKind (array y n) = noLeaf
+leafKind (alias y) = noLeaf
+
+unfoldable pub plannable : Checked → ℕ → List Inner → Bool
+plannable t zero [] = true
+plannable t zero (y ∷ ys) = false
+plannable t (suc n) [] = false
+plannable t (suc n) (y ∷ ys) = cond (eqb (leafKind (t .look y)) noLeaf) false (plannable t n ys)
+
+unfoldable pub laid : Checked → List ℕ → ℕ → List Inner → List ℕ
+laid t kinds j [] = kinds
+laid t kinds j (y ∷ ys) = laid t (set kinds j (leafKind (t .look y))) (j + 1) ys
+
+abbrev pub planFound : List ℕ → ℕ → Plan
+planFound kinds count = record { found = true; kinds = kinds; count = count }
+
+abbrev pub noPlan : Plan
+noPlan = record { found = false; kinds = replicate mostMembers 0; count = 0 }
+
+unfoldable pub planOf : Checked → ℕ → ℕ → List Inner → Plan
+planOf t left count ys =
+    choose (leb count mostMembers && (leb 2 left && plannable t count ys))
+    (λ _. planFound (laid t (replicate mostMembers 0) 0 ys) count)
+    (λ _. noPlan)
+
+unfoldable pub Right : Checked → List ℕ → ℕ → List Inner → Type 0
+Right t kinds j [] = Unit {0}
+Right t kinds j (y ∷ ys) = (t .look y ≡ flat (Leaf (getD kinds j 0))) × Right t kinds (j + 1) ys
+
+pub record Fits (t : Checked) (left : ℕ) (ys : List Inner) (plan : Plan) : Type 0 where
   pub levels : 2 ≤ left
-  pub right : Right t g (plan .kinds) (plan .count) 0 (g .first)
-  pub whole : plan .count ≡ g .count
+  pub right : Right t (plan .kinds) 0 ys
+  pub whole : plan .count ≡ length ys

@@ -1,24 +1,29 @@
-// What a walk over a value needs beside the cycle of its readers: the parameters at a place of the type, visits that enter nothing, and
-// plans of structs whose members are all kinds without parameters. Every function answers for any octets, list of kinds and table.
+// What a walk over a value needs beside the cycle of its readers: visits that enter nothing, and plans of structs whose members are all
+// kinds without parameters. Every function answers for any octets, list of kinds and table.
 ghost use mathlib.Core.Path.{_≡_};
-ghost use mathlib.Core.Bool.{true, false};
+ghost use mathlib.Core.List.{List};
+ghost use mathlib.Core.Bool.{cond};
+ghost use Prim.Native.Nat.{ℕ};
+ghost use lib.Dec.{ltb};
 ghost use lib.ListN.{getD};
-ghost use Rattle.kinds.specs.declared.Parameters.the-variants.{Leaf};
-ghost use Rattle.met.specs.Met.{orderIn};
+ghost use Rattle.kinds.specs.declared.Labels.the-variants.{NoLabels};
+ghost use Rattle.kinds.specs.Members.{membersOf, typesOf};
+ghost use Rattle.kinds.specs.declared.Kind.{Kind};
+ghost use Rattle.met.specs.Arrays.{kindsMet};
+ghost use Rattle.met.specs.Shapes.{Shape, shapeOf};
 ghost use Rattle.reading.specs.Sinks.{repeats};
-ghost use Rattle.reading.specs.Visit.{checked, inside};
+ghost use Rattle.reading.specs.Visit.{Checked, checked};
+ghost use Rattle.reading.specs.Reading.{reads};
 ghost use Rattle.leaves.specs.Walk.{sinkOf, sourceOf, stateOf};
-ghost use Rattle.plans.specs.Plans.{FlatDone, Fits, planSteps, planVisit};
-use cdr::Order;
-use cdr::Place;
+ghost use Rattle.plans.specs.Plans.{planSteps, planVisit, noLeaf, inertKind, leafKind, noPlan, planOf};
 use kinds::Fields;
+use kinds::Inert;
 use kinds::Labels;
 use kinds::Parameters;
 use kinds::Spot;
 use leaves::Cursor;
 use leaves::Mode;
 use met::Met;
-use met::Position;
 
 // A struct whose members are all kinds without parameters: the kinds of its members, and their number; or that there is none.
 pub struct Plan {
@@ -30,92 +35,22 @@ pub struct Plan {
 // The most members of a plan.
 const MEMBERS: u64 = 16;
 
-// What stands for a kind with parameters.
+// What stands for a kind that a plan cannot hold.
 const NO_LEAF: u8 = 255;
 
-// The order that an entry of the list says.
-fn order_in(octet: u8) -> Order
-    ensures { λ r. ⌜ r ≡ orderIn octet ⌝ }
-{
-    if octet == 1 {
-        Order::Little
-    } else {
-        Order::Big
-    }
-}
-
-// The parameters of the kind at a place of the type, wherever that is.
-fn anywhere(t: &[u8], met: Met, place: Place) -> Parameters
-    ensures { λ r. ⌜ r ≡ inside (checked (now (t .entry)) met) place ⌝ }
-{
-    match met.position(place) {
-        Position::Is(j) => met::parameters_of(t, met, j),
-        Position::NoPosition => Parameters::Fault,
-    }
-}
-
-// The parameters of the kind at a place of the type. The lists are indexed here, since a function would copy them for each entry.
-pub fn within(t: &[u8], met: Met, place: Place) -> Parameters
-    ensures { λ r. ⌜ r ≡ inside (checked (now (t .entry)) met) place ⌝ }
-{
-    let n = met.count;
-    if met::KINDS_LIMIT < n {
-        return anywhere(t, met, place);
-    }
-    let mut i: usize = 0;
-    while i < n {
-        if met.places[i] as usize == place.0 {
-            let start = Place(met.starts[i] as usize);
-            return kinds::parameters_at(t, start, order_in(met.orders[i]), place);
-        }
-        i += 1;
-    }
-    anywhere(t, met, place)
-}
-
-// The cursor after a visit that enters nothing, or before one that enters something.
-pub struct Flat {
-    pub enters: bool,
-    pub cursor: Cursor,
-}
-
 // A visit that enters nothing, with so many levels left.
-pub fn flat_visit(v: &[u8], m: Mode, table: &mut [u64], e: Parameters, left: u32, c: Cursor) -> Flat
-    ensures { λ r. ⌜ FlatDone m (now (v .entry)) e left (stateOf c (now (table .entry))) (r .enters) (stateOf (r .cursor) (now (table .exit))) ⌝ }
+pub fn flat(v: &[u8], m: Mode, table: &mut [u64], inert: Inert, left: u32, c: Cursor) -> Cursor
+    ensures { λ r. ⌜ ((t : Checked) → stateOf r (now (table .exit)) ≡ reads (sinkOf m) (sourceOf m (now (v .entry))) t left (Shape.flat inert) (stateOf c (now (table .entry)))) ⌝ }
 {
     if left == 0 {
-        return Flat {
-            enters: false,
-            cursor: c.refused(refusals::TOO_MANY_OPEN),
-        };
+        return c.refused(refusals::TOO_MANY_OPEN);
     }
-    match e {
-        Parameters::Leaf(kind) => Flat {
-            enters: false,
-            cursor: leaves::leaf(v, m, table, kind, c.visit()),
-        },
-        Parameters::Text(bound) => Flat {
-            enters: false,
-            cursor: leaves::text(v, m, table, bound, c.visit()),
-        },
-        Parameters::Enum(names) => Flat {
-            enters: false,
-            cursor: leaves::enumerated(v, m, table, names, c.visit()),
-        },
-        Parameters::Objref => Flat {
-            enters: false,
-            cursor: leaves::reference(v, m, table, c.visit()),
-        },
-        _ => Flat {
-            enters: true,
-            cursor: c,
-        },
-    }
+    leaves::inert(v, m, table, inert, c.visit())
 }
 
 // No plan.
 fn no_plan() -> Plan
-    ensures { λ r. ⌜ r .found ≡ false ⌝ }
+    ensures { λ r. ⌜ r ≡ noPlan ⌝ }
 {
     Plan {
         found: false,
@@ -126,24 +61,36 @@ fn no_plan() -> Plan
 
 // A kind as an octet.
 fn narrow(kind: u64) -> u8
-    ensures { λ r. ⌜ ((r ≡ 255 → ⊥) → r ≡ kind) ⌝ }
+    ensures { λ r. ⌜ r ≡ cond (ltb kind noLeaf) kind noLeaf ⌝ }
 {
     if kind < 255 { kind as u8 } else { NO_LEAF }
 }
 
+// The kind of what holds no other.
+fn inert_kind(inert: Inert) -> u8
+    ensures { λ r. ⌜ r ≡ inertKind inert ⌝ }
+{
+    match inert {
+        Inert::Leaf(kind) => narrow(kind),
+        Inert::Text(_) => NO_LEAF,
+        Inert::Objref => NO_LEAF,
+        Inert::Enum(_) => NO_LEAF,
+    }
+}
+
 // The kind of a member that has no parameters.
 fn leaf_of(e: Parameters) -> u8
-    ensures { λ r. ⌜ ((r ≡ 255 → ⊥) → e ≡ Leaf r) ⌝ }
+    ensures { λ r. ⌜ ((v : List ℕ) (ks : List Kind) → r ≡ leafKind (shapeOf v ks e)) ⌝ }
 {
     match e {
-        Parameters::Leaf(kind) => narrow(kind),
+        Parameters::Flat(inert) => inert_kind(inert),
         _ => NO_LEAF,
     }
 }
 
 // The plan of a struct, if it has one and there are levels for it.
 pub fn plan_of(t: &[u8], met: Met, fields: Fields, left: u32) -> Plan
-    ensures { λ r. ⌜ (r .found ≡ true → Fits (checked (now (t .entry)) met) fields left r) ⌝ }
+    ensures { λ r. ⌜ r ≡ planOf (checked (now (t .entry)) (kindsMet met)) left (fields .count) (typesOf (membersOf NoLabels (now (t .entry)) fields)) ⌝ }
 {
     let start = fields.start;
     let order = fields.order;
@@ -162,11 +109,11 @@ pub fn plan_of(t: &[u8], met: Met, fields: Fields, left: u32) -> Plan
     };
     let mut k: u64 = 0;
     while k < count {
-        let Spot::At { place, next } = kinds::member_at(Labels::NoLabels, t, start, at, order)
+        let Spot::At { inner, next } = kinds::member_at(Labels::NoLabels, t, start, at, order)
         else {
             return no_plan();
         };
-        let kind = leaf_of(within(t, met, place));
+        let kind = leaf_of(met::inside_of(t, met, inner));
         if kind == NO_LEAF {
             return no_plan();
         }

@@ -67,8 +67,8 @@ module _ (t : List ℕ) (order : Order) (x : Source) (to : Target) where
       let l = ltb-false octetsLimit (length (x .octets)) (neither (ltb octetsLimit (length t)) (ltb octetsLimit (length (x .octets))) h .1) in
       omega (
         arith,
-        written-near anyRoom x (checked t (checkedType t order .met)) to,
-        used-bound anyRoom x t order kinds (checkedType t order .met) (accepted-as t order used kinds q),
+        written-near anyRoom x (checked t (checkedType t order .kinds)) to,
+        used-bound anyRoom x t order kinds (checkedType t order .kinds) (accepted-as t order used kinds q),
       )
 
   type-same : (room : ℕ) → overlong t x ≡ false → (a : TypeAnswer) → checkedType t order .answer ≡ a

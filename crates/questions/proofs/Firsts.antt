@@ -43,7 +43,7 @@ items-few : (q : Question) → length (itemsIn q) ≤ mostItems
 unfolding readingOf
 items-few (typeIn order v) = omega arith
 items-few (valueIn order t x room) =
-    given-few (valueAnswer t order x (roomOf room)) _ mostItems (omega (arith, room-kept (roomOf room) x (checked t (checkedType t order .met))))
+    given-few (valueAnswer t order x (roomOf room)) _ mostItems (omega (arith, room-kept (roomOf room) x (checked t (checkedType t order .kinds))))
 items-few (itemIn order t x number) = omega arith
 items-few (rewriteIn order t x to room) = omega arith
 items-few (profileIn v) = omega arith
@@ -66,30 +66,31 @@ answer-most line =
     omega (arith, text-most (replyTo q) (itemsIn q) (octetsIn q) mostItems (items-few q) (omega (arith, octets-within q)))
 
 -- what a question is answered, with its items in the table and its octets in the memory
-abbrev Answered : Question → Reply → List ℕ → List ℕ → Type 0
-Answered q r table memory = Replied q r table × Held q r memory
+abbrev Answered : Question → List ℕ → Reply → List ℕ → List ℕ → Type 0
+Answered q before r table memory = Replied q before r table × Held q r memory
 
-bare-answered : (q : Question) (r : Reply) (table memory : List ℕ) → NoItems q × NoOctets q → r ≡ replyTo q → Answered q r table memory
+bare-answered : (q : Question) (r : Reply) (table memory : List ℕ) → NoItems q × NoOctets q → r ≡ replyTo q → Answered q table r table memory
 bare-answered q r table memory n e = (replied-none q r e (n .0) table, held-none q r e (n .1) memory)
 
-pub replied-text : (line : List ℕ) (r : Reply) (table memory : List ℕ) → Replied (questionOf line) r table → Held (questionOf line) r memory
+pub replied-text : (line before : List ℕ) (r : Reply) (table memory : List ℕ) → Replied (questionOf line) before r table → Held (questionOf line) r memory
     → replyText r (itemsOf (take (numbersOf r) table)) (take (octetsOf r) memory) ≡ answerLine line
 unfolding answerLine
-replied-text line r table memory p h = rw (p .items, h .octets, p .reply)
+replied-text line before r table memory p h = rw (p .items, h .octets, p .reply)
 
 -- the first word of a line, and those behind it
 module _ (word : List ℕ) (ws : List (List ℕ)) (r : Reply) (table memory : List ℕ) where
   abbrev Done : Type 0
-  Done = Answered (wordQuestion word ws) r table memory
+  Done = Answered (wordQuestion word ws) table r table memory
 
   pub word-type : true ≡ sameWord word typeWord → r ≡ replyTo (typeQuestion ws) → Done
   unfolding wordQuestion choose
   word-type e a = rw (← e) (bare-answered (typeQuestion ws) r table memory (type-bare ws) a)
 
   module _ (t : false ≡ sameWord word typeWord) where
-    pub word-value : true ≡ sameWord word valueWord → Replied (aboutQuestion valueIn (fieldsOf ws)) r table → Done
+    pub word-value : true ≡ sameWord word valueWord → (before : List ℕ) → Replied (aboutQuestion valueIn (fieldsOf ws)) before r table
+        → Answered (wordQuestion word ws) before r table memory
     unfolding wordQuestion choose
-    word-value e a =
+    word-value e before a =
         rw (← t, ← e) (a, held-none (aboutQuestion valueIn (fieldsOf ws)) r (a .reply) (value-no-octets (fieldsOf ws)) memory)
 
     module _ (v : false ≡ sameWord word valueWord) where
@@ -133,23 +134,23 @@ word-alone word =
 
 -- a line
 module _ (line : List ℕ) (r : Reply) (table memory : List ℕ) where
-  asks : (q : Question) → questionOf line ≡ q → Answered q r table memory → Answered (questionOf line) r table memory
-  asks q e a = rw e a
+  asks : (q : Question) (before : List ℕ) → questionOf line ≡ q → Answered q before r table memory → Answered (questionOf line) before r table memory
+  asks q before e a = rw e a
 
-  no-question : questionOf line ≡ noQuestion → r ≡ NoQuestion → Answered (questionOf line) r table memory
-  no-question e n = asks noQuestion e (bare-answered noQuestion r table memory (tt, tt) n)
+  no-question : questionOf line ≡ noQuestion → r ≡ NoQuestion → Answered (questionOf line) table r table memory
+  no-question e n = asks noQuestion table e (bare-answered noQuestion r table memory (tt, tt) n)
 
-  pub line-over : lineMost < length line → r ≡ NoQuestion → Answered (questionOf line) r table memory
+  pub line-over : lineMost < length line → r ≡ NoQuestion → Answered (questionOf line) table r table memory
   unfolding questionOf choose
   line-over h = no-question (rw (lt-ltb lineMost (length line) h))
 
   module _ (l : length line ≤ lineMost) (end : ℕ) (f : FirstWord line end) where
-    pub line-alone : length line ≤ end → r ≡ NoQuestion → Answered (questionOf line) r table memory
+    pub line-alone : length line ≤ end → r ≡ NoQuestion → Answered (questionOf line) table r table memory
     unfolding questionOf choose
     line-alone h = no-question (rw (le-ltb lineMost (length line) l, f .only h) (word-alone line))
 
-    pub line-words : end < length line
-        → Answered (wordQuestion (take end line) (words (take (length line - (end + 1)) (drop (end + 1) line)))) r table memory
-        → Answered (questionOf line) r table memory
+    pub line-words : end < length line → (before : List ℕ)
+        → Answered (wordQuestion (take end line) (words (take (length line - (end + 1)) (drop (end + 1) line)))) before r table memory
+        → Answered (questionOf line) before r table memory
     unfolding questionOf choose
-    line-words h a = asks _ (rw (part-all line (end + 1), le-ltb lineMost (length line) l, f .more h)) a
+    line-words h before a = asks _ before (rw (part-all line (end + 1), le-ltb lineMost (length line) l, f .more h)) a

@@ -18,7 +18,7 @@ unfolding linesFrom answersOf
 none-left begun e = rw e
 
 pub calls-text : (kept : ℕ) (line input text : List ℕ) → Calls kept line input text → text ≡ answersAfter kept line input
-calls-text kept line input _ (next _ _ out _ block table from rest r lineLast outLast text e b c) =
+calls-text kept line input _ (next _ _ out table _ block from rest r lineLast outLast tableLast text e b c) =
     ap (λ (t : List ℕ). take (r .filled) outLast ++ t) (calls-text (r .kept) lineLast _ text c)
     ∙ sym (b .answered rest) ∙ ap (answersAfter kept line) (sym e)
 calls-text kept line _ text (ended _ _ c rest _ e d) =

@@ -1,11 +1,11 @@
 -- Questions about a value or a component: their words read, and the items of a value left in the table.
 use mathlib.Core.Path.{_≡_, refl, sym, ap, _∙_}
-use mathlib.Core.List.{List, [], _∷_, _++_}
-use Prim.Native.Nat.{ℕ, _*_, _/_, _≤_}
+use mathlib.Core.List.{List, [], _∷_, _++_, append-assoc}
+use Prim.Native.Nat.{ℕ, _+_, _*_, _/_, _≤_}
 use native.Mathlib.Omega.{arith}
 use lib.Dec.{eqb}
-use lib.ListN.{length, take, drop, length-append, length-drop, length-take}
-use lib.Seq.{sets, length-sets, length-take-le, take-append-le}
+use lib.ListN.{length, take, drop, length-append, length-drop, length-take, take-append-drop}
+use lib.Seq.{sets, sets-eq, length-sets, length-take-le, take-append-le, drop-append-le}
 use Rattle.choices.proofs.Choices.{by-test, clash}
 use Rattle.choices.specs.Branch.{choose}
 use Rattle.cdr.specs.declared.Order.{Order}
@@ -44,6 +44,7 @@ use Rattle.questions.specs.declared.about.About.the-variants.{Is, NotAbo
 use Rattle.questions.specs.Octets.{octetsWord}
 use Rattle.questions.specs.Questions.{Question, valueIn, rewriteIn, componentIn, noQuestion, octetsQuestion, aboutOf, onAbout, aboutQuestion, rewriteQuestion, componentQuestion}
 use Rattle.questions.specs.Replies.{roomOf}
+use Rattle.questions.specs.Blocks.{tableFor}
 use Rattle.questions.specs.Inner.{OctetsRead, AboutRead, Replied}
 
 -- the words of a value are within the line,
@@ -147,7 +148,7 @@ module _ (t : List ℕ) (order : Order) (x : Source) (room : ℕ) where
 
   items-kept : length items ≤ room
   unfolding readingOf
-  items-kept = room-kept room x (checked t (checkedType t order .met))
+  items-kept = room-kept room x (checked t (checkedType t order .kinds))
 
   items-count : (used n visits : ℕ) → valueAnswer t order x room ≡ Accepted used n visits → n ≡ length items
   unfolding valueAnswer choose
@@ -155,6 +156,16 @@ module _ (t : List ℕ) (order : Order) (x : Source) (room : ℕ) where
       by-test (overlong t x)
       (λ o. let f = rw o at e in clash cc)
       (λ o. type-count (readingOf (roomFor room) t order x) used n visits (checkedType t order .answer) (rw o at e))
+
+-- what is stored at the start of a part stands at the start of the whole
+stored-front : (xs l : List ℕ) (k : ℕ) → length xs ≤ k → k ≤ length l → sets (take k l) 0 xs ++ drop k l ≡ sets l 0 xs
+stored-front xs l k h g =
+    let n = length-take-le k l g in
+    ap (λ (a : List ℕ). a ++ drop k l) (sets-eq xs (take k l) 0 (omega arith))
+    ∙ append-assoc xs (drop (0 + length xs) (take k l)) (drop k l)
+    ∙ ap (λ (a : List ℕ). xs ++ a)
+    (sym (drop-append-le (0 + length xs) (take k l) (drop k l) (omega arith)) ∙ ap (drop (0 + length xs)) (take-append-drop k l))
+    ∙ sym (sets-eq xs l 0 (omega arith))
 
 -- the items of a value stand at the table's start
 module _ (t : List ℕ) (order : Order) (x : Source) (room : ℕ) (table : List ℕ) (m : ℕ) (k : m ≡ roomOf room) (h : m * 3 ≤ length table) where
@@ -171,9 +182,17 @@ module _ (t : List ℕ) (order : Order) (x : Source) (room : ℕ) (table : List 
     answered : a ≡ valueAnswer t order x (roomOf room)
     answered = rw lent-room at e
 
-    pub value-refused : (number visits : ℕ) → a ≡ Refused number visits → (after : List ℕ) → Replied (valueIn order t x room) (Unread number visits) after
-    unfolding itemsOf
-    value-refused number visits g after = record { reply = rw (← answered, g); items = rw (← answered, g); within = omega arith }
+    pub value-refused : (number visits : ℕ) → a ≡ Refused number visits → (last : List ℕ) → last ≡ tableAfter t order x lent
+        → Replied (valueIn order t x room) table (Unread number visits) (last ++ drop (m * 3) table)
+    unfolding itemsOf tableAfter tableFor flat
+    value-refused number visits g last f =
+        let same : last ≡ lent = f ∙ rw (lent-room, ← answered, g) in
+        record {
+          reply = rw (← answered, g);
+          items = rw (← answered, g);
+          within = omega arith;
+          filled = rw (← answered, g) (ap (λ (l : List ℕ). l ++ drop (m * 3) table) same ∙ take-append-drop (m * 3) table);
+        }
 
     module _ (used n visits : ℕ) (g : a ≡ Accepted used n visits) (last : List ℕ) (f : last ≡ tableAfter t order x lent) where
       count-is : n ≡ length (items t order x (roomOf room))
@@ -186,7 +205,8 @@ module _ (t : List ℕ) (order : Order) (x : Source) (room : ℕ) (table : List 
       unfolding tableAfter
       last-is = f ∙ rw (lent-room, ← answered, g)
 
-      pub value-accepted : Replied (valueIn order t x room) (Read used visits n) (last ++ drop (m * 3) table)
+      pub value-accepted : Replied (valueIn order t x room) table (Read used visits n) (last ++ drop (m * 3) table)
+      unfolding tableFor
       value-accepted =
           let l : length last ≡ length lent = ap length last-is ∙ length-sets lent 0 (flat (items t order x (roomOf room))) in
           let c = count-fits in
@@ -199,4 +219,8 @@ module _ (t : List ℕ) (order : Order) (x : Source) (room : ℕ) (table : List 
                 ∙ take-written lent (flat (items t order x (roomOf room))) (n * 3) (omega (arith, count-is, flat-length (items t order x (roomOf room)))) count-fits)
                 ∙ items-flat (items t order x (roomOf room)));
             within = rw length-append (omega arith);
+            filled = rw (← answered, g)
+                (ap (λ (l : List ℕ). l ++ drop (m * 3) table) last-is
+                ∙ stored-front (flat (items t order x (roomOf room))) table (m * 3)
+                (omega (arith, k, flat-length (items t order x (roomOf room)), items-kept t order x (roomOf room))) h);
           }

@@ -2,11 +2,11 @@
 use mathlib.Core.Path.{_≡_, refl, sym, ap, _∙_}
 use mathlib.Core.Bool.{true, false}
 use mathlib.Core.List.{List, _++_, append-assoc}
-use Prim.Native.Nat.{ℕ, _+_, _-_, _<_, _≤_, min}
+use Prim.Native.Nat.{ℕ, _+_, _-_, _<_, _≤_}
 use native.Mathlib.Omega.{arith}
 use lib.Dec.{ltb}
 use lib.ListN.{length, take, drop}
-use lib.Seq.{length-sets, drop-drop, drop-length, take-take}
+use lib.Seq.{length-sets, drop-length, take-take}
 use borrow.Author.Tests.{ltb-true, ltb-false}
 use Rattle.choices.proofs.Choices.{by-test}
 use Rattle.lines.specs.declared.Taken.{Taken}
@@ -18,56 +18,17 @@ use Rattle.writing.specs.Write.{Stored}
 use Rattle.writing.proofs.Stores.{take-stored, drop-stored}
 use Rattle.decimals.proofs.Puts.{put-upto, put-always}
 use Rattle.questions.specs.declared.Progress.{Progress}
+use Rattle.questions.specs.Questions.{questionOf}
 use Rattle.questions.specs.Replies.{answerLine}
-use Rattle.questions.specs.Blocks.{answersOf, answersAfter, BlockAnswered}
-use Rattle.questions.specs.Turns.{Goes, Onto}
+use Rattle.questions.specs.Blocks.{tableFor, Work, blockFrom, workOf, blockStart, blockOf, answersOf, answersAfter, BlockAnswered}
+use Rattle.questions.specs.Turns.{Goes, Onto, Turned}
 use Rattle.questions.proofs.Firsts.{answer-most}
 use Rattle.questions.proofs.Cuts.{answer-same, begun-cut}
-
-pub onto-self : (block : List ℕ) (a : Progress) (line out : List ℕ) → Onto block a line out a line out
-onto-self block a line out =
-    record {
-      answered = λ rest. refl;
-      sized = refl;
-      lined = refl;
-      within = λ h. h;
-      unfilled = refl;
-      more = omega arith;
-      further = omega arith;
-      moved = λ h. absurd (omega arith);
-      inside = λ h. h;
-    }
-
-drop-same : (a b : List ℕ) (m n : ℕ) → m ≤ n → drop m a ≡ drop m b → drop n a ≡ drop n b
-drop-same a b m n h e =
-    let s : m + (n - m) ≡ n = omega arith in
-    ap (λ (k : ℕ). drop k a) (sym s) ∙ sym (drop-drop (n - m) m a) ∙ ap (drop (n - m)) e ∙ drop-drop (n - m) m b ∙ ap (λ (k : ℕ). drop k b) s
-
-pub onto-then : {block : List ℕ} {a : Progress} {line out : List ℕ} {b : Progress} {lineThen outThen : List ℕ} {c : Progress} {lineLast outLast : List ℕ}
-    → Onto block a line out b lineThen outThen → Onto block b lineThen outThen c lineLast outLast → Onto block a line out c lineLast outLast
-onto-then {block} {a} {line} {out} {b} {lineThen} {outThen} {c} p q =
-    let m = p .more in
-    let n = q .more in
-    let f = p .further in
-    let g = q .further in
-    record {
-      answered = λ rest. p .answered rest ∙ q .answered rest;
-      sized = q .sized ∙ p .sized;
-      lined = q .lined ∙ p .lined;
-      within = λ h. omega (arith, p .sized, q .within (omega (arith, p .sized, p .within h)));
-      unfilled = q .unfilled ∙ drop-same outThen out (b .filled) (c .filled) (q .more) (p .unfilled);
-      more = omega arith;
-      further = omega arith;
-      moved = λ h.
-          by-test (ltb (a .filled) (b .filled))
-          (λ e. omega (arith, p .moved (ltb-true _ _ e)))
-          (λ e. let l = ltb-false (a .filled) (b .filled) e in omega (arith, q .moved (omega arith)));
-      inside = λ h. q .inside (p .inside h);
-    }
+use Rattle.questions.proofs.Blocks.{begun-is, answered-is, Going, going-done}
 
 -- a turn
-module _ (block : List ℕ) (at : Progress) (line out : List ℕ) (table : ℕ) (g : Goes (length block) (length line) (length out) table at) (t : Taken) (l : List ℕ)
-    (k : LineTaken block (at .next) line (at .kept) t l)
+module _ (block : List ℕ) (at : Progress) (line out table : List ℕ) (g : Goes (length block) (length line) (length out) (length table) at)
+    (t : Taken) (l : List ℕ) (k : LineTaken block (at .next) line (at .kept) t l)
   where
     abbrev taken : Taken
     taken = takenOf block (at .next) (length line) (at .kept)
@@ -104,7 +65,7 @@ module _ (block : List ℕ) (at : Progress) (line out : List ℕ) (table : ℕ) 
     ended-is : t .ended ≡ taken .ended
     ended-is = ap (λ (x : Taken). x .ended) (k .answered)
 
-    pub on : at .next < t .next
+    on : at .next < t .next
     on = rw next-is (next-more block (at .next) (length line) (at .kept) (g .more))
 
     most : t .next ≤ length block
@@ -115,8 +76,11 @@ module _ (block : List ℕ) (at : Progress) (line out : List ℕ) (table : ℕ) 
         answer-same (length kept) enough whole (take (t .kept) l)
         (sym (take-take (length kept) (length kept) whole (omega arith)) ∙ ap (take (length kept)) (sym held ∙ sym taken-held))
 
-    pub turn-begun : t .ended ≡ false → Onto block at line out (record { kept = t .kept; next = t .next; filled = at .filled }) l out
-    turn-begun e =
+    abbrev before : Work
+    before = workOf at line out table
+
+    onto-begun : t .ended ≡ false → Onto block at line out (record { kept = t .kept; next = t .next; filled = at .filled }) l out
+    onto-begun e =
         let f : taken .ended ≡ false = sym ended-is ∙ e in
         let n = on in
         record {
@@ -135,6 +99,9 @@ module _ (block : List ℕ) (at : Progress) (line out : List ℕ) (table : ℕ) 
           inside = λ h. most;
         }
 
+    pub turn-begun : t .ended ≡ false → Turned block before (workOf (record { kept = t .kept; next = t .next; filled = at .filled }) l out table)
+    turn-begun e = record { on = on; onto = onto-begun e; is = begun-is block before t l k e }
+
     module _ (e : t .ended ≡ true) (r : Written) (outLast : List ℕ) (s : Stored out (at .filled) (answerLine (take (t .kept) l)) r outLast) where
       abbrev text : List ℕ
       text = answerLine (take (t .kept) l)
@@ -150,8 +117,8 @@ module _ (block : List ℕ) (at : Progress) (line out : List ℕ) (table : ℕ) 
       pub turn-always : {G : Type 0} → r ≡ NoRoom → G
       turn-always u = put-always out (at .filled) text r outLast fits s u
 
-      pub turn-ended : (end : ℕ) → r ≡ Upto end → Onto block at line out (record { kept = 0; next = t .next; filled = end }) l outLast
-      turn-ended end u =
+      onto-ended : (end : ℕ) → r ≡ Upto end → Onto block at line out (record { kept = 0; next = t .next; filled = end }) l outLast
+      onto-ended end u =
           let p = put-upto out (at .filled) text r outLast fits s end u in
           let n = on in
           let w = fits in
@@ -172,28 +139,40 @@ module _ (block : List ℕ) (at : Progress) (line out : List ℕ) (table : ℕ) 
             inside = λ h. most;
           })
 
+      pub turn-ended : (end : ℕ) → r ≡ Upto end → (tableLast : List ℕ) → tableLast ≡ tableFor (questionOf (take (t .kept) l)) table
+          → Turned block before (workOf (record { kept = 0; next = t .next; filled = end }) l outLast tableLast)
+      turn-ended end u tableLast f =
+          let p = put-upto out (at .filled) text r outLast fits s end u in
+          record { on = on; onto = onto-ended end u; is = answered-is block before t l k e end outLast tableLast (p .end) (p .contents) f }
+
 -- a whole call
-pub block-answered : (block : List ℕ) (from : ℕ) (line out : List ℕ) (table kept : ℕ) (start r : Progress) (lineLast outLast : List ℕ)
-    → start ≡ record { kept = kept; next = min from (length block); filled = 0 } → Onto block start line out r lineLast outLast
-    → (Goes (length block) (length lineLast) (length outLast) table r → ⊥) → BlockAnswered block from line out table kept r lineLast outLast
-block-answered block from line out table kept start r lineLast outLast e o off =
-    let p : Onto block (record { kept = kept; next = min from (length block); filled = 0 }) line out r lineLast outLast = rw e at o in
+pub block-answered : (block : List ℕ) (from : ℕ) (line out table : List ℕ) (kept : ℕ) (start r : Progress) (lineLast outLast tableLast : List ℕ)
+    → start ≡ blockStart block from kept → Going block (workOf start line out table) (workOf r lineLast outLast tableLast)
+    → (Goes (length block) (length lineLast) (length outLast) (length tableLast) r → ⊥)
+    → BlockAnswered block from line out table kept r lineLast outLast tableLast
+unfolding blockOf
+block-answered block from line out table kept start r lineLast outLast tableLast e g off =
+    let p : Onto block (blockStart block from kept) line out r lineLast outLast = rw e at (g .onto) in
     let i = p .inside (omega arith) in
     let z = p .sized in
     let n = p .lined in
+    let b = g .tabled in
     record {
       answered = λ rest. sym (ap (λ (x : List ℕ). answersAfter kept line (x ++ rest)) (drop-within from block)) ∙ p .answered rest;
       within = p .within (omega arith);
       unfilled = p .unfilled;
-      reached = λ h g k.
+      reached = λ h f k.
           by-test (ltb (r .next) (length block))
-          (λ t. absurd (off (record { more = ltb-true _ _ t; whole = omega arith; tabled = g; room = omega arith })))
+          (λ t. absurd (off (record { more = ltb-true _ _ t; whole = omega arith; tabled = omega arith; room = omega arith })))
           (λ t. omega (arith, ltb-false (r .next) (length block) t));
-      onward = λ h g k l.
+      onward = λ h f k l.
           by-test (ltb (r .next) (length block))
           (λ t.
           by-test (ltb 0 (r .filled))
           (λ u. omega (arith, p .moved (ltb-true _ _ u)))
-          (λ u. let v = ltb-false 0 (r .filled) u in absurd (off (record { more = ltb-true _ _ t; whole = omega arith; tabled = g; room = omega arith }))))
+          (λ u.
+          let v = ltb-false 0 (r .filled) u in
+          absurd (off (record { more = ltb-true _ _ t; whole = omega arith; tabled = omega arith; room = omega arith }))))
           (λ t. let v = ltb-false (r .next) (length block) t in omega arith);
+      decided = going-done g off ∙ ap (λ (x : Progress). blockFrom (length block) block (workOf x line out table)) e;
     }

@@ -19,7 +19,7 @@ use Rattle.profile.specs.declared.ComponentAnswer.the-variants.{Found, Refused 
 use Rattle.profile.specs.Profile.{profileOf, componentOf}
 use Rattle.reading.specs.declared.ValueAnswer.{ValueAnswer}
 use Rattle.reading.specs.declared.ValueAnswer.the-variants.{Accepted, Refused}
-use Rattle.reading.specs.Value.{valueAnswer}
+use Rattle.reading.specs.Value.{valueAnswer, flat}
 use Rattle.value.specs.declared.ItemAnswer.{ItemAnswer}
 use Rattle.value.specs.declared.ItemAnswer.the-variants.{Given, Refused as NoItem}
 use Rattle.value.specs.Single.{itemAnswer}
@@ -35,6 +35,7 @@ use Rattle.printing.specs.Items.{itemsOf}
 use Rattle.questions.specs.Octets.{Octets, octets, notOctets, octetsWord, loneOctets}
 use Rattle.questions.specs.Questions.{Question, typeIn, valueIn, itemIn, rewriteIn, profileIn, componentIn, noQuestion, octetsQuestion, namedType, typeQuestion, About, about, notAbout, aboutOf, onAbout, aboutQuestion, rewriteQuestion, profileQuestion, componentQuestion}
 use Rattle.questions.specs.Replies.{typeReply, valueReply, itemReply, rewriteReply, profileReply, componentReply, roomOf, replyTo, itemsIn, octetsIn}
+use Rattle.questions.specs.Blocks.{tableFor}
 use Rattle.questions.specs.Inner.{numbersOf, Replied, octetsOf, Held}
 
 -- by the question: only a value has items, and only a value that is rewritten and a profile body have octets
@@ -104,15 +105,16 @@ no-octets (componentIn v number) n = absurd n
 no-octets noQuestion n = (refl, refl)
 
 module _ (q : Question) (r : Reply) (e : r ≡ replyTo q) where
-  pub replied-none : NoItems q → (table : List ℕ) → Replied q r table
-  unfolding itemsOf
-  replied-none n table = let a = no-items q n in record { reply = e; items = rw (e, a .0, a .1); within = rw (e, a .0) (omega arith) }
+  pub replied-none : NoItems q → (table : List ℕ) → Replied q table r table
+  unfolding itemsOf tableFor flat
+  replied-none n table =
+      let a = no-items q n in record { reply = e; items = rw (e, a .0, a .1); within = rw (e, a .0) (omega arith); filled = rw (a .1) }
 
   pub held-none : NoOctets q → (memory : List ℕ) → Held q r memory
   held-none n memory = let a = no-octets q n in record { reply = e; octets = rw (e, a .0, a .1); within = rw (e, a .0) (omega arith) }
 
 -- what a line that is no question is answered
-pub none-replied : (q : Question) (table : List ℕ) → q ≡ noQuestion → Replied q NoQuestion table
+pub none-replied : (q : Question) (table : List ℕ) → q ≡ noQuestion → Replied q table NoQuestion table
 none-replied q table e = rw e (replied-none noQuestion NoQuestion refl tt table)
 
 pub none-held : (q : Question) (memory : List ℕ) → q ≡ noQuestion → Held q NoQuestion memory

@@ -12,8 +12,8 @@ use Rattle.questions.specs.declared.Progress.{Progress}
 use Rattle.questions.specs.Blocks.{BlockAnswered}
 
 pub data Calls : ℕ → List ℕ → List ℕ → List ℕ → Type 0 where
-  next : (kept : ℕ) (line out input block : List ℕ) (table from : ℕ) (rest : List ℕ) (r : Progress) (lineLast outLast text : List ℕ)
-      → input ≡ drop from block ++ rest → BlockAnswered block from line out table kept r lineLast outLast
+  next : (kept : ℕ) (line out table input block : List ℕ) (from : ℕ) (rest : List ℕ) (r : Progress) (lineLast outLast tableLast text : List ℕ)
+      → input ≡ drop from block ++ rest → BlockAnswered block from line out table kept r lineLast outLast tableLast
       → Calls (r .kept) lineLast (drop (r .next) block ++ rest) text → Calls kept line input (take (r .filled) outLast ++ text)
   ended : (kept : ℕ) (line : List ℕ) (c : ℕ) (rest text : List ℕ) → take kept line ≡ c ∷ rest
       → Calls kept line (lf ∷ []) text → Calls kept line [] text

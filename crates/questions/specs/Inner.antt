@@ -7,7 +7,7 @@
 --   valuesOf      how many octets of the value are written
 --   AboutRead     the words of a value were read, and the octets are within the memory
 --   numbersOf     how many numbers of the table an answer has
---   Replied       a question's answer was found, and its items are in the table
+--   Replied       a question's answer was found, its items are in the table, and the table's other numbers are as they were
 --   octetsMost    the most octets of a rewritten value, seven more than a value or a profile body may have
 --   octetsOf      how many octets of the memory an answer has
 --   Held          a question's answer was found, and its octets are in the memory
@@ -29,6 +29,7 @@ use Rattle.questions.specs.declared.about.About.the-variants.{Is, NotAbo
 use Rattle.questions.specs.Octets.{Octets as OctetsOf, octets, notOctets}
 use Rattle.questions.specs.Questions.{Question, About as AboutOf, about, notAbout, aboutOf}
 use Rattle.questions.specs.Replies.{replyTo, itemsIn, octetsIn}
+use Rattle.questions.specs.Blocks.{tableFor}
 
 abbrev pub octetsRead : Octets → List ℕ → OctetsOf
 octetsRead (Count n) memory = octets (take n memory)
@@ -73,10 +74,11 @@ numbersOf (Profiled said count) = 0
 numbersOf (Component tag part count) = 0
 numbersOf NoQuestion = 0
 
-pub record Replied (q : Question) (r : Reply) (table : List ℕ) : Type 0 where
+pub record Replied (q : Question) (before : List ℕ) (r : Reply) (table : List ℕ) : Type 0 where
   pub reply : r ≡ replyTo q
   pub items : itemsOf (take (numbersOf r) table) ≡ itemsIn q
   pub within : numbersOf r ≤ length table
+  pub filled : table ≡ tableFor q before
 
 abbrev pub octetsMost : ℕ
 octetsMost = 16391

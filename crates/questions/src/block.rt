@@ -3,7 +3,8 @@ ghost use mathlib.Core.Path.{_≡_};
 ghost use mathlib.Core.Bool.{true, false};
 ghost use Prim.Native.Nat.{_<_, min};
 ghost use lib.ListN.{length};
-ghost use Rattle.questions.specs.Turns.{Goes, Onto};
+ghost use Rattle.questions.specs.Blocks.{workOf};
+ghost use Rattle.questions.specs.Turns.{Goes, Turned};
 use crate::LINE_ROOM;
 use crate::LONGEST;
 use crate::Progress;
@@ -41,7 +42,7 @@ pub(crate) fn turn(
     at: Progress,
 ) -> Progress
     requires { ⌜ Goes (length (now block)) (length (now line)) (length (now out)) (length (now table)) at ⌝ }
-    ensures { λ r. ⌜ (at .next < r .next) × Onto (now (block .entry)) at (now (line .entry)) (now (out .entry)) r (now (line .exit)) (now (out .exit)) ⌝ }
+    ensures { λ r. ⌜ Turned (now (block .entry)) (workOf at (now (line .entry)) (now (out .entry)) (now (table .entry))) (workOf r (now (line .exit)) (now (out .exit)) (now (table .exit))) ⌝ }
 {
     let taken = lines::take_line(block, at.next, line, at.kept);
     let kept = taken.kept;

@@ -8,7 +8,7 @@ ghost use Rattle.words.specs.Words.{words};
 ghost use Rattle.questions.specs.Questions.{lineMost, wordQuestion, questionOf};
 ghost use Rattle.questions.specs.Replies.{answerLine};
 ghost use Rattle.questions.specs.Inner.{numbersOf, Replied, octetsMost, octetsOf, Held};
-ghost use Rattle.questions.specs.Blocks.{tableRoom, BlockAnswered};
+ghost use Rattle.questions.specs.Blocks.{tableRoom, tableFor, BlockAnswered};
 use printing::Reply;
 use writing::Written;
 
@@ -43,7 +43,7 @@ pub struct Progress {
 
 // Takes characters of `block` from `from` on and answers each line that ends in it, from the start of `out`; stops at the block's end, or
 // where `out` has no room left for the longest answer, `line` has under LINE_ROOM characters or `table` under TABLE_ROOM numbers. `line` keeps
-// the line that was begun, of which it has `kept` characters; `table` holds the items of a value meanwhile.
+// the line that was begun, of which it has `kept` characters; `table` is left with the items of the values answered, each from its start on.
 pub fn answer_block(
     block: &[u8],
     from: usize,
@@ -52,7 +52,7 @@ pub fn answer_block(
     table: &mut [u64],
     kept: usize,
 ) -> Progress
-    ensures { λ r. ⌜ BlockAnswered (now (block .entry)) from (now (line .entry)) (now (out .entry)) (length (now (table .entry))) kept r (now (line .exit)) (now (out .exit)) ⌝ }
+    ensures { λ r. ⌜ BlockAnswered (now (block .entry)) from (now (line .entry)) (now (out .entry)) (now (table .entry)) kept r (now (line .exit)) (now (out .exit)) (now (table .exit)) ⌝ }
 {
     let mut at = Progress {
         kept,
@@ -68,7 +68,7 @@ pub fn answer_block(
 // Writes the answer of a line's characters, and its LF, from `at` on, or nothing where it does not fit.
 fn answer_line(line: &[u8], out: &mut [u8], table: &mut [u64], at: usize) -> Written
     requires { ⌜ tableRoom ≤ length (now table) ⌝ }
-    ensures { λ r. ⌜ Stored (now (out .entry)) at (answerLine (now (line .entry))) r (now (out .exit)) ⌝ }
+    ensures { λ r. ⌜ (Stored (now (out .entry)) at (answerLine (now (line .entry))) r (now (out .exit))) × (now (table .exit) ≡ tableFor (questionOf (now (line .entry))) (now (table .entry))) ⌝ }
 {
     let mut memory = [0u8; rewrites::MOST];
     let reply = reply_to(line, table, &mut memory);
@@ -135,7 +135,7 @@ fn octets_of(reply: Reply) -> usize
 // What a line is answered; a value's items are left in `table`, a rewritten value's octets or a profile body in `memory`.
 fn reply_to(line: &[u8], table: &mut [u64], memory: &mut [u8]) -> Reply
     requires { ⌜ (tableRoom ≤ length (now table)) × (octetsMost ≤ length (now memory)) ⌝ }
-    ensures { λ r. ⌜ (Replied (questionOf (now (line .entry))) r (now (table .exit))) × Held (questionOf (now (line .entry))) r (now (memory .exit)) ⌝ }
+    ensures { λ r. ⌜ (Replied (questionOf (now (line .entry))) (now (table .entry)) r (now (table .exit))) × Held (questionOf (now (line .entry))) r (now (memory .exit)) ⌝ }
 {
     if LINE_LIMIT < line.len() {
         return Reply::NoQuestion;
@@ -150,7 +150,7 @@ fn reply_to(line: &[u8], table: &mut [u64], memory: &mut [u8]) -> Reply
 // What the first word of a line and those behind it are answered.
 fn reply_words(word: &[u8], rest: &[u8], table: &mut [u64], memory: &mut [u8]) -> Reply
     requires { ⌜ (length (now rest) ≤ lineMost) × (tableRoom ≤ length (now table)) × (octetsMost ≤ length (now memory)) ⌝ }
-    ensures { λ r. ⌜ (Replied (wordQuestion (now (word .entry)) (words (now (rest .entry)))) r (now (table .exit))) × Held (wordQuestion (now (word .entry)) (words (now (rest .entry)))) r (now (memory .exit)) ⌝ }
+    ensures { λ r. ⌜ (Replied (wordQuestion (now (word .entry)) (words (now (rest .entry)))) (now (table .entry)) r (now (table .exit))) × Held (wordQuestion (now (word .entry)) (words (now (rest .entry)))) r (now (memory .exit)) ⌝ }
 {
     if words::same(word, b"type") {
         return types::reply_type(rest);

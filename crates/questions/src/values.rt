@@ -37,7 +37,7 @@ fn room_of(room: u64) -> usize
 // Answers the words behind `value`, and leaves the items in `table`, three numbers each.
 pub(crate) fn reply_value(rest: &[u8], table: &mut [u64]) -> Reply
     requires { ⌜ (length (now rest) ≤ lineMost) × (tableRoom ≤ length (now table)) ⌝ }
-    ensures { λ r. ⌜ Replied (aboutQuestion valueIn (fieldsOf (words (now (rest .entry))))) r (now (table .exit)) ⌝ }
+    ensures { λ r. ⌜ Replied (aboutQuestion valueIn (fieldsOf (words (now (rest .entry))))) (now (table .entry)) r (now (table .exit)) ⌝ }
 {
     let Fields::Are(asked) = words::read_fields(rest) else {
         return Reply::NoQuestion;
@@ -77,7 +77,7 @@ fn read_value(
     table: &mut [u64],
 ) -> Reply
     requires { ⌜ tableRoom ≤ length (now table) ⌝ }
-    ensures { λ r. ⌜ Replied (valueIn typed (now (t .entry)) (source (now (v .entry)) order (indexOf start)) room) r (now (table .exit)) ⌝ }
+    ensures { λ r. ⌜ Replied (valueIn typed (now (t .entry)) (source (now (v .entry)) order (indexOf start)) room) (now (table .entry)) r (now (table .exit)) ⌝ }
 {
     let n = room_of(room) * 3;
     let answer = value::read_value(t, typed, v, order, Index(start as usize), &mut table[..n]);

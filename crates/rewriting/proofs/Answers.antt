@@ -1,32 +1,32 @@
 -- The ways to an answer: a refusal before any visit, or a reading under an accepted type.
 use mathlib.Core.Path.{_≡_, refl, sym, ap, subst, _∙_}
 use mathlib.Core.List.{List}
-use mathlib.Core.Bool.{Bool, true, false, cond}
-use Prim.Native.Nat.{ℕ, _<_}
-use native.Mathlib.Omega.{arith}
-use lib.Dec.{ltb}
+use Prim.Native.Nat.{ℕ}
 use lib.ListN.{length}
-use borrow.Author.Tests.{ltb-true}
 use Rattle.choices.proofs.Choices.{clash}
 use Rattle.cdr.specs.declared.Order.{Order}
-use Rattle.cdr.specs.declared.Place.{Place}
 use Rattle.kinds.specs.declared.Form.the-variants.{Plain}
-use Rattle.kinds.specs.declared.Parameters.the-variants.{Leaf}
+use Rattle.kinds.specs.declared.Kind.{Kind}
+use Rattle.kinds.specs.declared.Inner.{Inner}
+use Rattle.kinds.specs.declared.Inner.the-variants.{Here, There}
+use Rattle.kinds.specs.declared.Inert.the-variants.{Leaf}
+use Rattle.kinds.specs.declared.Parameters.{Parameters}
+use Rattle.kinds.specs.declared.Parameters.the-variants.{Fault, Flat, Struct, Exception, Union, Sequence, Array, Alias}
 use Rattle.kinds.specs.Forms.{formOf}
-use Rattle.met.specs.declared.Met.{Met}
+use Rattle.kinds.proofs.Plains.{leaf-plain}
+use Rattle.met.specs.declared.Position.{Position}
 use Rattle.met.specs.declared.Position.the-variants.{Is, NoPosition}
-use Rattle.met.specs.Met.{findPlace, positionOf}
-use Rattle.accepted.specs.Accepted.{AcceptedAs}
-use Rattle.accepted.specs.Sound.{Sound}
+use Rattle.met.specs.Met.{kindNo, positionOf, parametersOf, atPosition, foundAt, insideOf}
+use Rattle.met.specs.Shapes.{shapeOf, look}
+use Rattle.met.specs.Shapes.Shape.{flat}
 use Rattle.reading.specs.Sinks.{Source}
-use Rattle.reading.specs.Visit.{checked, atPosition, inside}
+use Rattle.reading.specs.Visit.{checked}
 use Rattle.reading.specs.Reading.{anyRoom, reading}
 use Rattle.reading.specs.Value.{readingOf}
 use Rattle.reading.proofs.Bound.{items-bound}
 use Rattle.value.specs.declared.Judged.{Judged}
 use Rattle.value.specs.declared.Judged.the-variants.{Accepted as acceptedType, Refused as refusedType}
-use Rattle.value.specs.declared.Typed.{Typed}
-use Rattle.value.specs.Typed.{typedFor}
+use Rattle.value.specs.Typed.{Typed, typedFor}
 use Rattle.value.proofs.Answers.{onJudged, under, answer-judged, bounded}
 use Rattle.written.specs.declared.RewriteAnswer.{RewriteAnswer}
 use Rattle.written.specs.declared.RewriteAnswer.the-variants.{Refused}
@@ -34,28 +34,43 @@ use Rattle.written.specs.Written.{Target, written}
 use Rattle.written.specs.Rewriting.{rewriteOf, rewriteAnswer, writtenBy, rewritten, outputAfter}
 use Rattle.rewriting.specs.Inner.{Readable, Rewrites}
 
--- kinds without parameters of an accepted type are primitives
-module _ (v : List ℕ) (order : Order) (k : ℕ) (m : Met) (type : AcceptedAs v order k m) where
-  plain-by : (p : Place) (t : Bool) → ltb (findPlace m p) (m .count) ≡ t → (kind : ℕ)
-      → atPosition (checked v m) (cond t (Is (findPlace m p)) NoPosition) ≡ Leaf kind → formOf kind ≡ Plain
-  plain-by p true h kind e =
-      let l : findPlace m p < k = let a = ltb-true (findPlace m p) (m .count) h in let b = type .kinds in omega arith in
-      subst (Sound v m) e (type .good (findPlace m p) l .sound)
-  plain-by p false h kind e = clash cc
+-- kinds without parameters are primitives
+module _ (v : List ℕ) (ks : List Kind) where
+  position-plain : (a : Position) (kind : ℕ) → atPosition v ks a ≡ Flat (Leaf kind) → formOf kind ≡ Plain
+  unfolding parametersOf
+  position-plain (Is j) kind e = leaf-plain v (kindNo ks j) kind e
+  position-plain NoPosition kind e = clash cc
 
-  plain-inside : (p : Place) (kind : ℕ) → inside (checked v m) p ≡ Leaf kind → formOf kind ≡ Plain
-  unfolding inside positionOf
-  plain-inside p kind e = plain-by p (ltb (findPlace m p) (m .count)) refl kind e
+  inside-plain : (y : Inner) (kind : ℕ) → insideOf v ks y ≡ Flat (Leaf kind) → formOf kind ≡ Plain
+  unfolding insideOf foundAt
+  inside-plain (Here a) kind e = leaf-plain v a kind e
+  inside-plain (There p) kind e = position-plain (positionOf ks p) kind e
+
+  -- only a kind without parameters looks like one
+  shape-flat : (p : Parameters) (kind : ℕ) → shapeOf v ks p ≡ flat (Leaf kind) → p ≡ Flat (Leaf kind)
+  unfolding shapeOf
+  shape-flat (Flat i) kind e = let z : i ≡ Leaf kind = cc in ap Flat z
+  shape-flat Fault kind e = clash cc
+  shape-flat (Struct g) kind e = clash cc
+  shape-flat (Exception g) kind e = clash cc
+  shape-flat (Union g d default) kind e = clash cc
+  shape-flat (Sequence y bound) kind e = clash cc
+  shape-flat (Array y n) kind e = clash cc
+  shape-flat (Alias y) kind e = clash cc
+
+  look-plain : (y : Inner) (kind : ℕ) → look v ks y ≡ flat (Leaf kind) → formOf kind ≡ Plain
+  unfolding look
+  look-plain y kind e = inside-plain y kind (shape-flat (insideOf v ks y) kind e)
 
 module _ (v : List ℕ) (order : Order) (x : Source) (r : Typed) (e : r ≡ typedFor v order (length (x .octets))) where
-  pub readable : r .judged ≡ acceptedType → Readable (checked v (r .met)) x
+  pub readable : r .judged ≡ acceptedType → Readable (checked v (r .kinds)) x
   readable s =
       let u = under v order (length (x .octets)) r e s in
       record {
-        bounded = bounded v order x (r .met) u;
+        bounded = bounded v order x (r .kinds) u;
         short = u .short;
-        few = λ full. items-bound full x v order (u .kinds) (r .met) (u .type);
-        plain = plain-inside v order (u .kinds) (r .met) (u .type);
+        few = λ full. items-bound full x v order (u .kinds) (r .kinds) (u .type);
+        plain = look-plain v (r .kinds);
       }
 
   module _ (to : Target) (out : List ℕ) where
@@ -77,15 +92,15 @@ module _ (v : List ℕ) (order : Order) (x : Source) (r : Typed) (e : r ≡ type
         (a, ap (λ (y : RewriteAnswer). writtenBy y out (rewritten v order x to)) a)
 
     -- the answer under an accepted type, and the output after it
-    pub read-under : r .judged ≡ acceptedType → (y : RewriteAnswer) (last : List ℕ) → Rewrites (checked v (r .met)) x to out y last
+    pub read-under : r .judged ≡ acceptedType → (y : RewriteAnswer) (last : List ℕ) → Rewrites (checked v (r .kinds)) x to out y last
         → (y ≡ answer) × (last ≡ outputAfter v order x to out)
     unfolding outputAfter readingOf
     read-under s y last done =
         let is = under v order (length (x .octets)) r e s .met in
         let a : y ≡ answer =
-        done .answer ∙ ap (λ (m : Met). rewriteOf (reading anyRoom x (checked v m)) to (length out)) (sym is) ∙ sym (judged ∙ ap onOutput s) in (
+        done .answer ∙ ap (λ (m : List Kind). rewriteOf (reading anyRoom x (checked v m)) to (length out)) (sym is) ∙ sym (judged ∙ ap onOutput s) in (
           a,
           done .output
-              ∙ ap (λ (m : Met). writtenBy y out (written to (reading anyRoom x (checked v m)))) (sym is)
+              ∙ ap (λ (m : List Kind). writtenBy y out (written to (reading anyRoom x (checked v m)))) (sym is)
               ∙ ap (λ (u : RewriteAnswer). writtenBy u out (rewritten v order x to)) a,
         )

@@ -9,7 +9,7 @@ use lib.ListN.{length, take, drop, replicate, length-append}
 use borrow.Author.Tests.{eqb-false, ne-eqb, ltb-true, ltb-false}
 use Rattle.choices.proofs.Choices.{by-test, clash}
 use Rattle.cdr.specs.declared.Order.{Order}
-use Rattle.cdr.specs.declared.Place.{Place}
+use Rattle.kinds.specs.Parts.{placeOf}
 use Rattle.cdr.specs.declared.Size.{Size}
 use Rattle.cdr.specs.declared.Size.the-variants.{Four}
 use Rattle.cdr.specs.declared.Read.{Read}
@@ -20,12 +20,15 @@ use Rattle.cdr.proofs.Alignment.{read-facts}
 use Rattle.cdr.proofs.Numbers.{number-small, octets-extended}
 use Rattle.items.specs.Items.{signedKind}
 use Rattle.kinds.specs.declared.Form.the-variants.{Plain}
-use Rattle.kinds.specs.declared.Parameters.{Parameters}
-use Rattle.kinds.specs.declared.Parameters.the-variants.{Leaf}
+use Rattle.kinds.specs.declared.Inner.{Inner}
+use Rattle.kinds.specs.declared.Inner.the-variants.{There}
+use Rattle.kinds.specs.declared.Inert.{Inert}
+use Rattle.kinds.specs.declared.Inert.the-variants.{Leaf}
+use Rattle.met.specs.Shapes.Shape.{flat}
 use Rattle.kinds.specs.Forms.{formOf}
 use Rattle.texts.specs.Text.{overBound, endsText}
 use Rattle.reading.specs.Sinks.{Source, Item, item, Piece, number, run, St, failed, onRead, taken, putIn, done, readAt, tookNumber, numberStep, octetsAt, tookOctets, octetsStep}
-use Rattle.reading.specs.Visit.{Checked, inside, sizeOf, contentOf, leafDone, leafAt, enumDone, enumAt, textDone, textGot, textAt, countDone, countAt, tagDone, tagAt, runDone, runGot, runAt}
+use Rattle.reading.specs.Visit.{Checked, sizeOf, contentOf, leafDone, leafAt, enumDone, enumAt, textDone, textGot, textAt, countDone, countAt, tagDone, tagAt, runDone, runGot, runAt}
 use Rattle.reading.specs.Reading.{Log, logging, levels, atStart, topOf, reading}
 use Rattle.reading.specs.Value.{itemNo}
 use Rattle.reading.proofs.Cases.{by-choice}
@@ -260,11 +263,12 @@ module _ (to : Target) (full : ℕ → Bool) (x : Source) (ok : Octets (x .octet
         (λ t. tail-tells 256 n p n e refl refl refl (ltb-false (length v) (p + 4 + n) t)))
 
   -- kinds without parameters are primitives
-  abbrev Primitive : Parameters → Type 0
-  Primitive a = (kind : ℕ) → a ≡ Leaf kind → formOf kind ≡ Plain
+  abbrev Primitive : Inert → Type 0
+  Primitive i = (kind : ℕ) → i ≡ Leaf kind → formOf kind ≡ Plain
 
   tells : Wholes (logging full) x Primitive Tells
   tells = record {
+    id = λ kind e. clash cc;
     refused = λ s h. refused 55 s (omega arith);
     visited = λ s h e. record { octets = h e .octets; inside = h e .inside };
     leaf = λ kind g s h. leaf-tells s h kind (g kind refl);
@@ -279,6 +283,9 @@ module _ (to : Target) (full : ℕ → Bool) (x : Source) (ok : Octets (x .octet
   unfolding upTo
   nothing-told = record { octets = writes-none to; inside = λ k l. absurd (omega arith) }
 
-  pub reading-told : (t : Checked) → ((p : Place) → Primitive (inside t p)) → reading full x t .fault ≡ 0 → Told (reading full x t)
+  pub reading-told : (t : Checked) → ((y : Inner) (kind : ℕ) → t .look y ≡ flat (Leaf kind) → formOf kind ≡ Plain)
+      → reading full x t .fault ≡ 0 → Told (reading full x t)
   unfolding reading
-  reading-told t leads = reads-wholes (logging full) x Primitive Tells tells t leads levels (topOf t) (leads _) atStart (λ e. nothing-told)
+  reading-told t plain =
+      let leads : (y : Inner) (i : Inert) → t .look y ≡ flat i → Primitive i = λ y i e kind q. plain y kind (e ∙ ap flat q) in
+      reads-wholes (logging full) x Primitive Tells tells t leads levels (topOf t) (leads (There (placeOf 0))) atStart (λ e. nothing-told)

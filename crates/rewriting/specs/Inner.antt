@@ -28,11 +28,13 @@ use Rattle.cdr.specs.Align.{octets, gap, behindGap}
 use Rattle.cdr.specs.Number.{octetsOf}
 use Rattle.cdr.specs.declared.Place.{Place}
 use Rattle.kinds.specs.declared.Form.the-variants.{Plain}
-use Rattle.kinds.specs.declared.Parameters.the-variants.{Leaf}
+use Rattle.kinds.specs.declared.Inner.{Inner}
+use Rattle.kinds.specs.declared.Inert.the-variants.{Leaf}
+use Rattle.met.specs.Shapes.Shape.{flat}
 use Rattle.kinds.specs.Forms.{formOf}
 use Rattle.cdr.specs.Limit.{octetsLimit}
 use Rattle.reading.specs.Sinks.{Source, Item, item}
-use Rattle.reading.specs.Visit.{Checked, inside, sizeOf}
+use Rattle.reading.specs.Visit.{Checked, sizeOf}
 use Rattle.reading.specs.Reading.{anyRoom, reading}
 use Rattle.value.specs.Typed.{Bounded}
 use Rattle.written.specs.declared.RewriteAnswer.{RewriteAnswer}
@@ -86,7 +88,7 @@ pub record Readable (t : Checked) (x : Source) : Type 0 where
   pub bounded : Bounded t x
   pub short : length (x .octets) ≤ octetsLimit
   pub few : (full : ℕ → Bool) → length (reading full x t .kept .items) ≤ length (x .octets)
-  pub plain : (p : Place) (kind : ℕ) → inside t p ≡ Leaf kind → formOf kind ≡ Plain
+  pub plain : (y : Inner) (kind : ℕ) → t .look y ≡ flat (Leaf kind) → formOf kind ≡ Plain
 
 abbrev pub Holds : List ℕ → List ℕ → Type 0
 Holds table v = length v * 3 ≤ length table

@@ -6,6 +6,7 @@ ghost use Rattle.reading.specs.Sinks.{source};
 ghost use Rattle.reading.specs.Visit.{checked};
 ghost use Rattle.written.specs.Written.{target, unnamedOrder};
 ghost use Rattle.written.specs.Rewriting.{rewriteAnswer, outputAfter};
+ghost use Rattle.met.specs.Arrays.{kindsMet};
 ghost use Rattle.rewriting.specs.Inner.{Readable, Holds, Rewrites};
 use cdr::Index;
 use cdr::Order;
@@ -73,8 +74,8 @@ fn rewrite_read(
     index: Index,
     out: &mut [u8],
 ) -> RewriteAnswer
-    requires { ⌜ Readable (checked (now t) met) (source (now v) order start) ⌝ }
-    ensures { λ r. ⌜ Rewrites (checked (now (t .entry)) met) (source (now (v .entry)) order start) (target chosen index) (now (out .entry)) r (now (out .exit)) ⌝ }
+    requires { ⌜ Readable (checked (now t) (kindsMet met)) (source (now v) order start) ⌝ }
+    ensures { λ r. ⌜ Rewrites (checked (now (t .entry)) (kindsMet met)) (source (now (v .entry)) order start) (target chosen index) (now (out .entry)) r (now (out .exit)) ⌝ }
 {
     if v.len() <= FEW {
         let mut few = [0u64; FEW * 3];
@@ -96,8 +97,8 @@ fn rewrite_with(
     table: &mut [u64],
     out: &mut [u8],
 ) -> RewriteAnswer
-    requires { ⌜ (Readable (checked (now t) met) (source (now v) order start)) × (Holds (now table) (now v)) ⌝ }
-    ensures { λ r. ⌜ Rewrites (checked (now (t .entry)) met) (source (now (v .entry)) order start) (target chosen index) (now (out .entry)) r (now (out .exit)) ⌝ }
+    requires { ⌜ (Readable (checked (now t) (kindsMet met)) (source (now v) order start)) × (Holds (now table) (now v)) ⌝ }
+    ensures { λ r. ⌜ Rewrites (checked (now (t .entry)) (kindsMet met)) (source (now (v .entry)) order start) (target chosen index) (now (out .entry)) r (now (out .exit)) ⌝ }
 {
     let filling = Mode {
         order,

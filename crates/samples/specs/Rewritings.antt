@@ -7,25 +7,29 @@ use Rattle.cdr.specs.declared.Order.the-variants.{Big, Little}
 use lib.Dec.{T}
 use Rattle.cdr.specs.Number.{littleNumber, littleOctets, numberOf, octetsOf, numberAt}
 use Rattle.choices.specs.Branch.{choose}
+use Rattle.choices.specs.Lists.{anyOf}
 use Rattle.cdr.specs.Number.{readOf}
 use Rattle.texts.specs.Text.{textOf, endsText, overBound, runOf}
 use Rattle.encapsulation.specs.Encapsulation.{fieldOf, stringOf, countedOf}
 use Rattle.kinds.specs.Forms.{formOf}
 use Rattle.kinds.specs.Parts.{fieldIn, skipField, skipCounted, targetOf, aimed, spotAt, memberAt, namesIn}
+use Rattle.kinds.specs.Members.{membersFrom, typesOf}
 use Rattle.kinds.specs.Parameters.{countIn, typeIn, elementIn, unionIn, encapsulated, parametersAt}
-use Rattle.met.specs.Met.{added, findIn, findPlace, positionOf, parametersOf}
-use Rattle.met.specs.Discriminants.{leafLabels, labelsAfter, labelsFor, outOfKind, labelAmong}
-use Rattle.fields.specs.Fields.{belowTop, entryOf, textStep, namesStep, numberStep, countStep, anyCount, headStep, exceptionStep, lengthStep, textsStep, enumStep, partOf, badDefault, switchStep}
+use Rattle.met.specs.Met.{findKind, positionOf, parametersOf, foundAt, insideOf}
+use Rattle.met.specs.Discriminants.{leafLabels, labelsAfter, labelsFor, outOfKind}
+use Rattle.met.specs.Arms.{caseFrom, memberNo, defaultOf, chosenOf}
+use Rattle.met.specs.Shapes.{shapeOf, look}
+use Rattle.fields.specs.Fields.{belowTop, entryOf, textStep, namesStep, numberStep, countStep, anyCount, headStep, exceptionStep, lengthStep, textsStep, enumStep, partOf, badDefault, switchStep, labelBefore}
 use Rattle.checking.specs.Walk.{entered, closed}
 use Rattle.checking.specs.Types.{targetStep, indirectionAt, nameStep, membersAt, labelsAt, switchedAt, discriminantAt, endedAt, compositeAt, enteredAt, kindAt, enterAt, typeAt, walkedOf}
 use Rattle.loops.specs.Loops.{closure, anyBelow, loopFound}
-use Rattle.steps.specs.Steps.{memberIs, steps}
+use Rattle.steps.specs.Steps.{stepsOf, steps}
 use Rattle.typecode.specs.TypeCode.{loopLast, checkedType}
 use Rattle.cdr.specs.Number.{signExtended}
 use Rattle.reading.specs.Sinks.{after, repeats, taken, done, numberStep as numberTaken, octetsStep}
-use Rattle.reading.specs.Visit.{inside, sizeOf, contentOf, leafDone, leafAt, textDone, textGot, textAt, countDone, countAt, elementsAt, sequenceAt, defaultOf, chosenOf, caseOf, memberNo, unionAt, enumDone, enumAt, exceptionAt, tagDone, tagAt, runDone, runGot, runAt, profileAt, profilesAt, objrefAt, membersAt as valueMembers}
+use Rattle.reading.specs.Visit.{sizeOf, contentOf, leafDone, leafAt, textDone, textGot, textAt, countDone, countAt, enumDone, enumAt, tagDone, tagAt, runDone, runGot, runAt, profileAt, profilesAt, objrefAt, inertAt}
 use Rattle.reading.specs.Reading.{reads, reading}
-use Rattle.reading.specs.Opens.{readsNode, enterNode, own, opens, closes, shuts, next, entries}
+use Rattle.reading.specs.Opens.{readsNode, enterNode, ownOf, opens, closes, shuts, next, entries}
 use Rattle.reading.specs.Value.{readingOf}
 use lib.ListN.{replicate}
 use Prim.Native.Nat.{ℕ}
@@ -66,5 +70,5 @@ rewritings =
     ∷ []
 
 pub rewritings-hold : T (holds rewritings)
-unfolding littleNumber littleOctets numberOf octetsOf numberAt choose readOf fieldOf stringOf textOf endsText overBound runOf countedOf formOf fieldIn skipField skipCounted targetOf aimed spotAt memberAt namesIn countIn typeIn elementIn unionIn encapsulated parametersAt added findIn findPlace positionOf parametersOf leafLabels labelsAfter labelsFor outOfKind labelAmong belowTop entryOf textStep namesStep numberStep countStep anyCount headStep exceptionStep lengthStep textsStep enumStep partOf badDefault switchStep entered closed targetStep indirectionAt nameStep membersAt labelsAt switchedAt discriminantAt endedAt compositeAt enteredAt kindAt enterAt typeAt walkedOf closure anyBelow loopFound memberIs steps loopLast checkedType signExtended after repeats taken done numberTaken octetsStep inside sizeOf contentOf leafDone leafAt textDone textGot textAt countDone countAt elementsAt sequenceAt reads readsNode enterNode own opens closes shuts next entries reading readingOf defaultOf chosenOf caseOf memberNo unionAt enumDone enumAt exceptionAt tagDone tagAt runDone runGot runAt profileAt profilesAt objrefAt valueMembers wrote writes rewriteOf rewriteAnswer outputAfter rewritings
+unfolding littleNumber littleOctets numberOf octetsOf numberAt choose readOf fieldOf stringOf textOf endsText overBound runOf countedOf formOf fieldIn skipField skipCounted targetOf aimed spotAt memberAt namesIn countIn typeIn elementIn unionIn encapsulated parametersAt membersFrom typesOf findKind positionOf parametersOf foundAt insideOf leafLabels labelsAfter labelsFor outOfKind caseFrom memberNo defaultOf chosenOf shapeOf look belowTop entryOf textStep namesStep numberStep countStep anyCount headStep exceptionStep lengthStep textsStep enumStep partOf badDefault switchStep labelBefore entered closed targetStep indirectionAt nameStep membersAt labelsAt switchedAt discriminantAt endedAt compositeAt enteredAt kindAt enterAt typeAt walkedOf closure anyBelow loopFound anyOf stepsOf steps loopLast checkedType signExtended after repeats taken done numberTaken octetsStep sizeOf contentOf leafDone leafAt textDone textGot textAt countDone countAt reads readsNode enterNode ownOf opens closes shuts next entries reading readingOf enumDone enumAt tagDone tagAt runDone runGot runAt profileAt profilesAt objrefAt inertAt wrote writes rewriteOf rewriteAnswer outputAfter rewritings
 rewritings-hold = tt

@@ -6,19 +6,23 @@ use lib.Dec.{T}
 use Rattle.cdr.specs.declared.Order.the-variants.{Big}
 use Rattle.cdr.specs.Number.{littleNumber, littleOctets, numberOf, octetsOf, numberAt}
 use Rattle.choices.specs.Branch.{choose}
+use Rattle.choices.specs.Lists.{anyOf}
 use Rattle.cdr.specs.Number.{readOf}
 use Rattle.texts.specs.Text.{textOf, endsText, overBound, runOf}
 use Rattle.encapsulation.specs.Encapsulation.{fieldOf, stringOf, countedOf}
 use Rattle.kinds.specs.Forms.{formOf}
 use Rattle.kinds.specs.Parts.{fieldIn, skipField, skipCounted, targetOf, aimed, spotAt, memberAt, namesIn}
+use Rattle.kinds.specs.Members.{membersFrom, typesOf}
 use Rattle.kinds.specs.Parameters.{countIn, typeIn, elementIn, unionIn, encapsulated, parametersAt}
-use Rattle.met.specs.Met.{added, findIn, findPlace, positionOf, parametersOf}
-use Rattle.met.specs.Discriminants.{leafLabels, labelsAfter, labelsFor, outOfKind, labelAmong}
-use Rattle.fields.specs.Fields.{belowTop, entryOf, textStep, namesStep, numberStep, countStep, anyCount, headStep, exceptionStep, lengthStep, textsStep, enumStep, partOf, badDefault, switchStep}
+use Rattle.met.specs.Met.{findKind, parametersOf}
+use Rattle.met.specs.Discriminants.{leafLabels, labelsAfter, labelsFor, outOfKind}
+use Rattle.met.specs.Arms.{caseFrom}
+use Rattle.met.specs.Shapes.{shapeOf}
+use Rattle.fields.specs.Fields.{belowTop, entryOf, textStep, namesStep, numberStep, countStep, anyCount, headStep, exceptionStep, lengthStep, textsStep, enumStep, partOf, badDefault, switchStep, labelBefore}
 use Rattle.checking.specs.Walk.{entered, closed}
 use Rattle.checking.specs.Types.{targetStep, indirectionAt, nameStep, membersAt, labelsAt, switchedAt, discriminantAt, endedAt, compositeAt, enteredAt, kindAt, enterAt, typeAt, walkedOf}
 use Rattle.loops.specs.Loops.{closure, anyBelow, loopFound}
-use Rattle.steps.specs.Steps.{memberIs, steps}
+use Rattle.steps.specs.Steps.{stepsOf, steps}
 use Rattle.typecode.specs.TypeCode.{loopLast, checkedType}
 use Rattle.samples.specs.Samples.{paper, type, Sample, holds}
 
@@ -32,8 +36,10 @@ slips =
     ∷ record { asked = type Big (paper 88 0x000000150000005000000000000000010000000000000001000000000000001000000034000000000000000100000000000000010000000000000017FFFFFFFF000000010000000000000005000000010000000000000003); given = 0 ∷ 88 ∷ 4 ∷ [] }
     -- "Reading an indirection's target in the byte order of the pointer": a big-endian discriminant whose target is little-endian
     ∷ record { asked = type Big (paper 128 0x0000000F000000780000000000000001000000000000000100000000000000020000000100000000000000130000000C010000000300000000000000000000010000000000000010000000340000000000000001000000000000000100000000FFFFFFFFFFFFFFD0FFFFFFFF0000000100000007000000010000000000000003); given = 0 ∷ 128 ∷ 5 ∷ [] }
+    -- two equal labels in a union, and between them an indirection that leads before the union's own encapsulation: the labels are compared through it
+    ∷ record { asked = type Big (paper 128 0x0000000F0000007800000000000000010000000000000001000000000000000200000001000000000000000300000001000000000000001000000044000000000000000100000000000000010000000000000003FFFFFFFF00000002000000010000000100000000FFFFFFFFFFFFFFBC00000001000000010000000000000003); given = 35 ∷ 0 ∷ 0 ∷ [] }
     ∷ []
 
 pub slips-hold : T (holds slips)
-unfolding littleNumber littleOctets numberOf octetsOf numberAt choose readOf fieldOf stringOf textOf endsText overBound runOf countedOf formOf fieldIn skipField skipCounted targetOf aimed spotAt memberAt namesIn countIn typeIn elementIn unionIn encapsulated parametersAt added findIn findPlace positionOf parametersOf leafLabels labelsAfter labelsFor outOfKind labelAmong belowTop entryOf textStep namesStep numberStep countStep anyCount headStep exceptionStep lengthStep textsStep enumStep partOf badDefault switchStep entered closed targetStep indirectionAt nameStep membersAt labelsAt switchedAt discriminantAt endedAt compositeAt enteredAt kindAt enterAt typeAt walkedOf closure anyBelow loopFound memberIs steps loopLast checkedType slips
+unfolding littleNumber littleOctets numberOf octetsOf numberAt choose readOf fieldOf stringOf textOf endsText overBound runOf countedOf formOf fieldIn skipField skipCounted targetOf aimed spotAt memberAt namesIn countIn typeIn elementIn unionIn encapsulated parametersAt membersFrom typesOf findKind parametersOf leafLabels labelsAfter labelsFor outOfKind caseFrom shapeOf belowTop entryOf textStep namesStep numberStep countStep anyCount headStep exceptionStep lengthStep textsStep enumStep partOf badDefault switchStep labelBefore entered closed targetStep indirectionAt nameStep membersAt labelsAt switchedAt discriminantAt endedAt compositeAt enteredAt kindAt enterAt typeAt walkedOf closure anyBelow loopFound anyOf stepsOf steps loopLast checkedType slips
 slips-hold = tt

@@ -1,5 +1,6 @@
 -- A kind's steps to its members, one after the other.
-use mathlib.Core.Path.{_≡_}
+use mathlib.Core.Path.{_≡_, subst}
+use lib.ListN.{length}
 use mathlib.Core.List.{List}
 use mathlib.Core.Bool.{Bool, false, _||_}
 use Prim.Native.Nat.{ℕ, suc, _+_, _-_, _≤_, _<_}
@@ -10,24 +11,27 @@ use Rattle.cdr.specs.declared.Place.{Place}
 use Rattle.cdr.specs.declared.Order.{Order}
 use Rattle.kinds.specs.declared.Labels.{Labels}
 use Rattle.kinds.specs.declared.Spot.the-variants.{At, Nowhere}
-use Rattle.kinds.specs.Parts.{memberAt}
-use Rattle.met.specs.declared.Met.{Met}
-use Rattle.steps.specs.Steps.{stands, memberIs}
-use Rattle.steps.specs.Inner.{kindsIn, Noted}
+use Rattle.kinds.specs.Parts.{placeIn, memberAt}
+use Rattle.kinds.specs.Members.{membersFrom, typesOf}
+use Rattle.choices.specs.Lists.{anyOf}
+use Rattle.kinds.specs.declared.Inner.{Inner}
+use Rattle.kinds.specs.declared.Kind.{Kind}
+use Rattle.steps.specs.Steps.{stands, anyStands}
+use Rattle.steps.specs.Inner.{Noted}
 use Rattle.steps.proofs.Noting.{noted-none, noted-same, noted-both}
 
 -- some of n members has the position
-abbrev pub among : Labels → List ℕ → Met → Place → Order → ℕ → Index → ℕ → Bool
-among labels v m b order n at z = memberIs labels v m b order z n at
+abbrev pub among : Labels → List ℕ → List Kind → Place → Order → ℕ → Index → ℕ → Bool
+among labels v m b order n at z = anyStands m z (typesOf (membersFrom labels v b order n at))
 
 -- k of n members are done: what the others add to the table now is what all add to the table before
-pub record Members (labels : Labels) (v : List ℕ) (m : Met) (b : Place) (order : Order) (i n : ℕ) (before : List ℕ) (first : Index)
+pub record Members (labels : Labels) (v : List ℕ) (m : List Kind) (b : Place) (order : Order) (i n : ℕ) (before : List ℕ) (first : Index)
     (now : List ℕ) (at : Index) (k : ℕ) : Type 0 where
   pub low : k ≤ n
-  pub on : (after : List ℕ) → Noted (kindsIn m) now i (among labels v m b order (n - k) at) after
-      → Noted (kindsIn m) before i (among labels v m b order n first) after
+  pub on : (after : List ℕ) → Noted (length m) now i (among labels v m b order (n - k) at) after
+      → Noted (length m) before i (among labels v m b order n first) after
 
-module _ {labels : Labels} {v : List ℕ} {m : Met} {b : Place} {order : Order} {i n : ℕ} {before : List ℕ} {first : Index} where
+module _ {labels : Labels} {v : List ℕ} {m : List Kind} {b : Place} {order : Order} {i n : ℕ} {before : List ℕ} {first : Index} where
   pub members-none : Members labels v m b order i n before first before first 0
   members-none = record { low = omega arith; on = rw (sub-zero n) (λ after d. d) }
 
@@ -37,31 +41,31 @@ module _ {labels : Labels} {v : List ℕ} {m : Met} {b : Place} {order : Order} 
 
     -- no member that is left gives a step
     done : ((z : ℕ) → among labels v m b order (n - k) at z ≡ false)
-        → Noted (kindsIn m) before i (among labels v m b order n first) now
-    done h = r .on now (noted-none (kindsIn m) now i (among labels v m b order (n - k) at) (λ z l. h z))
+        → Noted (length m) before i (among labels v m b order n first) now
+    done h = r .on now (noted-none (length m) now i (among labels v m b order (n - k) at) (λ z l. h z))
 
-    pub members-all : n ≤ k → Noted (kindsIn m) before i (among labels v m b order n first) now
-    unfolding memberIs
+    pub members-all : n ≤ k → Noted (length m) before i (among labels v m b order n first) now
+    unfolding membersFrom typesOf anyOf
     members-all h = let e : n - k ≡ 0 = omega arith in done (λ z. rw e)
 
     pub members-cut : k < n → memberAt labels v b at order ≡ Nowhere
-        → Noted (kindsIn m) before i (among labels v m b order n first) now
-    unfolding memberIs
+        → Noted (length m) before i (among labels v m b order n first) now
+    unfolding membersFrom typesOf anyOf
     members-cut h s = done (λ z. rw (left-suc h, s))
 
-    module _ (h : k < n) {p : Place} {next : Index} (s : memberAt labels v b at order ≡ At p next) where
+    module _ (h : k < n) {x : Inner} {next : Index} (s : memberAt labels v b at order ≡ At x next) where
       one-more : (z : ℕ)
-          → (stands m p z || among labels v m b order (n - (k + 1)) next z) ≡ among labels v m b order (n - k) at z
-      unfolding memberIs
+          → (stands m (placeIn x) z || among labels v m b order (n - (k + 1)) next z) ≡ among labels v m b order (n - k) at z
+      unfolding membersFrom typesOf anyOf
       one-more z = rw (left-suc h, s)
 
-      pub members-more : {then : List ℕ} → Noted (kindsIn m) now i (stands m p) then
+      pub members-more : {p : Place} {then : List ℕ} → p ≡ placeIn x → Noted (length m) now i (stands m p) then
           → Members labels v m b order i n before first then next (k + 1)
-      members-more {then} d =
+      members-more {p} {then} is d =
           record {
             low = omega (arith, h);
             on = λ after e.
                 r .on after
-                (noted-same (kindsIn m) now i _ (among labels v m b order (n - k) at) after (λ z l. one-more z)
-                (noted-both (kindsIn m) now i (stands m p) (among labels v m b order (n - (k + 1)) next) then after d e));
+                (noted-same (length m) now i _ (among labels v m b order (n - k) at) after (λ z l. one-more z)
+                (noted-both (length m) now i (stands m (placeIn x)) (among labels v m b order (n - (k + 1)) next) then after (subst (λ (r : Place). Noted (length m) now i (stands m r) then) is d) e));
           }

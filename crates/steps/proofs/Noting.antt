@@ -12,12 +12,12 @@ use Rattle.cdr.specs.declared.Place.{Place}
 use Rattle.loops.specs.declared.Steps.{Steps}
 use Rattle.loops.specs.Loops.{mostKinds, cell, withStep}
 use Rattle.loops.proofs.Cells.{with-cell}
-use Rattle.met.specs.declared.Met.{Met}
+use Rattle.kinds.specs.declared.Kind.{Kind}
 use Rattle.met.specs.declared.Position.the-variants.{Is, NoPosition}
-use Rattle.met.specs.Met.{findPlace, positionOf}
+use Rattle.met.specs.Met.{findKind, positionOf}
 use Rattle.met.proofs.Finding.{position-facts, position-nowhere}
 use Rattle.steps.specs.Steps.{stands}
-use Rattle.steps.specs.Inner.{kindsIn, Noted}
+use Rattle.steps.specs.Inner.{Noted}
 
 none-added : (c e : Bool) → c ≡ (c || (e && false))
 none-added true e = refl
@@ -52,33 +52,22 @@ module _ (n : ℕ) (before : List ℕ) (i : ℕ) where
       }
 
 -- a kind's step to the kind at a place
-module _ (m : Met) (p : Place) (i : ℕ) (s : Steps) where
-  pub noted-nowhere : positionOf m p ≡ NoPosition → Noted (kindsIn m) (s .rows) i (stands m p) (s .rows)
+module _ (m : List Kind) (p : Place) (i : ℕ) (s : Steps) where
+  pub noted-nowhere : positionOf m p ≡ NoPosition → Noted (length m) (s .rows) i (stands m p) (s .rows)
   noted-nowhere e =
-      let past = ltb-false (findPlace m p) (m .count) (position-nowhere m p e) in
-      noted-none (kindsIn m) (s .rows) i (stands m p) (λ z k. ne-eqb (findPlace m p) z (λ q. omega (arith, k, past, q)))
+      let past = ltb-false (findKind m p) (length m) (position-nowhere m p e) in
+      noted-none (length m) (s .rows) i (stands m p) (λ z k. ne-eqb (findKind m p) z (λ q. omega (arith, k, past, q)))
 
   module _ (j : ℕ) (e : positionOf m p ≡ Is j) where
     stands-at : (z : ℕ) → eqb j z ≡ stands m p z
     stands-at z = ap (λ (x : ℕ). eqb x z) (sym (position-facts m p j e .0))
 
-    -- a position past 64 is none of those that count
-    with-none : mostKinds ≤ j → withStep s i j ≡ s
-    unfolding withStep
-    with-none h = rw (le-ltb j mostKinds h, and-false (ltb i mostKinds))
-
-    pub noted-at : i < mostKinds → length (s .rows) ≡ mostKinds → (r : Steps) → r ≡ withStep s i j
-        → Noted (kindsIn m) (s .rows) i (stands m p) (r .rows)
-    noted-at h l r q =
+    pub noted-at : length m ≤ mostKinds → i < mostKinds → length (s .rows) ≡ mostKinds → (r : Steps) → r ≡ withStep s i j
+        → Noted (length m) (s .rows) i (stands m p) (r .rows)
+    noted-at few h l r q =
         rw q
-        (by-test (ltb j mostKinds)
-        (λ t.
-        record {
+        (record {
           cells = λ x z k.
-              with-cell s i j h (ltb-true j mostKinds t) l x z
+              with-cell s i j h (omega (arith, few, position-facts m p j e .1)) l x z
               ∙ ap (λ (b : Bool). cell (s .rows) x z || (eqb x i && b)) (equal-turned z j ∙ stands-at z);
         })
-        (λ t.
-        let far = ltb-false j mostKinds t in
-        subst (λ (r : Steps). Noted (kindsIn m) (s .rows) i (stands m p) (r .rows)) (sym (with-none far))
-        (noted-none (kindsIn m) (s .rows) i (stands m p) (λ z k. sym (stands-at z) ∙ ne-eqb j z (λ q. omega (arith, k, far, q))))))

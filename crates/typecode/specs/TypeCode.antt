@@ -2,25 +2,27 @@
 -- refusal, 39 "last of all".
 --   answerNumber    01's number of an answer, 0 for an accepted type
 --   answerNumbers   an answer's number, octets used and kinds written: "a refusal's other numbers are 0"
+--   CheckedType     an answer, and the kinds met
 --   refusedWith     an answer without a type
 --   acceptedType    octets used and kinds written, and the kinds met
---   kindsOf         the number of kinds in the list, of which a type that is walked to its end has at most 64
 --   loopLast        39: some kind returns to itself
 --   checkedFrom     what the walk over the octets gives
 --   checkedType     the check
-use Prim.Native.Nat.{ℕ, min}
+--   toldBy          what the struct that the code gives stands for
+use Prim.Native.Nat.{ℕ}
 use mathlib.Core.List.{List, [], _∷_}
+use lib.ListN.{length}
 use Rattle.choices.specs.Branch.{choose}
 use Rattle.cdr.specs.declared.Index.{Index}
 use Rattle.cdr.specs.declared.Order.{Order}
-use Rattle.met.specs.declared.Met.{Met}
+use Rattle.kinds.specs.declared.Kind.{Kind}
 use Rattle.fields.specs.declared.Step.{Step}
 use Rattle.fields.specs.declared.Step.the-variants.{Refused as refused, Next}
 use Rattle.typecode.specs.declared.TypeAnswer.{TypeAnswer}
 use Rattle.typecode.specs.declared.TypeAnswer.the-variants.{Accepted, Refused, Loop}
-use Rattle.typecode.specs.declared.CheckedType.{CheckedType}
-use Rattle.loops.specs.Loops.{mostKinds, loopFound}
-use Rattle.met.specs.Met.{noKinds}
+use Rattle.typecode.specs.declared.CheckedType as given
+use Rattle.loops.specs.Loops.{loopFound}
+use Rattle.met.specs.Arrays.{kindsMet}
 use Rattle.fields.specs.Refusals.{refusalNumber}
 use Rattle.checking.specs.Types.{walkedOf}
 use Rattle.steps.specs.Steps.{steps}
@@ -35,21 +37,25 @@ answerNumbers (Accepted used kinds) = 0 ∷ used ∷ kinds ∷ []
 answerNumbers (Refused r) = refusalNumber r ∷ 0 ∷ 0 ∷ []
 answerNumbers Loop = 39 ∷ 0 ∷ 0 ∷ []
 
+pub record CheckedType : Type 0 where
+  pub answer : TypeAnswer
+  pub kinds : List Kind
+
 abbrev pub refusedWith : TypeAnswer → CheckedType
-refusedWith answer = record { answer = answer; met = noKinds }
+refusedWith answer = record { answer = answer; kinds = [] }
 
-abbrev pub acceptedType : Index → Met → CheckedType
-acceptedType i m = record { answer = Accepted (i .0) (m .count); met = m }
+abbrev pub acceptedType : Index → List Kind → CheckedType
+acceptedType i ks = record { answer = Accepted (i .0) (length ks); kinds = ks }
 
-abbrev pub kindsOf : Met → ℕ
-kindsOf m = min (m .count) mostKinds
+unfoldable pub loopLast : List ℕ → Index → List Kind → CheckedType
+loopLast v i ks = choose (loopFound (length ks) (steps v ks)) (λ _. refusedWith Loop) (λ _. acceptedType i ks)
 
-unfoldable pub loopLast : List ℕ → Index → Met → CheckedType
-loopLast v i m = choose (loopFound (kindsOf m) (steps v m)) (λ _. refusedWith Loop) (λ _. acceptedType i m)
-
-abbrev pub checkedFrom : List ℕ → Step → Met → CheckedType
-checkedFrom v (refused r) m = refusedWith (Refused r)
-checkedFrom v (Next i) m = loopLast v i m
+abbrev pub checkedFrom : List ℕ → Step → List Kind → CheckedType
+checkedFrom v (refused r) ks = refusedWith (Refused r)
+checkedFrom v (Next i) ks = loopLast v i ks
 
 unfoldable pub checkedType : List ℕ → Order → CheckedType
-checkedType v order = checkedFrom v (walkedOf v order .step) (walkedOf v order .walk .met)
+checkedType v order = checkedFrom v (walkedOf v order .step) (walkedOf v order .walk .kinds)
+
+abbrev pub toldBy : given.CheckedType → CheckedType
+toldBy c = record { answer = c .answer; kinds = kindsMet (c .met) }

@@ -1,6 +1,7 @@
 // The check of a TypeCode: octets used and kinds written, or 01's refusal, 30 to 40 and 42; and the kinds met, for whoever reads values.
 ghost use mathlib.Core.Path.{_≡_};
-ghost use Rattle.typecode.specs.TypeCode.{answerNumber, refusedWith, loopLast, checkedType};
+ghost use Rattle.met.specs.Arrays.{kindsMet};
+ghost use Rattle.typecode.specs.TypeCode.{answerNumber, refusedWith, loopLast, checkedType, toldBy};
 use cdr::Index;
 use cdr::Order;
 use fields::Refusal;
@@ -35,7 +36,7 @@ pub struct CheckedType {
 
 // An answer without a type.
 fn refused_with(answer: TypeAnswer) -> CheckedType
-    ensures { λ r. ⌜ r ≡ refusedWith answer ⌝ }
+    ensures { λ r. ⌜ toldBy r ≡ refusedWith answer ⌝ }
 {
     CheckedType {
         answer,
@@ -45,12 +46,12 @@ fn refused_with(answer: TypeAnswer) -> CheckedType
 
 // The last test of all: whether some kind returns to itself.
 fn loop_last(v: &[u8], end: Index, met: Met) -> CheckedType
-    ensures { λ r. ⌜ r ≡ loopLast (now (v .entry)) end met ⌝ }
+    ensures { λ r. ⌜ toldBy r ≡ loopLast (now (v .entry)) end (kindsMet met) ⌝ }
 {
     if steps::loops_back(v, met) {
         return refused_with(TypeAnswer::Loop);
     }
-    let kinds = met.count;
+    let kinds = met.held();
     CheckedType {
         answer: TypeAnswer::Accepted { used: end.0, kinds },
         met,
@@ -59,7 +60,7 @@ fn loop_last(v: &[u8], end: Index, met: Met) -> CheckedType
 
 // Checks octets as a TypeCode in a byte order.
 pub fn check_type(v: &[u8], order: Order) -> CheckedType
-    ensures { λ r. ⌜ r ≡ checkedType (now (v .entry)) order ⌝ }
+    ensures { λ r. ⌜ toldBy r ≡ checkedType (now (v .entry)) order ⌝ }
 {
     let c = checking::walk_type(v, order);
     let walk = c.walk;

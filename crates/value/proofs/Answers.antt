@@ -1,6 +1,6 @@
 -- The ways to an answer: a refusal before any visit, or a reading under an accepted type.
 use mathlib.Core.Path.{_≡_, refl, sym, ap, subst, _∙_}
-use mathlib.Core.List.{List}
+use mathlib.Core.List.{List, []}
 use mathlib.Core.Bool.{Bool, true, false, _||_}
 use Prim.Native.Nat.{ℕ, _+_, _≤_}
 use native.Mathlib.Omega.{arith}
@@ -11,7 +11,7 @@ use lib.ListN.{length}
 use Rattle.choices.specs.Branch.{choose}
 use Rattle.choices.proofs.Choices.{by-test, clash, neither}
 use Rattle.cdr.specs.declared.Order.{Order}
-use Rattle.met.specs.declared.Met.{Met}
+use Rattle.kinds.specs.declared.Kind.{Kind}
 use Rattle.typecode.specs.declared.TypeAnswer.{TypeAnswer}
 use Rattle.typecode.specs.declared.TypeAnswer.the-variants.{Accepted as accepted, Refused as refused, Loop}
 use Rattle.typecode.specs.TypeCode.{checkedType}
@@ -25,12 +25,10 @@ use Rattle.reading.specs.Reading.{anyRoom, roomFor, reading}
 use Rattle.cdr.specs.Limit.{octetsLimit}
 use Rattle.reading.specs.Value.{roomIn, onType, answerOf, readingOf, valueAnswer, filledBy, tableAfter}
 use Rattle.reading.proofs.Bound.{visits-bound, items-bound}
-use Rattle.met.specs.Met.{noKinds}
 use Rattle.value.specs.declared.Judged.{Judged}
 use Rattle.value.specs.declared.Judged.the-variants.{Accepted as acceptedType, Refused as refusedType}
-use Rattle.value.specs.declared.Typed.{Typed}
 use Rattle.value.specs.declared.ItemAnswer.the-variants.{Refused as refusedItem}
-use Rattle.value.specs.Typed.{typed, judgedBy, typedFor}
+use Rattle.value.specs.Typed.{Typed, typed, judgedBy, typedFor}
 use Rattle.value.specs.Single.{givenBy, itemAnswer}
 use Rattle.value.specs.Typed.{Bounded}
 use Rattle.value.specs.Inner.{readInto, Read}
@@ -45,38 +43,38 @@ module _ (v : List ℕ) (order : Order) (n : ℕ) where
   abbrev long : Bool
   long = ltb octetsLimit (length v) || ltb octetsLimit n
 
-  pub typed-long : long ≡ true → typed (refusedType 42) noKinds ≡ typedFor v order n
+  pub typed-long : long ≡ true → typed (refusedType 42) [] ≡ typedFor v order n
   unfolding typedFor choose
   typed-long e = rw e
 
-  pub typed-short : long ≡ false → typed (judgedBy (checkedType v order .answer)) (checkedType v order .met) ≡ typedFor v order n
+  pub typed-short : long ≡ false → typed (judgedBy (checkedType v order .answer)) (checkedType v order .kinds) ≡ typedFor v order n
   unfolding typedFor choose
   typed-short e = rw e
 
   -- the kinds that a value is read under
-  pub record Under (m : Met) : Type 0 where
+  pub record Under (m : List Kind) : Type 0 where
     pub kinds : ℕ
     pub type : AcceptedAs v order kinds m
-    pub met : checkedType v order .met ≡ m
+    pub met : checkedType v order .kinds ≡ m
     pub short : n ≤ octetsLimit
 
-  under-type : (a : TypeAnswer) → checkedType v order .answer ≡ a → judgedBy a ≡ acceptedType → n ≤ octetsLimit → Under (checkedType v order .met)
+  under-type : (a : TypeAnswer) → checkedType v order .answer ≡ a → judgedBy a ≡ acceptedType → n ≤ octetsLimit → Under (checkedType v order .kinds)
   under-type (accepted used k) q e short = record { kinds = k; type = accepted-as v order used k q; met = refl; short = short }
   under-type (refused r) q e short = clash cc
   under-type Loop q e short = clash cc
 
-  pub under : (r : Typed) → r ≡ typedFor v order n → r .judged ≡ acceptedType → Under (r .met)
+  pub under : (r : Typed) → r ≡ typedFor v order n → r .judged ≡ acceptedType → Under (r .kinds)
   under r e s =
       by-test long
       (λ t. let q : refusedType 42 ≡ acceptedType = ap (λ (y : Typed). y .judged) (typed-long t ∙ sym e) ∙ s in clash cc)
-      (λ t. let is : typed (judgedBy (checkedType v order .answer)) (checkedType v order .met) ≡ r = typed-short t ∙ sym e in
-      subst Under (ap (λ (y : Typed). y .met) is)
+      (λ t. let is : typed (judgedBy (checkedType v order .answer)) (checkedType v order .kinds) ≡ r = typed-short t ∙ sym e in
+      subst Under (ap (λ (y : Typed). y .kinds) is)
       (under-type (checkedType v order .answer) refl (ap (λ (y : Typed). y .judged) is ∙ s)
       (ltb-false _ _ (neither (ltb octetsLimit (length v)) (ltb octetsLimit n) t .1))))
 
   module _ {A : Type 0} (f : A) (g : ℕ → A) where
-    way : (b : Bool) (a : TypeAnswer) (m : Met) → choose b (λ _. g 42) (λ _. onType a (λ _. f) g)
-        ≡ onJudged (choose b (λ _. typed (refusedType 42) noKinds) (λ _. typed (judgedBy a) m) .judged) (λ _. f) g
+    way : (b : Bool) (a : TypeAnswer) (m : List Kind) → choose b (λ _. g 42) (λ _. onType a (λ _. f) g)
+        ≡ onJudged (choose b (λ _. typed (refusedType 42) []) (λ _. typed (judgedBy a) m) .judged) (λ _. f) g
     unfolding choose
     way true a m = refl
     way false (accepted used k) m = refl
@@ -88,14 +86,14 @@ module _ (v : List ℕ) (order : Order) (n : ℕ) where
         → choose long (λ _. g 42) (λ _. onType (checkedType v order .answer) (λ _. f) g) ≡ onJudged (r .judged) (λ _. f) g
     unfolding typedFor
     answer-judged r e =
-        way long (checkedType v order .answer) (checkedType v order .met) ∙ ap (λ (y : Typed). onJudged (y .judged) (λ _. f) g) (sym e)
+        way long (checkedType v order .answer) (checkedType v order .kinds) ∙ ap (λ (y : Typed). onJudged (y .judged) (λ _. f) g) (sym e)
 
 module _ (v : List ℕ) (order : Order) (x : Source) where
   abbrev octets : ℕ
   octets = length (x .octets)
 
   -- under an accepted type a machine word holds the visits and the items
-  pub bounded : (m : Met) → Under v order octets m → Bounded (checked v m) x
+  pub bounded : (m : List Kind) → Under v order octets m → Bounded (checked v m) x
   bounded m u =
       record {
         visits = λ full. let b = visits-bound full x v order (u .kinds) m (u .type) in
@@ -120,10 +118,10 @@ module _ (v : List ℕ) (order : Order) (x : Source) where
     item-refused n number s =
         sym (item-judged n ∙ ap (λ (j : Judged). onJudged j (λ _. givenBy (readingOf anyRoom v order x) n) refusedItem) s)
 
-    pub item-read : (n : ℕ) → r .judged ≡ acceptedType → givenBy (reading anyRoom x (checked v (r .met))) n ≡ itemAnswer v order x n
+    pub item-read : (n : ℕ) → r .judged ≡ acceptedType → givenBy (reading anyRoom x (checked v (r .kinds))) n ≡ itemAnswer v order x n
     unfolding readingOf
     item-read n s =
-        ap (λ (m : Met). givenBy (reading anyRoom x (checked v m)) n) (sym (under v order octets r e s .met))
+        ap (λ (m : List Kind). givenBy (reading anyRoom x (checked v m)) n) (sym (under v order octets r e s .met))
         ∙ sym (item-judged n ∙ ap (λ (j : Judged). onJudged j (λ _. givenBy (readingOf anyRoom v order x) n) refusedItem) s)
 
     module _ (table : List ℕ) where
@@ -141,15 +139,15 @@ module _ (v : List ℕ) (order : Order) (x : Source) where
           (a, ap (λ (y : ValueAnswer). filledBy y table (readingOf (roomFor (roomIn table)) v order x .kept .items)) a)
 
       -- the reading under an accepted type is the answer, and fills the table
-      pub value-read : r .judged ≡ acceptedType → (y : ValueAnswer) (after : List ℕ) → Read (checked v (r .met)) x table y after
+      pub value-read : r .judged ≡ acceptedType → (y : ValueAnswer) (after : List ℕ) → Read (checked v (r .kinds)) x table y after
           → (y ≡ answer) × (after ≡ tableAfter v order x table)
       unfolding tableAfter readingOf
       value-read s y after read =
           let is = under v order octets r e s .met in
-          let a : readInto (checked v (r .met)) x table ≡ answer =
-          ap (λ (m : Met). readInto (checked v m) x table) (sym is) ∙ sym (value-judged (roomIn table) ∙ ap onValue s) in (
+          let a : readInto (checked v (r .kinds)) x table ≡ answer =
+          ap (λ (m : List Kind). readInto (checked v m) x table) (sym is) ∙ sym (value-judged (roomIn table) ∙ ap onValue s) in (
             read .answer ∙ a,
             read .filled
-                ∙ ap (λ (u : ValueAnswer). filledBy u table (reading (roomFor (roomIn table)) x (checked v (r .met)) .kept .items)) a
-                ∙ ap (λ (m : Met). filledBy answer table (reading (roomFor (roomIn table)) x (checked v m) .kept .items)) (sym is),
+                ∙ ap (λ (u : ValueAnswer). filledBy u table (reading (roomFor (roomIn table)) x (checked v (r .kinds)) .kept .items)) a
+                ∙ ap (λ (m : List Kind). filledBy answer table (reading (roomFor (roomIn table)) x (checked v m) .kept .items)) (sym is),
           )

@@ -1,17 +1,18 @@
 -- "The type is checked first, with the same number if refused"; 42 "comes before the type check".
---   typed       the judgement and the kinds
+--   Typed       a judgement, and the kinds of an accepted type; `typed` the same from its parts, `typedBy` what the struct that the code
+--               gives stands for
 --   judgedBy    what a type's check means for a value of it
 --   typedFor    what a value of so many octets is read under
 --   Bounded     a machine word holds the visits and the items of every reading
 use Prim.Native.Nat.{ℕ, _^_, _<_}
-use mathlib.Core.List.{List}
+use mathlib.Core.List.{List, []}
 use mathlib.Core.Bool.{Bool, _||_}
 use lib.Dec.{ltb}
 use lib.ListN.{length}
 use Rattle.choices.specs.Branch.{choose}
 use Rattle.cdr.specs.declared.Order.{Order}
-use Rattle.met.specs.declared.Met.{Met}
-use Rattle.met.specs.Met.{noKinds}
+use Rattle.kinds.specs.declared.Kind.{Kind}
+use Rattle.met.specs.Arrays.{kindsMet}
 use Rattle.cdr.specs.Limit.{octetsLimit}
 use Rattle.typecode.specs.declared.TypeAnswer.{TypeAnswer}
 use Rattle.typecode.specs.TypeCode.{checkedType}
@@ -21,10 +22,17 @@ use Rattle.reading.specs.Reading.{reading}
 use Rattle.reading.specs.Value.{onType}
 use Rattle.value.specs.declared.Judged.{Judged}
 use Rattle.value.specs.declared.Judged.the-variants.{Accepted, Refused}
-use Rattle.value.specs.declared.Typed.{Typed}
+use Rattle.value.specs.declared.Typed as given
 
-abbrev pub typed : Judged → Met → Typed
-typed judged met = record { judged = judged; met = met }
+pub record Typed : Type 0 where
+  pub judged : Judged
+  pub kinds : List Kind
+
+abbrev pub typed : Judged → List Kind → Typed
+typed judged ks = record { judged = judged; kinds = ks }
+
+abbrev pub typedBy : given.Typed → Typed
+typedBy c = typed (c .judged) (kindsMet (c .met))
 
 abbrev pub judgedBy : TypeAnswer → Judged
 judgedBy a = onType a (λ _. Accepted) Refused
@@ -32,8 +40,8 @@ judgedBy a = onType a (λ _. Accepted) Refused
 unfoldable pub typedFor : List ℕ → Order → ℕ → Typed
 typedFor v order n =
     choose (ltb octetsLimit (length v) || ltb octetsLimit n)
-    (λ _. typed (Refused 42) noKinds)
-    (λ _. typed (judgedBy (checkedType v order .answer)) (checkedType v order .met))
+    (λ _. typed (Refused 42) [])
+    (λ _. typed (judgedBy (checkedType v order .answer)) (checkedType v order .kinds))
 
 pub record Bounded (t : Checked) (x : Source) : Type 0 where
   pub visits : (full : ℕ → Bool) → reading full x t .kept .visits < 2 ^ 64

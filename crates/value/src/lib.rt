@@ -7,7 +7,8 @@ ghost use Rattle.reading.specs.Visit.{checked};
 ghost use Rattle.reading.specs.Reading.{anyRoom, reading};
 ghost use Rattle.cdr.specs.Limit.{octetsLimit};
 ghost use Rattle.reading.specs.Value.{roomIn, valueAnswer, tableAfter};
-ghost use Rattle.value.specs.Typed.{judgedBy, typedFor};
+ghost use Rattle.met.specs.Arrays.{kindsMet};
+ghost use Rattle.value.specs.Typed.{typedBy, judgedBy, typedFor};
 ghost use Rattle.value.specs.Single.{givenBy, itemAnswer};
 ghost use Rattle.value.specs.Typed.{Bounded};
 ghost use Rattle.value.specs.Inner.{Read};
@@ -82,7 +83,7 @@ pub fn read_item(
 
 // Checks the type of a value of so many octets.
 pub fn check(t: &[u8], torder: Order, octets: usize) -> Typed
-    ensures { λ r. ⌜ r ≡ typedFor (now (t .entry)) torder «octets» ⌝ }
+    ensures { λ r. ⌜ typedBy r ≡ typedFor (now (t .entry)) torder «octets» ⌝ }
 {
     if over_long(t.len(), octets) {
         return Typed {
@@ -129,8 +130,8 @@ fn read_into(
     start: Index,
     table: &mut [u64],
 ) -> ValueAnswer
-    requires { ⌜ Bounded (checked (now t) met) (source (now v) order start) ⌝ }
-    ensures { λ r. ⌜ Read (checked (now (t .entry)) met) (source (now (v .entry)) order start) (now (table .entry)) r (now (table .exit)) ⌝ }
+    requires { ⌜ Bounded (checked (now t) (kindsMet met)) (source (now v) order start) ⌝ }
+    ensures { λ r. ⌜ Read (checked (now (t .entry)) (kindsMet met)) (source (now (v .entry)) order start) (now (table .entry)) r (now (table .exit)) ⌝ }
 {
     let looking = Mode {
         order,
@@ -163,8 +164,8 @@ fn read_into(
 
 // Reads under a checked type for one item, which goes into a row of its own.
 fn pick(t: &[u8], met: Met, v: &[u8], order: Order, start: Index, number: u64) -> ItemAnswer
-    requires { ⌜ Bounded (checked (now t) met) (source (now v) order start) ⌝ }
-    ensures { λ r. ⌜ r ≡ givenBy (reading anyRoom (source (now (v .entry)) order start) (checked (now (t .entry)) met)) number ⌝ }
+    requires { ⌜ Bounded (checked (now t) (kindsMet met)) (source (now v) order start) ⌝ }
+    ensures { λ r. ⌜ r ≡ givenBy (reading anyRoom (source (now (v .entry)) order start) (checked (now (t .entry)) (kindsMet met))) number ⌝ }
 {
     let mut row = [0u64; 3];
     let picking = Mode {

@@ -1,2 +1,3 @@
--- Laws of the walk.
+-- Laws that other crates cite.
+pub mod Nested
 pub mod Onward

@@ -1,41 +1,70 @@
 -- A loop over the members of a struct: what is left of it gives the same answer.
 use mathlib.Core.Path.{_≡_, refl, sym, ap, _∙_}
-use Prim.Native.Nat.{ℕ, _+_, _-_, _≤_, _<_}
-use native.Mathlib.Nat.{sub-zero}
-use native.Mathlib.Omega.{arith}
+use mathlib.Core.List.{List}
+use Prim.Native.Nat.{ℕ, suc, _+_, _≤_, _<_}
+use Rattle.choices.proofs.Turns.{Left, left-none, left-here, left-more, left-end}
 use Rattle.cdr.specs.declared.Index.{Index}
 use Rattle.cdr.specs.declared.Place.{Place}
-use Rattle.kinds.specs.declared.Fields.{Fields}
-use Rattle.kinds.specs.declared.Parameters.{Parameters}
+use Rattle.cdr.specs.declared.Order.{Order}
+use Rattle.kinds.specs.declared.Inner.{Inner}
+use Rattle.kinds.specs.declared.Labels.the-variants.{NoLabels}
 use Rattle.kinds.specs.declared.Spot.the-variants.{At, Nowhere}
-use Rattle.reading.specs.Sinks.{Source, Sink, St}
-use Rattle.reading.specs.Visit.{Checked, inside, membersAt}
-use Rattle.reading.proofs.Ways.{member, members-end, members-cut, members-stop, members-go}
+use Rattle.kinds.specs.Parts.{memberAt}
+use Rattle.kinds.specs.Members.{membersFrom, typesOf}
+use Rattle.kinds.proofs.Turns.{members-cut, members-more}
+use Rattle.met.specs.Shapes.{Shape}
+use Rattle.reading.specs.Sinks.{Source, Sink, St, after}
+use Rattle.reading.specs.Visit.{Checked}
+use Rattle.reading.proofs.Ways.{goes-on, stops}
 use Rattle.leaves.specs.Lent.{Lent}
 use Rattle.leaves.proofs.Loops.{rows}
+use Rattle.walking.specs.Nested.{membersAt}
 
-module _ (k : Sink Lent) (x : Source) (f : Parameters → St Lent → St Lent) (t : Checked) (g : Fields) where
+module _ (k : Sink Lent) (x : Source) (f : Shape → St Lent → St Lent) (t : Checked) (v : List ℕ) (b : Place) (order : Order) where
+  -- what m members from an index on give
+  abbrev reading : ℕ → Index × St Lent → St Lent
+  reading m s = membersAt k x f t (typesOf (membersFrom NoLabels v b order m (s .0))) (s .1)
+
   -- j of n members are read from s₀ on, the next one stands at i, and s is the state
-  pub record Onward (n j : ℕ) (first : Index) (s₀ : St Lent) (i : Index) (s : St Lent) : Type 0 where
-    pub few : j ≤ n
+  pub record Onward (n : ℕ) (first : Index) (s₀ : St Lent) (j : ℕ) (i : Index) (s : St Lent) : Type 0 where
     pub same : rows s ≡ rows s₀
-    pub rest : membersAt k x f t g (n - j) i s ≡ membersAt k x f t g n first s₀
+    pub left : Left reading n (first, s₀) j (i, s)
+
+  members-end : (i : Index) (s : St Lent) → reading 0 (i, s) ≡ s
+  unfolding membersFrom typesOf membersAt
+  members-end i s = refl
+
+  members-none : (i : Index) (s : St Lent) → memberAt NoLabels v b i order ≡ Nowhere → (m : ℕ) → reading (suc m) (i, s) ≡ s
+  unfolding typesOf membersAt
+  members-none i s e m = rw (members-cut NoLabels v b order i e m)
+
+  members-one : (i : Index) (s : St Lent) (y : Inner) (next : Index) → memberAt NoLabels v b i order ≡ At y next → (m : ℕ)
+      → reading (suc m) (i, s) ≡ after (f (t .look y) s) (λ u. reading m (next, u))
+  unfolding typesOf membersAt
+  members-one i s y next e m = rw (members-more NoLabels v b order i y next e m)
 
   module _ {n : ℕ} {first : Index} {s₀ : St Lent} where
-    pub onward-none : Onward n 0 first s₀ first s₀
-    onward-none = record { few = omega arith; same = refl; rest = ap (λ (j : ℕ). membersAt k x f t g j first s₀) (sub-zero n) }
+    pub onward-none : Onward n first s₀ 0 first s₀
+    onward-none = record { same = refl; left = left-none reading n (first, s₀) }
 
-    module _ {j : ℕ} {i : Index} {s : St Lent} (on : Onward n j first s₀ i s) where
-      pub onward-all : n ≤ j → s ≡ membersAt k x f t g n first s₀
-      onward-all h = sym (members-end k x f t g n j i s h) ∙ on .rest
+    module _ {j : ℕ} {i : Index} {s : St Lent} (on : Onward n first s₀ j i s) where
+      pub onward-all : n ≤ j → s ≡ reading n (first, s₀)
+      onward-all h = sym (members-end i s) ∙ left-end reading n (first, s₀) (on .left) h
 
-      pub onward-cut : j < n → member k x f t g i ≡ Nowhere → s ≡ membersAt k x f t g n first s₀
-      onward-cut h e = sym (members-cut k x f t g n j i s h e) ∙ on .rest
+      pub onward-cut : j < n → memberAt NoLabels v b i order ≡ Nowhere → s ≡ reading n (first, s₀)
+      onward-cut h e = left-here reading n (first, s₀) (on .left) h s (members-none i s e)
 
-      module _ {r : St Lent} (p : Place) (next : Index) (more : j < n) (at : member k x f t g i ≡ At p next) (step : r ≡ f (inside t p) s) where
-        pub onward-stop : (r .fault ≡ 0 → ⊥) → r ≡ membersAt k x f t g n first s₀
-        onward-stop z = sym (members-stop k x f t g n j i p next s r more at step z) ∙ on .rest
+      module _ {r : St Lent} (y : Inner) (next : Index) (more : j < n) (at : memberAt NoLabels v b i order ≡ At y next)
+          (step : r ≡ f (t .look y) s) where
+        pub onward-stop : (r .fault ≡ 0 → ⊥) → r ≡ reading n (first, s₀)
+        onward-stop z =
+            left-here reading n (first, s₀) (on .left) more r
+            (λ m. members-one i s y next at m ∙ stops (λ u. reading m (next, u)) (f (t .look y) s) r step z)
 
-        pub onward-more : rows r ≡ rows s → r .fault ≡ 0 → Onward n (j + 1) first s₀ next r
+        pub onward-more : rows r ≡ rows s → r .fault ≡ 0 → Onward n first s₀ (j + 1) next r
         onward-more e z =
-            record { few = omega arith; same = e ∙ on .same; rest = sym (members-go k x f t g n j i p next s r more at step z) ∙ on .rest }
+            record {
+              same = e ∙ on .same;
+              left = left-more reading n (first, s₀) (on .left) more (next, r)
+                  (λ m. members-one i s y next at m ∙ goes-on (λ u. reading m (next, u)) (f (t .look y) s) r step z);
+            }

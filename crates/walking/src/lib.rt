@@ -1,18 +1,27 @@
 // The walk over a value: the readers of struct, union, sequence and array call one another, with the open levels left falling at each
 // entry. Every function answers for any octets, list of kinds and table.
 ghost use mathlib.Core.Path.{_≡_};
-ghost use Rattle.kinds.specs.declared.Parameters.the-variants.{Leaf};
-ghost use Rattle.reading.specs.Visit.{Checked, checked, inside, elementsAt, sequenceAt, membersAt, exceptionAt, unionAt};
-ghost use Rattle.reading.specs.Reading.{reads, levels, topOf};
+ghost use Rattle.kinds.specs.declared.Inert.the-variants.{Leaf};
+ghost use Rattle.kinds.specs.declared.Labels.the-variants.{NoLabels};
+ghost use Rattle.kinds.specs.Parts.{placeIn};
+ghost use Rattle.kinds.specs.Members.{membersOf, typesOf};
+ghost use Rattle.met.specs.Arrays.{kindsMet};
 ghost use Rattle.met.specs.Discriminants.{labelsFor};
+ghost use Rattle.met.specs.Shapes.{Shape, shapeOf, look};
+ghost use Rattle.reading.specs.Visit.{Checked, checked};
+ghost use Rattle.reading.specs.Reading.{reads, levels, topOf};
 ghost use Rattle.leaves.specs.Walk.{sinkOf, sourceOf, stateOf, startOf};
+ghost use Rattle.walking.specs.Nested.{elementsAt, sequenceAt, membersAt, exceptionAt, unionAt};
 use cdr::Place;
 use kinds::Fields;
+use kinds::Inert;
+use kinds::Inner;
 use kinds::Labels;
 use kinds::Parameters;
 use kinds::Spot;
 use leaves::Cursor;
 use leaves::Mode;
+use met::Arm;
 use met::Met;
 
 // The most levels that may be open.
@@ -23,9 +32,9 @@ const PLANNED: u64 = 8;
 
 // Walks over the value of a checked type from its start.
 pub fn walk(t: &[u8], met: Met, v: &[u8], m: Mode, table: &mut [u64]) -> Cursor
-    ensures { λ r. ⌜ stateOf r (now (table .exit)) ≡ reads (sinkOf m) (sourceOf m (now (v .entry))) (checked (now (t .entry)) met) levels (topOf (checked (now (t .entry)) met)) (stateOf startOf (now (table .entry))) ⌝ }
+    ensures { λ r. ⌜ stateOf r (now (table .exit)) ≡ reads (sinkOf m) (sourceOf m (now (v .entry))) (checked (now (t .entry)) (kindsMet met)) levels (topOf (checked (now (t .entry)) (kindsMet met))) (stateOf startOf (now (table .entry))) ⌝ }
 {
-    let top = plans::within(t, met, Place(0));
+    let top = met::inside_of(t, met, Inner::There(Place(0)));
     visit(t, met, v, m, table, top, LEVELS, Cursor::start())
 }
 
@@ -40,7 +49,7 @@ fn visit(
     left: u32,
     c: Cursor,
 ) -> Cursor
-    ensures { λ r. ⌜ stateOf r (now (table .exit)) ≡ reads (sinkOf m) (sourceOf m (now (v .entry))) (checked (now (t .entry)) met) left p (stateOf c (now (table .entry))) ⌝ }
+    ensures { λ r. ⌜ stateOf r (now (table .exit)) ≡ reads (sinkOf m) (sourceOf m (now (v .entry))) (checked (now (t .entry)) (kindsMet met)) left (shapeOf (now (t .entry)) (kindsMet met) p) (stateOf c (now (table .entry))) ⌝ }
 {
     if left == 0 {
         return c.refused(refusals::TOO_MANY_OPEN);
@@ -49,9 +58,7 @@ fn visit(
     let d = c.visit();
     match p {
         Parameters::Fault => d,
-        Parameters::Leaf(kind) => leaves::leaf(v, m, table, kind, d),
-        Parameters::Text(bound) => leaves::text(v, m, table, bound, d),
-        Parameters::Objref => leaves::reference(v, m, table, d),
+        Parameters::Flat(inert) => leaves::inert(v, m, table, inert, d),
         Parameters::Struct(fields) => struct_members(t, met, v, m, table, fields, below, d),
         Parameters::Exception(fields) => exception(t, met, v, m, table, fields, below, d),
         Parameters::Union {
@@ -59,16 +66,15 @@ fn visit(
             discriminant,
             default,
         } => union_member(t, met, v, m, table, fields, discriminant, default, below, d),
-        Parameters::Enum(names) => leaves::enumerated(v, m, table, names, d),
         Parameters::Sequence { element, bound } => {
             sequence(t, met, v, m, table, element, bound, below, d)
         }
         Parameters::Array { element, length } => {
-            let e = plans::within(t, met, element);
+            let e = met::inside_of(t, met, element);
             elements(t, met, v, m, table, e, length, below, d)
         }
-        Parameters::Alias(place) => {
-            let e = plans::within(t, met, place);
+        Parameters::Alias(inner) => {
+            let e = met::inside_of(t, met, inner);
             visit(t, met, v, m, table, e, below, d)
         }
     }
@@ -85,7 +91,7 @@ fn struct_members(
     left: u32,
     c: Cursor,
 ) -> Cursor
-    ensures { λ r. ⌜ stateOf r (now (table .exit)) ≡ membersAt (sinkOf m) (sourceOf m (now (v .entry))) (reads (sinkOf m) (sourceOf m (now (v .entry))) (checked (now (t .entry)) met) left) (checked (now (t .entry)) met) fields (fields .count) (fields .first) (stateOf c (now (table .entry))) ⌝ }
+    ensures { λ r. ⌜ stateOf r (now (table .exit)) ≡ membersAt (sinkOf m) (sourceOf m (now (v .entry))) (reads (sinkOf m) (sourceOf m (now (v .entry))) (checked (now (t .entry)) (kindsMet met)) left) (checked (now (t .entry)) (kindsMet met)) (typesOf (membersOf NoLabels (now (t .entry)) fields)) (stateOf c (now (table .entry))) ⌝ }
 {
     let start = fields.start;
     let order = fields.order;
@@ -94,16 +100,15 @@ fn struct_members(
     let mut d = c;
     let mut k: u64 = 0;
     while k < count {
-        let Spot::At { place, next } = kinds::member_at(Labels::NoLabels, t, start, at, order)
+        let Spot::At { inner, next } = kinds::member_at(Labels::NoLabels, t, start, at, order)
         else {
             return d;
         };
-        let e = plans::within(t, met, place);
-        let flat = plans::flat_visit(v, m, table, e, left, d);
-        d = flat.cursor;
-        if flat.enters {
-            d = visit(t, met, v, m, table, e, left, d);
-        }
+        let e = met::inside_of(t, met, inner);
+        d = match e {
+            Parameters::Flat(inert) => plans::flat(v, m, table, inert, left, d),
+            _ => visit(t, met, v, m, table, e, left, d),
+        };
         if d.fault != 0 {
             return d;
         }
@@ -124,7 +129,7 @@ fn exception(
     left: u32,
     c: Cursor,
 ) -> Cursor
-    ensures { λ r. ⌜ stateOf r (now (table .exit)) ≡ exceptionAt (sinkOf m) (sourceOf m (now (v .entry))) (reads (sinkOf m) (sourceOf m (now (v .entry))) (checked (now (t .entry)) met) left) (checked (now (t .entry)) met) fields (stateOf c (now (table .entry))) ⌝ }
+    ensures { λ r. ⌜ stateOf r (now (table .exit)) ≡ exceptionAt (sinkOf m) (sourceOf m (now (v .entry))) (reads (sinkOf m) (sourceOf m (now (v .entry))) (checked (now (t .entry)) (kindsMet met)) left) (checked (now (t .entry)) (kindsMet met)) (typesOf (membersOf NoLabels (now (t .entry)) fields)) (stateOf c (now (table .entry))) ⌝ }
 {
     let d = leaves::text(v, m, table, 0, c);
     if d.fault != 0 {
@@ -141,33 +146,29 @@ fn union_member(
     m: Mode,
     table: &mut [u64],
     fields: Fields,
-    discriminant: Place,
+    discriminant: Inner,
     default: u64,
     left: u32,
     c: Cursor,
 ) -> Cursor
-    ensures { λ r. ⌜ stateOf r (now (table .exit)) ≡ unionAt (sinkOf m) (sourceOf m (now (v .entry))) (reads (sinkOf m) (sourceOf m (now (v .entry))) (checked (now (t .entry)) met) left) (checked (now (t .entry)) met) (labelsFor (now (t .entry)) met discriminant) fields discriminant default (stateOf c (now (table .entry))) ⌝ }
+    ensures { λ r. ⌜ stateOf r (now (table .exit)) ≡ unionAt (sinkOf m) (sourceOf m (now (v .entry))) (reads (sinkOf m) (sourceOf m (now (v .entry))) (checked (now (t .entry)) (kindsMet met)) left) (checked (now (t .entry)) (kindsMet met)) discriminant (membersOf (labelsFor (now (t .entry)) (kindsMet met) (placeIn discriminant)) (now (t .entry)) fields) default (stateOf c (now (table .entry))) ⌝ }
 {
-    let switch = plans::within(t, met, discriminant);
-    let flat = plans::flat_visit(v, m, table, switch, left, c);
-    let mut d = flat.cursor;
-    if flat.enters {
-        d = visit(t, met, v, m, table, switch, left, d);
-    }
+    let switch = met::inside_of(t, met, discriminant);
+    let d = match switch {
+        Parameters::Flat(inert) => plans::flat(v, m, table, inert, left, c),
+        _ => visit(t, met, v, m, table, switch, left, c),
+    };
     if d.fault != 0 {
         return d;
     }
-    let labels = met::labels_for(t, met, discriminant);
-    match cases::chosen_of(labels, t, fields, default, d.last) {
-        Spot::At { place, next: _ } => {
-            let e = plans::within(t, met, place);
-            let flat = plans::flat_visit(v, m, table, e, left, d);
-            if flat.enters {
-                return visit(t, met, v, m, table, e, left, flat.cursor);
-            }
-            flat.cursor
-        }
-        Spot::Nowhere => d,
+    let labels = met::labels_for(t, met, kinds::place_in(discriminant));
+    let Arm::Chosen(inner) = met::chosen_of(labels, t, fields, default, d.last) else {
+        return d;
+    };
+    let e = met::inside_of(t, met, inner);
+    match e {
+        Parameters::Flat(inert) => plans::flat(v, m, table, inert, left, d),
+        _ => visit(t, met, v, m, table, e, left, d),
     }
 }
 
@@ -178,12 +179,12 @@ fn sequence(
     v: &[u8],
     m: Mode,
     table: &mut [u64],
-    element: Place,
+    element: Inner,
     bound: u64,
     left: u32,
     c: Cursor,
 ) -> Cursor
-    ensures { λ r. ⌜ stateOf r (now (table .exit)) ≡ sequenceAt (sinkOf m) (sourceOf m (now (v .entry))) (reads (sinkOf m) (sourceOf m (now (v .entry))) (checked (now (t .entry)) met) left) (inside (checked (now (t .entry)) met) element) bound (stateOf c (now (table .entry))) ⌝ }
+    ensures { λ r. ⌜ stateOf r (now (table .exit)) ≡ sequenceAt (sinkOf m) (sourceOf m (now (v .entry))) (reads (sinkOf m) (sourceOf m (now (v .entry))) (checked (now (t .entry)) (kindsMet met)) left) (look (now (t .entry)) (kindsMet met) element) bound (stateOf c (now (table .entry))) ⌝ }
 {
     let d = leaves::count(v, m, table, bound, c);
     if d.fault != 0 {
@@ -192,7 +193,7 @@ fn sequence(
     if d.last == 0 {
         return d;
     }
-    let e = plans::within(t, met, element);
+    let e = met::inside_of(t, met, element);
     elements(t, met, v, m, table, e, d.last, left, d)
 }
 
@@ -208,10 +209,15 @@ fn elements(
     left: u32,
     c: Cursor,
 ) -> Cursor
-    ensures { λ r. ⌜ stateOf r (now (table .exit)) ≡ elementsAt (sinkOf m) (sourceOf m (now (v .entry))) (reads (sinkOf m) (sourceOf m (now (v .entry))) (checked (now (t .entry)) met) left) e count (stateOf c (now (table .entry))) ⌝ }
+    ensures { λ r. ⌜ stateOf r (now (table .exit)) ≡ elementsAt (sinkOf m) (sourceOf m (now (v .entry))) (reads (sinkOf m) (sourceOf m (now (v .entry))) (checked (now (t .entry)) (kindsMet met)) left) (shapeOf (now (t .entry)) (kindsMet met) e) count (stateOf c (now (table .entry))) ⌝ }
 {
     match e {
-        Parameters::Leaf(kind) => leaf_elements(v, m, table, kind, count, left, c),
+        Parameters::Flat(inert) => {
+            if let Inert::Leaf(kind) = inert {
+                return leaf_elements(v, m, table, kind, count, left, c);
+            }
+            each(t, met, v, m, table, e, count, left, c)
+        }
         Parameters::Struct(fields) => {
             if count < PLANNED {
                 return each(t, met, v, m, table, e, count, left, c);
@@ -236,7 +242,7 @@ fn leaf_elements(
     left: u32,
     c: Cursor,
 ) -> Cursor
-    ensures { λ r. ⌜ ((t : Checked) → stateOf r (now (table .exit)) ≡ elementsAt (sinkOf m) (sourceOf m (now (v .entry))) (reads (sinkOf m) (sourceOf m (now (v .entry))) t left) (Leaf kind) count (stateOf c (now (table .entry)))) ⌝ }
+    ensures { λ r. ⌜ ((t : Checked) → stateOf r (now (table .exit)) ≡ elementsAt (sinkOf m) (sourceOf m (now (v .entry))) (reads (sinkOf m) (sourceOf m (now (v .entry))) t left) (Shape.flat (Leaf kind)) count (stateOf c (now (table .entry)))) ⌝ }
 {
     if count == 0 {
         return c;
@@ -259,7 +265,7 @@ fn each(
     left: u32,
     c: Cursor,
 ) -> Cursor
-    ensures { λ r. ⌜ stateOf r (now (table .exit)) ≡ elementsAt (sinkOf m) (sourceOf m (now (v .entry))) (reads (sinkOf m) (sourceOf m (now (v .entry))) (checked (now (t .entry)) met) left) e count (stateOf c (now (table .entry))) ⌝ }
+    ensures { λ r. ⌜ stateOf r (now (table .exit)) ≡ elementsAt (sinkOf m) (sourceOf m (now (v .entry))) (reads (sinkOf m) (sourceOf m (now (v .entry))) (checked (now (t .entry)) (kindsMet met)) left) (shapeOf (now (t .entry)) (kindsMet met) e) count (stateOf c (now (table .entry))) ⌝ }
 {
     let mut d = c;
     let mut k: u64 = 0;

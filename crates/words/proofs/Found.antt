@@ -7,10 +7,11 @@ use native.Mathlib.Numerals.{add-one}
 use native.Mathlib.Omega.{arith}
 use lib.Dec.{eqb}
 use lib.ListN.{getD, length, take, drop, drop-of-length-le}
-use lib.Seq.{drop-cons, take-suc, take-all}
+use lib.Seq.{drop-cons, take-suc, take-all, length-take-le}
 use borrow.Author.Tests.{eq-eqb, ne-eqb}
 use Rattle.choices.specs.Branch.{choose}
 use Rattle.words.specs.Words.{space, wordsFrom, words, sameWord}
+use Rattle.words.specs.Found.{firstEnd}
 
 -- the search for the end of the first word, by the words that the characters before and behind make
 module _ (line : List ℕ) (i : ℕ) (e : wordsFrom (take i line) (drop i line) ≡ words line) where
@@ -30,6 +31,13 @@ module _ (line : List ℕ) (i : ℕ) (e : wordsFrom (take i line) (drop i line) 
   pub word-last : length line ≤ i → words line ≡ line ∷ []
   unfolding wordsFrom
   word-last h = sym e ∙ rw (drop-of-length-le line h, take-all i line h)
+
+-- a first word of so many characters ends behind them, and an only one with the line
+pub ends-at : (line : List ℕ) (i : ℕ) (rest : List (List ℕ)) → i ≤ length line → words line ≡ take i line ∷ rest → i ≡ firstEnd (words line)
+ends-at line i rest h e = rw e (sym (length-take-le i line h))
+
+pub ends-last : (line : List ℕ) (i : ℕ) → i ≤ length line → length line ≤ i → words line ≡ line ∷ [] → i ≡ firstEnd (words line)
+ends-last line i h k e = rw e (omega arith)
 
 -- words compared, by what is left of both
 pub same-unlike : (a b : List ℕ) → (length a ≡ length b → ⊥) → sameWord a b ≡ false

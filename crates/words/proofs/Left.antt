@@ -22,8 +22,8 @@ use Rattle.words.specs.declared.places.Pair.{Pair}
 use Rattle.words.specs.declared.places.Pair.the-variants.{Is as IsPair, NotCoded}
 use Rattle.words.specs.Words.{space, wordsFrom, words, orderWord}
 use Rattle.words.specs.Found.{FirstWord}
-use Rattle.words.specs.Fields.{first, none, orderFirst, numberFirst, codedFirst, noMore}
-use Rattle.words.specs.Inner.{left, part, Within, WordAt, orderAt, CodedRead}
+use Rattle.words.specs.Fields.{first, none, numberFirst, codedFirst, noMore}
+use Rattle.words.specs.Inner.{left, part, Within, WordAt, Passed, OrderRead, CodedRead}
 
 -- a part up to the end of a line
 part-all : (v : List ℕ) (b : ℕ) → take (length v - b) (drop b v) ≡ drop b v
@@ -75,20 +75,27 @@ module _ (line : List ℕ) (from : ℕ) where
 pub word-within : {line : List ℕ} {from : ℕ} {r : Word} → WordAt line from r → (end : ℕ) → r ≡ Upto end → Within line from end
 word-within a end e = rw e at (a .within)
 
+-- and one more is passed
+pub word-passed : {line : List ℕ} {from : ℕ} {r : Word} → WordAt line from r → (end : ℕ) → r ≡ Upto end → Passed line from (end + 1)
+word-passed {line} {from} a end e =
+    let w = word-within a end e in
+    let z : end + 1 - 1 ≡ end = omega arith in
+    record { on = omega (arith, w .forward); inside = omega (arith, w .inside); found = rw (a .found, e, z) }
+
 -- an order, a number
 module _ (line : List ℕ) (from : ℕ) (w : Word) (a : WordAt line from w) where
-  pub order-none : w ≡ NoWord → none ≡ orderFirst (left line from)
-  order-none e = rw (a .found, e)
+  pub order-none : w ≡ NoWord → OrderRead line from NotOrder
+  order-none e = record { read = rw (a .found, e); passed = tt }
 
   pub number-none : w ≡ NoWord → none ≡ numberFirst (left line from)
   number-none e = rw (a .found, e)
 
   module _ (end : ℕ) (e : w ≡ Upto end) where
-    pub order-other : NoOrder ≡ orderWord (part line from end) → none ≡ orderFirst (left line from)
-    order-other n = rw (a .found, e, ← n)
+    pub order-other : NoOrder ≡ orderWord (part line from end) → OrderRead line from NotOrder
+    order-other n = record { read = rw (a .found, e, ← n); passed = tt }
 
-    pub order-is : (order : Order) → Is order ≡ orderWord (part line from end) → first order (left line (end + 1)) ≡ orderFirst (left line from)
-    order-is order n = rw (a .found, e, ← n)
+    pub order-is : (order : Order) → Is order ≡ orderWord (part line from end) → OrderRead line from (IsOrder order (end + 1))
+    order-is order n = record { read = rw (a .found, e, ← n); passed = word-passed a end e }
 
     pub number-other : NotNumber ≡ numberWord (part line from end) → none ≡ numberFirst (left line from)
     number-other n = rw (a .found, e, ← n)
@@ -97,22 +104,29 @@ module _ (line : List ℕ) (from : ℕ) (w : Word) (a : WordAt line from w) wher
     number-is x n = rw (a .found, e, ← n)
 
 -- ORDER and the word behind it
-module _ (line : List ℕ) (from : ℕ) (o : Ordered) (a : orderAt o line ≡ orderFirst (left line from)) where
+module _ (line : List ℕ) (from : ℕ) (o : Ordered) (a : OrderRead line from o) where
   pub coded-none : o ≡ NotOrder → CodedRead line from NotCoded
   unfolding codedFirst
-  coded-none e = record { read = rw (← a, e); within = tt }
+  coded-none e = record { read = rw (← a .read, e); within = tt; passed = tt }
 
   module _ (order : Order) (next : ℕ) (e : o ≡ IsOrder order next) (w : Word) (b : WordAt line next w) where
     pub coded-alone : w ≡ NoWord → CodedRead line from NotCoded
     unfolding codedFirst
-    coded-alone f = record { read = rw (← a, e, b .found, f); within = tt }
+    coded-alone f = record { read = rw (← a .read, e, b .found, f); within = tt; passed = tt }
 
     pub coded-is : (end : ℕ) → w ≡ Upto end → CodedRead line from (IsPair (record { order = order; from = next; end = end }))
     unfolding codedFirst
-    coded-is end f = record { read = rw (← a, e, b .found, f); within = word-within b end f }
+    coded-is end f =
+        let p : Passed line from next = rw e at (a .passed) in
+        record { read = rw (← a .read, e, b .found, f); within = word-within b end f; passed = (p, word-passed b end f) }
 
 pub coded-within : {line : List ℕ} {from : ℕ} {r : Pair} → CodedRead line from r → (c : Coded) → r ≡ IsPair c → Within line (c .from) (c .end)
 coded-within a c e = rw e at (a .within)
+
+-- and it was passed, with ORDER before it
+pub coded-passed : {line : List ℕ} {from : ℕ} {r : Pair} → CodedRead line from r → (c : Coded) → r ≡ IsPair c
+    → Passed line from (c .from) × Passed line (c .from) (c .end + 1)
+coded-passed a c e = rw e at (a .passed)
 
 -- within the line there is a word more
 some-more : {A : Type 0} (begun s : List ℕ) (ended more : A) → noMore (wordsFrom begun s) ended more ≡ more

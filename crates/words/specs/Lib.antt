@@ -2,4 +2,5 @@
 pub mod Words
 pub mod Found
 pub mod Fields
+pub mod Places
 pub mod Inner

@@ -1,7 +1,7 @@
 // The words of a question, one after the other, each from its place in the line.
 ghost use mathlib.Core.Path.{_≡_};
-ghost use Rattle.words.specs.Fields.{orderFirst, numberFirst};
-ghost use Rattle.words.specs.Inner.{WordAt, left, orderAt, CodedRead, numberAt, SubjectRead};
+ghost use Rattle.words.specs.Fields.{numberFirst};
+ghost use Rattle.words.specs.Inner.{WordAt, left, OrderRead, CodedRead, numberAt, SubjectRead};
 use crate::Coded;
 use crate::Subject;
 use cdr::Named;
@@ -50,7 +50,7 @@ pub(crate) fn word_at(line: &[u8], from: usize) -> Word
 
 // An order at a place.
 pub(crate) fn order_at(line: &[u8], from: usize) -> Ordered
-    ensures { λ r. ⌜ orderAt r (now (line .entry)) ≡ orderFirst (left (now (line .entry)) from) ⌝ }
+    ensures { λ r. ⌜ OrderRead (now (line .entry)) from r ⌝ }
 {
     let Word::Upto(end) = word_at(line, from) else {
         return Ordered::NotOrder;

@@ -35,7 +35,7 @@ module _ (v : List ℕ) (order : Order) (x : Source) (to : Target) (count : ℕ)
   y = result v order x to
 
   abbrev t : Checked
-  t = checked v (checkedType v order .met)
+  t = checked v (checkedType v order .kinds)
 
   -- where the value is accepted, with any room or with some: its octets are the result's, which is read beside it
   module _ (full : ℕ → Bool) (accepts : readingOf full v order x .fault ≡ 0) where

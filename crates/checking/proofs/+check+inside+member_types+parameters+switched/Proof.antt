@@ -7,8 +7,11 @@ use native.Mathlib.Omega.{arith}
 use native.Mathlib.Nat.{sub-zero}
 use Rattle.cdr.specs.declared.Size.the-variants.{Four}
 use Rattle.encapsulation.proofs.Fields.{field-facts}
+use Rattle.cdr.specs.declared.Place.{Place}
+use Rattle.checking.specs.Walk.{seen, seenAs, entered}
 use Rattle.checking.specs.Types.{membersAt, compositeAt, typeAt}
-use Rattle.checking.proofs.Ways.{entry-facts, part-facts, type-ends, type-indirection, type-barred, type-enters, members-done, members-refused, members-cut, members-on, switched-refused, switched-wrong, switched-on}
+use Rattle.choices.proofs.Turns.{Left, left-none, left-here, left-more, left-end}
+use Rattle.checking.proofs.Ways.{entry-facts, part-facts, type-ends, type-indirection, type-barred, type-enters, membersFor, members-refused, members-cut, members-on, switched-refused, switched-wrong, switched-on}
 use borrow.Fn.Kinds.{In}
 use borrow.Fn.PlainCycle.{Measures, is, falls, and}
 use Rattle.checking.proofs.check.Reads as check
@@ -27,6 +30,7 @@ use Rattle.checking.proofs.switched.Reads as switched
 use Rattle.checking.proofs.switched.Kinds as switched-kinds
 use Rattle.checking.proofs.+check+inside+member_types+parameters+switched.Lts-switched as switched-lts
 use Rattle.checking.proofs.indirection.Reads as indirection-reads
+use Rattle.checking.proofs.behind.Reads as behind-reads
 use Rattle.checking.proofs.labels_at.Reads as labels-at-reads
 use Rattle.checking.proofs.walks.bounded.Reads as bounded-reads
 use Rattle.checking.proofs.walks.close.Reads as close-reads
@@ -58,7 +62,7 @@ abbrev μ-inside : Measures 2 inside-kinds.ps ℕ
 μ-inside κs a = a .1 .1 .1 .1 .1 .1 .0 * 5 + 4
 
 abbrev μ-member-types : Measures 2 member-types-kinds.ps ℕ
-μ-member-types κs a = a .1 .1 .1 .1 .1 .1 .1 .0 * 5 + 1
+μ-member-types κs a = a .1 .1 .1 .1 .1 .1 .1 .1 .0 * 5 + 1
 
 abbrev μ-parameters : Measures 2 parameters-kinds.ps ℕ
 μ-parameters κs a = a .1 .1 .1 .1 .1 .0 * 5 + 3
@@ -106,7 +110,7 @@ switched-below t =
     and 2 switched-kinds.ps (falls 2 switched-kinds.ps _<_ μ-switched t) switched.Pre
 
 abbrev check-of : ℕ → check-lts.Claims
-check-of t = (read-field-reads.Asked, read-field-reads.Learnt, refused-reads.Asked, refused-reads.Learnt, indirection-reads.Asked, indirection-reads.Learnt, form-of-reads.Asked, form-of-reads.Learnt, count-reads.Asked, count-reads.Learnt, entry-of-reads.Asked, entry-of-reads.Learnt, enter-reads.Asked, enter-reads.Learnt, inside-below t, inside.Post)
+check-of t = (read-field-reads.Asked, read-field-reads.Learnt, refused-reads.Asked, refused-reads.Learnt, indirection-reads.Asked, indirection-reads.Learnt, form-of-reads.Asked, form-of-reads.Learnt, count-reads.Asked, count-reads.Learnt, entry-of-reads.Asked, entry-of-reads.Learnt, behind-reads.Asked, behind-reads.Learnt, enter-reads.Asked, enter-reads.Learnt, inside-below t, inside.Post)
 
 check-read-field-requires : (t : ℕ) → check-lts.Need-read-field-requires (check-of t) (check-at t) check.Post
 check-read-field-requires t c κs = search needs
@@ -123,7 +127,7 @@ check-refused-requires t c κs = search needs
 check-returns : (t : ℕ) → check-lts.Need-returns (check-of t) (check-at t) check.Post
 check-returns t c =
   let a = c .before .before .before .before .before .before .args in
-  c .refused .ensures ∙ type-ends (a .v .now) (a .left) (a .s .now) (a .start) (a .order) (a .at) (a .walk) (sym (c .before .before .before .read-field .ensures) ∙ c .before .enum-told .given .1)
+  c .refused .ensures ∙ type-ends (a .v .now) (a .left) (a .s .now) (a .start) (a .order) (a .at) (seen (a .walk)) (sym (c .before .before .before .read-field .ensures) ∙ c .before .enum-told .given .1)
 
 check-indirection-requires : (t : ℕ) → check-lts.Need-indirection-requires (check-of t) (check-at t) check.Post
 check-indirection-requires t c κs = search needs
@@ -132,7 +136,7 @@ check-returns-2 : (t : ℕ) → check-lts.Need-returns-2 (check-of t) (check-at 
 check-returns-2 t c =
   let a = c .before .before .before .before .before .before .before .before .args in
   let read-field = c .before .before .before .before .before .read-field in
-  c .indirection .ensures ∙ type-indirection (a .v .now) (a .left) (a .s .now) (a .start) (a .order) (a .at) (a .walk) _ _ (sym (read-field .ensures) ∙ c .before .before .before .kind .given .1) (c .before .if1 .taken)
+  c .indirection .ensures ∙ type-indirection (a .v .now) (a .left) (a .s .now) (a .start) (a .order) (a .at) (seen (a .walk)) _ _ (sym (read-field .ensures) ∙ c .before .before .before .kind .given .1) (c .before .if1 .taken)
 
 check-form-of-requires : (t : ℕ) → check-lts.Need-form-of-requires (check-of t) (check-at t) check.Post
 check-form-of-requires t c κs = search needs
@@ -152,45 +156,36 @@ check-refused-requires-2 t c κs = search needs
 check-enum-told-2 : (t : ℕ) → check-lts.Need-enum-told-2 (check-of t) (check-at t) check.Post
 check-enum-told-2 t c = search needs
 
-check-sub-t21 : (t : ℕ) → check-lts.Need-sub-t21 (check-of t) (check-at t) check.Post
-check-sub-t21 t c =
-  let a = c .before .before .before .before .before .before .before .before .before .before .before .before .before .args in
-  let read-field = c .before .before .before .before .before .before .before .before .before .before .read-field in
-  let kind = c .before .before .before .before .before .before .before .before .kind in
-  omega (arith, field-facts (a .s .now) (a .at) Four (a .order) _ _ (sym (read-field .ensures) ∙ kind .given .1) .ends)
-
-check-add-t22 : (t : ℕ) → check-lts.Need-add-t22 (check-of t) (check-at t) check.Post
-check-add-t22 t c =
-  let a = c .before .before .before .before .before .before .before .before .before .before .before .before .before .before .args in
-  let read-field = c .before .before .before .before .before .before .before .before .before .before .before .read-field in
-  let kind = c .before .before .before .before .before .before .before .before .before .kind in
-  let pre = c .before .before .before .before .before .before .before .before .before .before .before .before .before .before .pre in
-  omega (arith, field-facts (a .s .now) (a .at) Four (a .order) _ _ (sym (read-field .ensures) ∙ kind .given .1) .fits, field-facts (a .s .now) (a .at) Four (a .order) _ _ (sym (read-field .ensures) ∙ kind .given .1) .ends, pre .1)
+check-behind-requires : (t : ℕ) → check-lts.Need-behind-requires (check-of t) (check-at t) check.Post
+check-behind-requires t c κs =
+  let a = c .before .before .before .before .before .before .before .before .before .before .before .before .args in
+  let f = field-facts (a .s .now) (a .at) Four (a .order) _ _ (sym (c .before .before .before .before .before .before .before .before .before .read-field .ensures) ∙ c .before .before .before .before .before .before .before .kind .given .1) in
+  (omega (arith, f .ends), omega (arith, f .fits, f .ends, c .before .before .before .before .before .before .before .before .before .before .before .before .pre .1))
 
 check-enter-requires : (t : ℕ) → check-lts.Need-enter-requires (check-of t) (check-at t) check.Post
 check-enter-requires t c κs =
+  let a = c .before .before .before .before .before .before .before .before .before .before .before .before .before .args in
+  let e = entry-facts (c .before .before .before .before .before .form-of .result) _ (a .left) (c .before .before .before .before .count .result) (sym (c .before .before .before .entry-of .ensures) ∙ c .before .enum-told2 .given .1) in
+  let f = field-facts (a .s .now) (a .at) Four (a .order) _ _ (sym (c .before .before .before .before .before .before .before .before .before .before .read-field .ensures) ∙ c .before .before .before .before .before .before .before .before .kind .given .1) in
+  let place = ap (λ (p : Place). p .0) (c .behind .ensures) in
+  (omega (arith, e .room, c .before .before .before .before .count .ensures), omega (arith, place, f .fits, f .ends, c .before .before .before .before .before .before .before .before .before .before .before .before .before .pre .1), omega (arith, f .fits, f .ends, c .before .before .before .before .before .before .before .before .before .before .before .before .before .pre .1))
+
+check-sub-inside : (t : ℕ) → check-lts.Need-sub-inside (check-of t) (check-at t) check.Post
+check-sub-inside t c =
   let form-of = c .before .before .before .before .before .before .form-of in
   let a = c .before .before .before .before .before .before .before .before .before .before .before .before .before .before .args in
   let count = c .before .before .before .before .before .count in
   let entry-of = c .before .before .before .before .entry-of in
-  omega (arith, entry-facts (form-of .result) _ (a .left) (count .result) (sym (entry-of .ensures) ∙ c .before .before .enum-told2 .given .1) .room, count .ensures)
-
-check-sub-inside : (t : ℕ) → check-lts.Need-sub-inside (check-of t) (check-at t) check.Post
-check-sub-inside t c =
-  let form-of = c .before .before .before .before .before .before .before .form-of in
-  let a = c .before .before .before .before .before .before .before .before .before .before .before .before .before .before .before .args in
-  let count = c .before .before .before .before .before .before .count in
-  let entry-of = c .before .before .before .before .before .entry-of in
-  omega (arith, entry-facts (form-of .result) _ (a .left) (count .result) (sym (entry-of .ensures) ∙ c .before .before .before .enum-told2 .given .1) .some)
+  omega (arith, entry-facts (form-of .result) _ (a .left) (count .result) (sym (entry-of .ensures) ∙ c .before .before .enum-told2 .given .1) .some)
 
 check-inside-requires : (t : ℕ) → check-lts.Need-inside-requires (check-of t) (check-at t) check.Post
 check-inside-requires t c κs =
-  let form-of = c .before .before .before .before .before .before .before .form-of in
-  let a = c .before .before .before .before .before .before .before .before .before .before .before .before .before .before .before .args in
-  let count = c .before .before .before .before .before .before .count in
-  let entry-of = c .before .before .before .before .before .entry-of in
-  let enum-told2 = c .before .before .before .enum-told2 in
-  let pre = c .before .before .before .before .before .before .before .before .before .before .before .before .before .before .before .pre in
+  let form-of = c .before .before .before .before .before .before .form-of in
+  let a = c .before .before .before .before .before .before .before .before .before .before .before .before .before .before .args in
+  let count = c .before .before .before .before .before .count in
+  let entry-of = c .before .before .before .before .entry-of in
+  let enum-told2 = c .before .before .enum-told2 in
+  let pre = c .before .before .before .before .before .before .before .before .before .before .before .before .before .before .pre in
   (omega (arith, entry-facts (form-of .result) _ (a .left) (count .result) (sym (entry-of .ensures) ∙ enum-told2 .given .1) .some, pre .0), (omega (arith, pre .1), omega (arith, entry-facts (form-of .result) _ (a .left) (count .result) (sym (entry-of .ensures) ∙ enum-told2 .given .1) .room)))
 
 check-returns-3 : (t : ℕ) → check-lts.Need-returns-3 (check-of t) (check-at t) check.Post
@@ -202,20 +197,21 @@ check-returns-3 t c =
   let form-of = c .before .before .before .before .before .before .form-of in
   let count = c .before .before .before .before .before .count in
   let entry-of = c .before .before .before .before .entry-of in
-  c .refused2 .ensures ∙ type-barred (a .v .now) (a .left) (a .s .now) (a .start) (a .order) (a .at) (a .walk) _ _ (sym (read-field .ensures) ∙ kind .given .1) (if1 .left) (form-of .result) (form-of .ensures) (count .result) (count .ensures) _ (sym (entry-of .ensures) ∙ c .before .before .refusal .given .1)
+  c .refused2 .ensures ∙ type-barred (a .v .now) (a .left) (a .s .now) (a .start) (a .order) (a .at) (seen (a .walk)) _ _ (sym (read-field .ensures) ∙ kind .given .1) (if1 .left) (form-of .result) (form-of .ensures) (count .result) (count .ensures) _ (sym (entry-of .ensures) ∙ c .before .before .refusal .given .1)
 
 check-returns-4 : (t : ℕ) → check-lts.Need-returns-4 (check-of t) (check-at t) check.Post
 check-returns-4 t c =
-  let a = c .before .before .before .before .before .before .before .before .before .before .before .before .before .before .before .before .args in
-  let read-field = c .before .before .before .before .before .before .before .before .before .before .before .before .before .read-field in
-  let kind = c .before .before .before .before .before .before .before .before .before .before .before .kind in
-  let if1 = c .before .before .before .before .before .before .before .before .before .if1 in
-  let form-of = c .before .before .before .before .before .before .before .before .form-of in
-  let count = c .before .before .before .before .before .before .before .count in
-  let entry-of = c .before .before .before .before .before .before .entry-of in
-  let enum-told2 = c .before .before .before .before .enum-told2 in
+  let a = c .before .before .before .before .before .before .before .before .before .before .before .before .before .before .before .args in
+  let read-field = c .before .before .before .before .before .before .before .before .before .before .before .before .read-field in
+  let kind = c .before .before .before .before .before .before .before .before .before .before .kind in
+  let if1 = c .before .before .before .before .before .before .before .before .if1 in
+  let form-of = c .before .before .before .before .before .before .before .form-of in
+  let count = c .before .before .before .before .before .before .count in
+  let entry-of = c .before .before .before .before .before .entry-of in
+  let enum-told2 = c .before .before .before .enum-told2 in
   let enter = c .before .enter in
-  c .inside .ensures ∙ type-enters (a .v .now) (a .left) (a .s .now) (a .start) (a .order) (a .at) (a .walk) _ _ (sym (read-field .ensures) ∙ kind .given .1) (if1 .left) (form-of .result) (form-of .ensures) (count .result) (count .ensures) (sym (entry-of .ensures) ∙ enum-told2 .given .1) (enter .result) (enter .ensures)
+  c .inside .ensures ∙ type-enters (a .v .now) (a .left) (a .s .now) (a .start) (a .order) (a .at) (seen (a .walk)) _ _ (sym (read-field .ensures) ∙ kind .given .1) (if1 .left) (form-of .result) (form-of .ensures) (count .result) (count .ensures) (sym (entry-of .ensures) ∙ enum-told2 .given .1) (seen (enter .result))
+  (enter .ensures ∙ ap (λ (p : Place). entered (seen (a .walk)) p (a .start) (a .order) (form-of .result)) (c .before .before .behind .ensures))
 
 abbrev inside-of : ℕ → inside-lts.Claims
 inside-of t = (refused-reads.Asked, refused-reads.Learnt, close-reads.Asked, close-reads.Learnt, goes-on-reads.Asked, goes-on-reads.Learnt, bounded-reads.Asked, bounded-reads.Learnt, part-at-reads.Asked, part-at-reads.Learnt, parameters-below t, parameters.Post, ended-reads.Asked, ended-reads.Learnt)
@@ -328,16 +324,16 @@ abbrev member-types-of : ℕ → member-types-lts.Claims
 member-types-of t = (name-after-reads.Asked, name-after-reads.Learnt, refused-reads.Asked, refused-reads.Learnt, check-below t, check.Post, goes-on-reads.Asked, goes-on-reads.Learnt)
 
 abbrev member-types-Inv-loop : member-types-lts.InvT-loop
-member-types-Inv-loop v labels s start order first count left w₀ at₀ k₀ w at k =
-    (k ≤ count) × (membersAt v (typeAt v left) labels s start order first (count - k) k at w ≡ membersAt v (typeAt v left) labels s start order first count 0 first w₀)
+member-types-Inv-loop v labels default s start order first count left w₀ at₀ k₀ w at k =
+    Left (membersFor v (typeAt v left) labels default s start order first) count (0, first, seen w₀) k (k, at, seen w)
 
 abbrev member-types-μ-loop : member-types-lts.MeasureT-loop
-member-types-μ-loop v labels s start order first count left w₀ at₀ k₀ w at k = count - k
+member-types-μ-loop v labels default s start order first count left w₀ at₀ k₀ w at k = count - k
 
 member-types-loop-holds : (t : ℕ) → member-types-lts.Need-loop-holds (member-types-of t) (member-types-at t) member-types.Post member-types-Inv-loop member-types-μ-loop
-member-types-loop-holds t c =
+member-types-loop-holds t c = 
   let a = c .before .before .args in
-  (omega arith, ap (λ (x : ℕ). membersAt (a .v .now) (typeAt (a .v .now) (a .left)) (a .labels) (a .s .now) (a .start) (a .order) (a .first) x 0 (a .first) (a .walk)) (sub-zero (a .count)))
+  left-none (membersFor (a .v .now) (typeAt (a .v .now) (a .left)) (a .labels) (a .default) (a .s .now) (a .start) (a .order) (a .first)) (a .count) (0, a .first, seen (a .walk))
 
 member-types-name-after-requires : (t : ℕ) → member-types-lts.Need-name-after-requires (member-types-of t) (member-types-at t) member-types.Post member-types-Inv-loop member-types-μ-loop
 member-types-name-after-requires t c κs = search needs
@@ -349,12 +345,11 @@ member-types-refused-requires : (t : ℕ) → member-types-lts.Need-refused-requ
 member-types-refused-requires t c κs = search needs
 
 member-types-returns : (t : ℕ) → member-types-lts.Need-returns (member-types-of t) (member-types-at t) member-types.Post member-types-Inv-loop member-types-μ-loop
-member-types-returns t c =
+member-types-returns t c = 
   let a = c .before .before .before .before .before .before .before .before .before .args in
   let loop = c .before .before .before .before .before .before .loop in
-  let loop-test = c .before .before .before .before .before .loop-test in
-  let name-after = c .before .before .before .before .name-after in
-  c .refused .ensures ∙ members-refused (a .v .now) (typeAt (a .v .now) (a .left)) (a .labels) (a .s .now) (a .start) (a .order) (a .first) (a .count) (loop .k) (loop .at) (loop .w) (loop-test .taken) _ (sym (name-after .ensures) ∙ c .before .before .name .given .1) ∙ loop .inv .1
+  c .refused .ensures ∙ left-here (membersFor (a .v .now) (typeAt (a .v .now) (a .left)) (a .labels) (a .default) (a .s .now) (a .start) (a .order) (a .first)) (a .count) (0, a .first, seen (a .walk)) (loop .inv) (c .before .before .before .before .before .loop-test .taken) _
+  (members-refused (a .v .now) (typeAt (a .v .now) (a .left)) (a .labels) (a .default) (a .s .now) (a .start) (a .order) (a .first) (loop .k) (loop .at) (seen (loop .w)) _ (sym (c .before .before .before .before .name-after .ensures) ∙ c .before .before .name .given .1))
 
 member-types-enum-known-name-2 : (t : ℕ) → member-types-lts.Need-enum-known-name-2 (member-types-of t) (member-types-at t) member-types.Post member-types-Inv-loop member-types-μ-loop
 member-types-enum-known-name-2 t c = search needs
@@ -369,14 +364,11 @@ member-types-refused-requires-2 : (t : ℕ) → member-types-lts.Need-refused-re
 member-types-refused-requires-2 t c κs = search needs
 
 member-types-returns-2 : (t : ℕ) → member-types-lts.Need-returns-2 (member-types-of t) (member-types-at t) member-types.Post member-types-Inv-loop member-types-μ-loop
-member-types-returns-2 t c =
+member-types-returns-2 t c = 
   let a = c .before .before .before .before .before .before .before .before .before .before .before .before .before .before .args in
   let loop = c .before .before .before .before .before .before .before .before .before .before .before .loop in
-  let loop-test = c .before .before .before .before .before .before .before .before .before .before .loop-test in
-  let name-after = c .before .before .before .before .before .before .before .before .before .name-after in
-  let name2 = c .before .before .before .before .before .before .before .name2 in
-  let check = c .before .before .before .before .before .check in
-  c .refused2 .ensures ∙ members-cut (a .v .now) (typeAt (a .v .now) (a .left)) (a .labels) (a .s .now) (a .start) (a .order) (a .first) (a .count) (loop .k) (loop .at) (loop .w) (loop-test .taken) _ (sym (name-after .ensures) ∙ name2 .given .1) (check .result) (check .ensures) _ (c .before .before .step .given .1) ∙ loop .inv .1
+  c .refused2 .ensures ∙ left-here (membersFor (a .v .now) (typeAt (a .v .now) (a .left)) (a .labels) (a .default) (a .s .now) (a .start) (a .order) (a .first)) (a .count) (0, a .first, seen (a .walk)) (loop .inv) (c .before .before .before .before .before .before .before .before .before .before .loop-test .taken) _
+  (members-cut (a .v .now) (typeAt (a .v .now) (a .left)) (a .labels) (a .default) (a .s .now) (a .start) (a .order) (a .first) (loop .k) (loop .at) (seen (loop .w)) _ (sym (c .before .before .before .before .before .before .before .before .before .name-after .ensures) ∙ c .before .before .before .before .before .before .before .name2 .given .1) (seenAs (c .before .before .before .before .before .check .result)) (c .before .before .before .before .before .check .ensures) _ (c .before .before .step .given .1))
 
 member-types-enum-known-step-2 : (t : ℕ) → member-types-lts.Need-enum-known-step-2 (member-types-of t) (member-types-at t) member-types.Post member-types-Inv-loop member-types-μ-loop
 member-types-enum-known-step-2 t c = search needs
@@ -388,23 +380,21 @@ member-types-loop-less : (t : ℕ) → member-types-lts.Need-loop-less (member-t
 member-types-loop-less t c = search needs
 
 member-types-loop-again : (t : ℕ) → member-types-lts.Need-loop-again (member-types-of t) (member-types-at t) member-types.Post member-types-Inv-loop member-types-μ-loop
-member-types-loop-again t c =
-  let loop-test = c .before .before .before .before .before .before .before .before .before .loop-test in
+member-types-loop-again t c = 
   let a = c .before .before .before .before .before .before .before .before .before .before .before .before .before .args in
   let loop = c .before .before .before .before .before .before .before .before .before .before .loop in
-  let name-after = c .before .before .before .before .before .before .before .before .name-after in
-  let name2 = c .before .before .before .before .before .before .name2 in
-  let check = c .before .before .before .before .check in
-  (omega (arith, loop-test .taken), members-on (a .v .now) (typeAt (a .v .now) (a .left)) (a .labels) (a .s .now) (a .start) (a .order) (a .first) (a .count) (loop .k) (loop .at) (loop .w) (loop-test .taken) _ (sym (name-after .ensures) ∙ name2 .given .1) (check .result) (check .ensures) _ (c .before .step2 .given .1) ∙ loop .inv .1)
+  left-more (membersFor (a .v .now) (typeAt (a .v .now) (a .left)) (a .labels) (a .default) (a .s .now) (a .start) (a .order) (a .first)) (a .count) (0, a .first, seen (a .walk)) (loop .inv) (c .before .before .before .before .before .before .before .before .before .loop-test .taken) _
+  (members-on (a .v .now) (typeAt (a .v .now) (a .left)) (a .labels) (a .default) (a .s .now) (a .start) (a .order) (a .first) (loop .k) (loop .at) (seen (loop .w)) _ (sym (c .before .before .before .before .before .before .before .before .name-after .ensures) ∙ c .before .before .before .before .before .before .name2 .given .1) (seenAs (c .before .before .before .before .check .result)) (c .before .before .before .before .check .ensures) _ (c .before .step2 .given .1))
 
 member-types-goes-on-requires : (t : ℕ) → member-types-lts.Need-goes-on-requires (member-types-of t) (member-types-at t) member-types.Post member-types-Inv-loop member-types-μ-loop
 member-types-goes-on-requires t c κs = search needs
 
 member-types-returns-3 : (t : ℕ) → member-types-lts.Need-returns-3 (member-types-of t) (member-types-at t) member-types.Post member-types-Inv-loop member-types-μ-loop
-member-types-returns-3 t c =
+unfolding membersAt
+member-types-returns-3 t c = 
   let a = c .before .before .before .before .before .args in
   let loop = c .before .before .loop in
-  c .goes-on .ensures ∙ members-done (a .v .now) (typeAt (a .v .now) (a .left)) (a .labels) (a .s .now) (a .start) (a .order) (a .first) (a .count) (loop .k) (loop .at) (loop .w) (c .before .loop-test .left) ∙ loop .inv .1
+  c .goes-on .ensures ∙ left-end (membersFor (a .v .now) (typeAt (a .v .now) (a .left)) (a .labels) (a .default) (a .s .now) (a .start) (a .order) (a .first)) (a .count) (0, a .first, seen (a .walk)) (loop .inv) (c .before .loop-test .left)
 
 abbrev parameters-of : ℕ → parameters-lts.Claims
 parameters-of t = (names-step-reads.Asked, names-step-reads.Learnt, on-reads.Asked, on-reads.Learnt, enum-step-reads.Asked, enum-step-reads.Learnt, head-step-reads.Asked, head-step-reads.Learnt, refused-reads.Asked, refused-reads.Learnt, member-types-below t, member-types.Post, exception-step-reads.Asked, exception-step-reads.Learnt, check-below t, check.Post, then-number-reads.Asked, then-number-reads.Learnt, then-length-reads.Asked, then-length-reads.Learnt, switched-below t, switched.Post)
@@ -604,8 +594,8 @@ switched-enum-known-refusal t c = search needs
 switched-refused-requires-2 : (t : ℕ) → switched-lts.Need-refused-requires-2 (switched-of t) (switched-at t) switched.Post
 switched-refused-requires-2 t c κs = search needs
 
-switched-enum-known-count : (t : ℕ) → switched-lts.Need-enum-known-count (switched-of t) (switched-at t) switched.Post
-switched-enum-known-count t c = search needs
+switched-enum-known-default : (t : ℕ) → switched-lts.Need-enum-known-default (switched-of t) (switched-at t) switched.Post
+switched-enum-known-default t c = search needs
 
 switched-member-types-requires : (t : ℕ) → switched-lts.Need-member-types-requires (switched-of t) (switched-at t) switched.Post
 switched-member-types-requires t c κs = search needs
@@ -614,7 +604,7 @@ switched-returns : (t : ℕ) → switched-lts.Need-returns (switched-of t) (swit
 switched-returns t c =
   let a = c .before .before .before .before .before .before .before .before .before .args in
   let check = c .before .before .before .before .before .before .check in
-  c .refused .ensures ∙ switched-refused (a .v .now) (typeAt (a .v .now) (a .left)) (a .s .now) (a .start) (a .order) (a .at) (a .walk) (check .result) (check .ensures) _ (c .before .before .step .given .1)
+  c .refused .ensures ∙ switched-refused (a .v .now) (typeAt (a .v .now) (a .left)) (a .s .now) (a .start) (a .order) (a .at) (seen (a .walk)) (seenAs (check .result)) (check .ensures) _ (c .before .before .step .given .1)
 
 switched-returns-2 : (t : ℕ) → switched-lts.Need-returns-2 (switched-of t) (switched-at t) switched.Post
 switched-returns-2 t c =
@@ -623,7 +613,7 @@ switched-returns-2 t c =
   let step2 = c .before .before .before .before .before .before .before .step2 in
   let labels-at = c .before .before .before .before .before .labels-at in
   let switch-head = c .before .before .before .before .switch-head in
-  c .refused2 .ensures ∙ switched-wrong (a .v .now) (typeAt (a .v .now) (a .left)) (a .s .now) (a .start) (a .order) (a .at) (a .walk) (check .result) (check .ensures) _ (step2 .given .1) (labels-at .result) (labels-at .ensures) _ (sym (switch-head .ensures) ∙ c .before .before .refusal .given .1)
+  c .refused2 .ensures ∙ switched-wrong (a .v .now) (typeAt (a .v .now) (a .left)) (a .s .now) (a .start) (a .order) (a .at) (seen (a .walk)) (seenAs (check .result)) (check .ensures) _ (step2 .given .1) (labels-at .result) (labels-at .ensures) _ (sym (switch-head .ensures) ∙ c .before .before .refusal .given .1)
 
 switched-returns-3 : (t : ℕ) → switched-lts.Need-returns-3 (switched-of t) (switched-at t) switched.Post
 switched-returns-3 t c =
@@ -632,7 +622,7 @@ switched-returns-3 t c =
   let step2 = c .before .before .before .before .before .before .before .step2 in
   let labels-at = c .before .before .before .before .before .labels-at in
   let switch-head = c .before .before .before .before .switch-head in
-  c .member-types .ensures ∙ switched-on (a .v .now) (typeAt (a .v .now) (a .left)) (a .s .now) (a .start) (a .order) (a .at) (a .walk) (check .result) (check .ensures) _ (step2 .given .1) (labels-at .result) (labels-at .ensures) _ _ (sym (switch-head .ensures) ∙ c .before .before .count .given .1)
+  c .member-types .ensures ∙ switched-on (a .v .now) (typeAt (a .v .now) (a .left)) (a .s .now) (a .start) (a .order) (a .at) (seen (a .walk)) (seenAs (check .result)) (check .ensures) _ (step2 .given .1) (labels-at .result) (labels-at .ensures) _ _ _ (sym (switch-head .ensures) ∙ c .before .before .default .given .1)
 
 pub +check+inside+member-types+parameters+switched-spec : {M : Type 1} → statement M
 +check+inside+member-types+parameters+switched-spec =
@@ -652,8 +642,7 @@ pub +check+inside+member-types+parameters+switched-spec : {M : Type 1} → state
     (check-enum-known-refusal t)
     (check-refused-requires-2 t)
     (check-enum-told-2 t)
-    (check-sub-t21 t)
-    (check-add-t22 t)
+    (check-behind-requires t)
     (check-enter-requires t)
     (check-sub-inside t)
     (check-inside-requires t)
@@ -769,7 +758,7 @@ pub +check+inside+member-types+parameters+switched-spec : {M : Type 1} → state
     (switched-switch-head-requires t)
     (switched-enum-known-refusal t)
     (switched-refused-requires-2 t)
-    (switched-enum-known-count t)
+    (switched-enum-known-default t)
     (switched-member-types-requires t)
     (switched-returns t)
     (switched-returns-2 t)

@@ -24,19 +24,11 @@ returns : tie.Need-returns
 unfolding indirectionAt
 returns c = rw (sym (c .before .before .before .read-field .ensures) ∙ c .before .enum-told .given .1) (c .refused .ensures)
 
-sub-t13 : tie.Need-sub-t13
-sub-t13 c =
-  let a = c .before .before .before .before .before .before .args in
-  let read-field = c .before .before .before .before .read-field in
-  omega (arith, field-facts (a .s .now) (a .at) Four (a .order) _ _ (sym (read-field .ensures) ∙ c .before .before .offset .given .1) .ends)
-
-add-t14 : tie.Need-add-t14
-add-t14 c =
-  let a = c .before .before .before .before .before .before .before .args in
-  let read-field = c .before .before .before .before .before .read-field in
-  let offset = c .before .before .before .offset in
-  let pre = c .before .before .before .before .before .before .before .pre in
-  omega (arith, field-facts (a .s .now) (a .at) Four (a .order) _ _ (sym (read-field .ensures) ∙ offset .given .1) .fits, field-facts (a .s .now) (a .at) Four (a .order) _ _ (sym (read-field .ensures) ∙ offset .given .1) .ends, pre)
+behind-requires : tie.Need-behind-requires
+behind-requires c κs =
+  let a = c .before .before .before .before .before .args in
+  let f = field-facts (a .s .now) (a .at) Four (a .order) _ _ (sym (c .before .before .before .read-field .ensures) ∙ c .before .offset .given .1) in
+  (omega (arith, f .ends), omega (arith, f .fits, f .ends, c .before .before .before .before .before .pre))
 
 target-of-requires : tie.Need-target-of-requires
 target-of-requires c κs = search needs
@@ -56,17 +48,17 @@ refused-requires-2 c κs = search needs
 returns-2 : tie.Need-returns-2
 unfolding indirectionAt
 returns-2 c =
-  let read-field = c .before .before .before .before .before .before .before .before .before .before .read-field in
-  let offset = c .before .before .before .before .before .before .before .before .offset in
+  let read-field = c .before .before .before .before .before .before .before .before .before .read-field in
+  let offset = c .before .before .before .before .before .before .before .offset in
   let target-of = c .before .before .before .before .target-of in
-  rw (sym (read-field .ensures) ∙ offset .given .1, sym (target-of .ensures) ∙ c .before .before .place .given .1) (c .target-step .ensures)
+  rw (sym (read-field .ensures) ∙ offset .given .1, ← c .before .before .before .before .before .behind .ensures, sym (target-of .ensures) ∙ c .before .before .place .given .1) (c .target-step .ensures)
 
 returns-3 : tie.Need-returns-3
 unfolding indirectionAt
 returns-3 c =
-  let read-field = c .before .before .before .before .before .before .before .before .before .read-field in
-  let offset = c .before .before .before .before .before .before .before .offset in
-  rw (sym (read-field .ensures) ∙ offset .given .1, sym (c .before .before .before .target-of .ensures) ∙ c .before .enum-told2 .given .1) (c .refused2 .ensures)
+  let read-field = c .before .before .before .before .before .before .before .before .read-field in
+  let offset = c .before .before .before .before .before .before .offset in
+  rw (sym (read-field .ensures) ∙ offset .given .1, ← c .before .before .before .before .behind .ensures, sym (c .before .before .before .target-of .ensures) ∙ c .before .enum-told2 .given .1) (c .refused2 .ensures)
 
 pub indirection-spec : {M : Type 1} → statement M
 indirection-spec =
@@ -77,8 +69,7 @@ indirection-spec =
     enum-told
     refused-requires
     returns
-    sub-t13
-    add-t14
+    behind-requires
     target-of-requires
     enum-known-place
     target-step-requires

@@ -8,8 +8,11 @@ use Rattle.checking.specs.Types.{labelsAt}
 spot-at-requires : tie.Need-spot-at-requires
 spot-at-requires c κs = search needs
 
-enum-known-place : tie.Need-enum-known-place
-enum-known-place c = search needs
+enum-known-inner : tie.Need-enum-known-inner
+enum-known-inner c = search needs
+
+place-in-requires : tie.Need-place-in-requires
+place-in-requires c κs = search needs
 
 labels-for-requires : tie.Need-labels-for-requires
 labels-for-requires c κs = search needs
@@ -20,8 +23,8 @@ enum-told c = search needs
 returns : tie.Need-returns
 unfolding labelsAt
 returns c =
-  let spot-at = c .before .before .before .before .spot-at in
-  rw (sym (spot-at .ensures) ∙ c .before .before .place .given .1) (c .labels-for .ensures)
+  let spot-at = c .before .before .before .before .before .spot-at in
+  rw (sym (spot-at .ensures) ∙ c .before .before .before .inner .given .1, ← c .before .place-in .ensures) (c .labels-for .ensures)
 
 returns-2 : tie.Need-returns-2
 unfolding labelsAt
@@ -30,4 +33,4 @@ returns-2 c = rw (sym (c .before .before .spot-at .ensures) ∙ c .enum-told .gi
 pub labels-at-spec : {M : Type 1} → statement M
 labels-at-spec =
     tie.close
-    (tie.spec spot-at-requires enum-known-place labels-for-requires enum-told returns returns-2)
+    (tie.spec spot-at-requires enum-known-inner place-in-requires labels-for-requires enum-told returns returns-2)

@@ -4,7 +4,7 @@ use borrow.Author.Needs.{needs}
 use Rattle.cvalues.proofs.haulspar_type.Statement.{statement}
 use Rattle.cvalues.proofs.haulspar_type.Tie as tie
 use mathlib.Core.Path.{_∙_, ap}
-use Rattle.typecode.specs.TypeCode.{checkedType}
+use Rattle.typecode.specs.TypeCode.{checkedType, toldBy}
 use Rattle.cvalues.proofs.Types.{checks-accepted, checks-refused, checks-loop}
 
 order-is-requires : tie.Need-order-is-requires
@@ -12,6 +12,9 @@ order-is-requires c κs = search needs
 
 check-type-requires : tie.Need-check-type-requires
 check-type-requires c κs = search needs
+
+gather-requires : tie.Need-gather-requires
+gather-requires c κs = search needs
 
 enum-known-answer : tie.Need-enum-known-answer
 enum-known-answer c = search needs
@@ -29,22 +32,23 @@ returns : tie.Need-returns
 returns c =
   let a = c .before .before .before .before .before .before .before .before .before .before .before .args in
   let check-type = c .before .before .before .before .before .before .before .before .check-type in
+  let gather = c .before .before .before .before .before .before .before .gather in
   let order-is = c .before .before .before .before .before .before .before .before .before .order-is in
-  checks-accepted (a .octets .now) (a .little) _ _ _ _ (check-type .result) (check-type .ensures ∙ ap (checkedType (a .octets .now)) (order-is .ensures)) _ _ (c .before .before .answer .given .1)
+  checks-accepted (a .octets .now) (a .little) _ _ _ _ (toldBy (check-type .result)) (check-type .ensures ∙ ap (checkedType (a .octets .now)) (order-is .ensures)) (gather .result) (gather .ensures) _ _ (c .before .before .answer .given .1)
 
 returns-2 : tie.Need-returns-2
 returns-2 c =
   let a = c .before .before .before .before .before .before .before .before .before .before .before .args in
   let check-type = c .before .before .before .before .before .before .before .before .check-type in
   let order-is = c .before .before .before .before .before .before .before .before .before .order-is in
-  checks-refused (a .octets .now) (a .little) _ _ _ _ (check-type .result) (check-type .ensures ∙ ap (checkedType (a .octets .now)) (order-is .ensures)) _ (c .before .before .answer2 .given .1) _ (c .number .ensures)
+  checks-refused (a .octets .now) (a .little) _ _ _ _ (toldBy (check-type .result)) (check-type .ensures ∙ ap (checkedType (a .octets .now)) (order-is .ensures)) _ (c .before .before .answer2 .given .1) _ (c .number .ensures)
 
 returns-3 : tie.Need-returns-3
 returns-3 c =
   let a = c .before .before .before .before .before .before .before .before .before .args in
   let check-type = c .before .before .before .before .before .before .check-type in
   let order-is = c .before .before .before .before .before .before .before .order-is in
-  checks-loop (a .octets .now) (a .little) _ _ _ _ (check-type .result) (check-type .ensures ∙ ap (checkedType (a .octets .now)) (order-is .ensures)) (c .enum-told .given .1)
+  checks-loop (a .octets .now) (a .little) _ _ _ _ (toldBy (check-type .result)) (check-type .ensures ∙ ap (checkedType (a .octets .now)) (order-is .ensures)) (c .enum-told .given .1)
 
 pub haulspar-type-spec : {M : Type 1} → statement M
 haulspar-type-spec =
@@ -52,6 +56,7 @@ haulspar-type-spec =
     (tie.spec
     order-is-requires
     check-type-requires
+    gather-requires
     enum-known-answer
     enum-known-answer-2
     number-requires

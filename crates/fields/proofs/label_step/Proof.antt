@@ -2,6 +2,12 @@
 use borrow.Author.Needs.{needs}
 use Rattle.fields.proofs.label_step.Statement.{statement}
 use Rattle.fields.proofs.label_step.Tie as tie
+use Rattle.fields.proofs.label_step.Reads as reads
+use Rattle.fields.proofs.label_step.Lts as lts
+use Rattle.encapsulation.proofs.read_field.Reads as read-field-reads
+use Rattle.fields.proofs.label_before.Reads as label-before-reads
+use Rattle.met.proofs.counts.Reads as counts-reads
+use Rattle.met.proofs.out_of_kind.Reads as out-of-kind-reads
 use mathlib.Core.Path.{sym, _∙_}
 
 enum-known-labels : tie.Need-enum-known-labels
@@ -23,35 +29,28 @@ enum-told-2 : tie.Need-enum-told-2
 enum-told-2 c = search needs
 
 returns-2 : tie.Need-returns-2
-returns-2 c =
-  let labels = c .before .before .before .before .labels in
-  rw (labels .given .1, sym (c .before .before .read-field .ensures) ∙ c .enum-told2 .given .1)
+returns-2 c = rw (c .before .before .before .before .labels .given .1, sym (c .before .before .read-field .ensures) ∙ c .enum-told2 .given .1)
+
+counts-requires : tie.Need-counts-requires
+counts-requires c κs = search needs
 
 out-of-kind-requires : tie.Need-out-of-kind-requires
 out-of-kind-requires c κs = search needs
 
 returns-3 : tie.Need-returns-3
-returns-3 c =
-  let labels = c .before .before .before .before .before .before .before .labels in
-  let read-field = c .before .before .before .before .before .read-field in
-  rw (labels .given .1, sym (read-field .ensures) ∙ c .before .before .before .label .given .1, sym (c .before .out-of-kind .ensures) ∙ c .if1 .taken)
+returns-3 c = rw (c .before .before .before .before .before .before .before .before .before .labels .given .1, sym (c .before .before .before .before .before .before .before .read-field .ensures) ∙ c .before .before .before .before .before .label .given .1, sym (c .before .out-of-kind .ensures) ∙ c .if2 .taken)
 
-label-among-requires : tie.Need-label-among-requires
-label-among-requires c κs = search needs
+label-before-requires : tie.Need-label-before-requires
+label-before-requires c κs = search needs
 
 returns-4 : tie.Need-returns-4
-returns-4 c =
-  let labels = c .before .before .before .before .before .before .before .before .before .labels in
-  let read-field = c .before .before .before .before .before .before .before .read-field in
-  let label = c .before .before .before .before .before .label in
-  rw (labels .given .1, sym (read-field .ensures) ∙ label .given .1, sym (c .before .before .before .out-of-kind .ensures) ∙ c .before .before .if1 .left, sym (c .before .label-among .ensures) ∙ c .if2 .taken)
+returns-4 c = rw (c .before .before .before .before .before .before .before .before .before .before .before .labels .given .1, sym (c .before .before .before .before .before .before .before .before .before .read-field .ensures) ∙ c .before .before .before .before .before .before .before .label .given .1, sym (c .before .before .before .out-of-kind .ensures) ∙ c .before .before .if2 .left, sym (c .before .label-before .ensures) ∙ c .if3 .taken)
 
 returns-5 : tie.Need-returns-5
-returns-5 c =
-  let labels = c .before .before .before .before .before .before .before .before .before .labels in
-  let read-field = c .before .before .before .before .before .before .before .read-field in
-  let label = c .before .before .before .before .before .label in
-  rw (labels .given .1, sym (read-field .ensures) ∙ label .given .1, sym (c .before .before .before .out-of-kind .ensures) ∙ c .before .before .if1 .left, sym (c .before .label-among .ensures) ∙ c .if2 .left)
+returns-5 c = rw (c .before .before .before .before .before .before .before .before .before .before .before .labels .given .1, sym (c .before .before .before .before .before .before .before .before .before .read-field .ensures) ∙ c .before .before .before .before .before .before .before .label .given .1, sym (c .before .before .before .out-of-kind .ensures) ∙ c .before .before .if2 .left, sym (c .before .label-before .ensures) ∙ c .if3 .left)
+
+returns-6 : tie.Need-returns-6
+returns-6 c = search needs
 
 pub label-step-spec : {M : Type 1} → statement M
 label-step-spec =
@@ -64,8 +63,10 @@ label-step-spec =
     enum-known-label
     enum-told-2
     returns-2
+    counts-requires
     out-of-kind-requires
     returns-3
-    label-among-requires
+    label-before-requires
     returns-4
-    returns-5)
+    returns-5
+    returns-6)

@@ -1,4 +1,4 @@
--- The parameters of the kind at a place, in the encapsulation that starts at a place.
+-- The parameters of a kind that is written.
 use borrow.Author.Needs.{needs}
 use Rattle.kinds.proofs.parameters_at.Statement.{statement}
 use Rattle.kinds.proofs.parameters_at.Tie as tie
@@ -11,8 +11,8 @@ since-requires c κs = search needs
 field-in-requires : tie.Need-field-in-requires
 field-in-requires c κs = search needs
 
-enum-known-kind : tie.Need-enum-known-kind
-enum-known-kind c = search needs
+enum-known-value : tie.Need-enum-known-value
+enum-known-value c = search needs
 
 form-of-requires : tie.Need-form-of-requires
 form-of-requires c κs = search needs
@@ -28,7 +28,7 @@ unfolding parametersAt
 returns c =
   let since = c .before .before .before .before .before .before .since in
   let field-in = c .before .before .before .before .before .field-in in
-  rw (← since .ensures, sym (field-in .ensures) ∙ c .before .before .before .kind .given .1, ← c .before .form-of .ensures) (c .parameters-after .ensures)
+  rw (← since .ensures, sym (field-in .ensures) ∙ c .before .before .before .value .given .1, ← c .before .form-of .ensures) (c .parameters-after .ensures)
 
 returns-2 : tie.Need-returns-2
 unfolding parametersAt
@@ -40,7 +40,7 @@ parameters-at-spec =
     (tie.spec
     since-requires
     field-in-requires
-    enum-known-kind
+    enum-known-value
     form-of-requires
     parameters-after-requires
     enum-told

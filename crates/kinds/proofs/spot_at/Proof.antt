@@ -40,19 +40,11 @@ skip-kind-requires c κs = search needs
 enum-known-over : tie.Need-enum-known-over
 enum-known-over c = search needs
 
-sub-t14 : tie.Need-sub-t14
-sub-t14 c =
-  let a = c .before .before .before .before .before .before .before .before .before .before .before .before .args in
-  let field-in = c .before .before .before .before .before .before .before .before .before .before .field-in in
-  let kind = c .before .before .before .before .before .before .before .before .kind in
-  omega (arith, field-inside (a .v .now) (a .start) (a .at) Four (a .order) _ _ (sym (field-in .ensures) ∙ kind .given .1) .0)
-
-add-t15 : tie.Need-add-t15
-add-t15 c =
-  let a = c .before .before .before .before .before .before .before .before .before .before .before .before .before .args in
-  let field-in = c .before .before .before .before .before .before .before .before .before .before .before .field-in in
-  let kind = c .before .before .before .before .before .before .before .before .before .kind in
-  omega (arith, field-inside (a .v .now) (a .start) (a .at) Four (a .order) _ _ (sym (field-in .ensures) ∙ kind .given .1) .1)
+behind-requires : tie.Need-behind-requires
+behind-requires c κs =
+  let a = c .before .before .before .before .before .before .before .before .before .before .before .args in
+  let f = field-inside (a .v .now) (a .start) (a .at) Four (a .order) _ _ (sym (c .before .before .before .before .before .before .before .before .before .field-in .ensures) ∙ c .before .before .before .before .before .before .before .kind .given .1) in
+  (omega (arith, f .0), omega (arith, f .1))
 
 enum-told-2 : tie.Need-enum-told-2
 enum-told-2 c = search needs
@@ -60,12 +52,9 @@ enum-told-2 c = search needs
 returns-3 : tie.Need-returns-3
 unfolding spotAt
 returns-3 c =
-  let field-in = c .before .before .before .before .before .before .before .before .before .before .before .field-in in
-  let kind = c .before .before .before .before .before .before .before .before .before .kind in
-  let if1 = c .before .before .before .before .before .before .before .if1 in
-  let form-of = c .before .before .before .before .before .before .form-of in
-  let skip-kind = c .before .before .before .before .before .skip-kind in
-  rw (sym (field-in .ensures) ∙ kind .given .1, ne-eqb _ _ (if1 .left), ← form-of .ensures, sym (skip-kind .ensures) ∙ c .before .before .before .over .given .1)
+  let given = sym (c .before .before .before .before .before .before .before .before .before .before .field-in .ensures) ∙ c .before .before .before .before .before .before .before .before .kind .given .1 in
+  let passes = sym (c .before .before .before .before .skip-kind .ensures) ∙ c .before .before .over .given .1 in
+  rw (given, ne-eqb _ _ (c .before .before .before .before .before .before .if1 .left), ← c .before .before .before .before .before .form-of .ensures, passes, ← c .behind .ensures)
 
 returns-4 : tie.Need-returns-4
 unfolding spotAt
@@ -88,8 +77,7 @@ spot-at-spec =
     form-of-requires
     skip-kind-requires
     enum-known-over
-    sub-t14
-    add-t15
+    behind-requires
     enum-told-2
     returns-3
     returns-4)

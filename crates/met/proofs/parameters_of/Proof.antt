@@ -2,25 +2,23 @@
 use borrow.Author.Needs.{needs}
 use Rattle.met.proofs.parameters_of.Statement.{statement}
 use Rattle.met.proofs.parameters_of.Tie as tie
+use Rattle.met.proofs.parameters_of.Reads as reads
+use Rattle.met.proofs.parameters_of.Lts as lts
+use Rattle.kinds.proofs.parameters_at.Reads as parameters-at-reads
+use Rattle.met.proofs.entry_at.Reads as entry-at-reads
+use mathlib.Core.Path.{_≡_, sym, ap, _∙_}
+use Rattle.kinds.specs.Parameters.{parametersAt}
 use Rattle.met.specs.Met.{parametersOf}
 
-entry-requires : tie.Need-entry-requires
-entry-requires c κs = search needs
-
-entry-requires-2 : tie.Need-entry-requires-2
-entry-requires-2 c κs = search needs
-
-order-entry-requires : tie.Need-order-entry-requires
-order-entry-requires c κs = search needs
+entry-at-requires : tie.Need-entry-at-requires
+entry-at-requires c κs = search needs
 
 parameters-at-requires : tie.Need-parameters-at-requires
 parameters-at-requires c κs = search needs
 
 returns : tie.Need-returns
 unfolding parametersOf
-returns c = rw (← c .before .before .before .entry .ensures, ← c .before .before .entry2 .ensures, ← c .before .order-entry .ensures) (c .parameters-at .ensures)
+returns c = c .parameters-at .ensures ∙ ap (parametersAt (c .before .before .before .args .v .now)) (c .before .entry-at .ensures)
 
 pub parameters-of-spec : {M : Type 1} → statement M
-parameters-of-spec =
-    tie.close
-    (tie.spec entry-requires entry-requires-2 order-entry-requires parameters-at-requires returns)
+parameters-of-spec = tie.close (tie.spec entry-at-requires parameters-at-requires returns)

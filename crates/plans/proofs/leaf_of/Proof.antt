@@ -2,20 +2,22 @@
 use borrow.Author.Needs.{needs}
 use Rattle.plans.proofs.leaf_of.Statement.{statement}
 use Rattle.plans.proofs.leaf_of.Tie as tie
-use mathlib.Core.Path.{refl, sym, ap, _∙_}
-use Rattle.kinds.specs.declared.Parameters.the-variants.{Leaf}
+use Rattle.met.specs.Shapes.{shapeOf}
+use Rattle.plans.specs.Plans.{leafKind}
+use Rattle.plans.proofs.Steps.{other-none}
 
 enum-known-e : tie.Need-enum-known-e
 enum-known-e c = search needs
 
-narrow-requires : tie.Need-narrow-requires
-narrow-requires c κs = search needs
+inert-kind-requires : tie.Need-inert-kind-requires
+inert-kind-requires c κs = search needs
 
 returns : tie.Need-returns
-returns c = λ h. c .before .before .e .given .1 ∙ ap Leaf (sym (c .narrow .ensures h))
+unfolding shapeOf leafKind
+returns c = λ v met. rw (c .before .before .e .given .1) (c .inert-kind .ensures)
 
 returns-2 : tie.Need-returns-2
-returns-2 c = λ h. absurd (h refl)
+returns-2 c = other-none (c .before .args .e) (c .match .keys2)
 
 pub leaf-of-spec : {M : Type 1} → statement M
-leaf-of-spec = tie.close (tie.spec enum-known-e narrow-requires returns returns-2)
+leaf-of-spec = tie.close (tie.spec enum-known-e inert-kind-requires returns returns-2)

@@ -44,7 +44,11 @@ returns c =
   let leaf = c .before .before .before .before .leaf in
   let kind-at = c .before .before .before .before .before .before .kind-at in
   let visit = c .before .before .before .before .before .visit in
-  stepping-stop (sinkOf (a .m)) (sourceOf (a .m) (a .v .now)) (a .plan .kinds) (loop .inv) (loop-test .taken) (leaf .ensures ∙ ap (leafAt (sinkOf (a .m)) (sourceOf (a .m) (a .v .now)) (kind-at .result)) (visit .ensures (a .m) (loop .table)) ∙ ap (λ (i : ℕ). leafAt (sinkOf (a .m)) (sourceOf (a .m) (a .v .now)) i (begun (sinkOf (a .m)) (stateOf (loop .d) (loop .table)))) (kind-at .ensures)) (c .if1 .taken)
+  let k = sinkOf (a .m) in
+  let x = sourceOf (a .m) (a .v .now) in
+  let step = leaf .ensures ∙ ap (leafAt k x (kind-at .result)) (visit .ensures (a .m) (loop .table))
+  ∙ ap (λ (i : ℕ). leafAt k x i (begun k (stateOf (loop .d) (loop .table)))) (kind-at .ensures) in
+  stepping-stop k x (a .plan .kinds) (loop .inv) (loop-test .taken) step (c .if1 .taken)
 
 add-k : tie.Need-add-k Inv-loop μ-loop
 add-k c = search (needs, c .before .before .before .before .before .before .before .before .before .before .before .before .before .good .1 .1 .1 .0)
@@ -60,7 +64,11 @@ loop-again c =
   let leaf = c .before .before .before .before .leaf in
   let kind-at = c .before .before .before .before .before .before .kind-at in
   let visit = c .before .before .before .before .before .visit in
-  stepping-more (sinkOf (a .m)) (sourceOf (a .m) (a .v .now)) (a .plan .kinds) (loop .inv) (loop-test .taken) (leaf .ensures ∙ ap (leafAt (sinkOf (a .m)) (sourceOf (a .m) (a .v .now)) (kind-at .result)) (visit .ensures (a .m) (loop .table)) ∙ ap (λ (i : ℕ). leafAt (sinkOf (a .m)) (sourceOf (a .m) (a .v .now)) i (begun (sinkOf (a .m)) (stateOf (loop .d) (loop .table)))) (kind-at .ensures)) (leaf .kept .1 .1 .0) (c .if1 .left)
+  let k = sinkOf (a .m) in
+  let x = sourceOf (a .m) (a .v .now) in
+  let step = leaf .ensures ∙ ap (leafAt k x (kind-at .result)) (visit .ensures (a .m) (loop .table))
+  ∙ ap (λ (i : ℕ). leafAt k x i (begun k (stateOf (loop .d) (loop .table)))) (kind-at .ensures) in
+  stepping-more k x (a .plan .kinds) (loop .inv) (loop-test .taken) step (leaf .kept .1 .1 .0) (c .if1 .left)
 
 same-length-2 : tie.Need-same-length-2 Inv-loop μ-loop
 same-length-2 c = c .before .loop .inv .same

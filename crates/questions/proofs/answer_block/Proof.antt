@@ -1,16 +1,17 @@
 -- The turns go on in the block, and each is answered.
-use mathlib.Core.Path.{_≡_, refl, ap, _∙_}
+use mathlib.Core.Path.{ap}
 use Prim.Native.Nat.{ℕ, _-_}
 use native.Mathlib.Omega.{arith}
 use lib.ListN.{length}
-use Rattle.questions.specs.Turns.{Onto}
-use Rattle.questions.proofs.Turns.{onto-self, onto-then, block-answered}
+use Rattle.questions.specs.Blocks.{workOf}
+use Rattle.questions.proofs.Blocks.{Going, going-start, going-turn}
+use Rattle.questions.proofs.Turns.{block-answered}
 use borrow.Author.Needs.{needs}
 use Rattle.questions.proofs.answer_block.Statement.{statement}
 use Rattle.questions.proofs.answer_block.Tie as tie
 
 abbrev Inv-loop : tie.InvT-loop
-Inv-loop block from line₀ out₀ table₀ kept at₀ line out table at = Onto block at₀ line₀ out₀ at line out × (length table ≡ length table₀)
+Inv-loop block from line₀ out₀ table₀ kept at₀ line out table at = Going block (workOf at₀ line₀ out₀ table₀) (workOf at line out table)
 
 abbrev μ-loop : tie.MeasureT-loop
 μ-loop block from line₀ out₀ table₀ kept at₀ line out table at = length block - at .next
@@ -19,7 +20,7 @@ least-requires : tie.Need-least-requires Inv-loop μ-loop
 least-requires c κs = search needs
 
 loop-holds : tie.Need-loop-holds Inv-loop μ-loop
-loop-holds c = (onto-self _ _ _ _, refl)
+loop-holds c = going-start _ _
 
 goes-on-requires : tie.Need-goes-on-requires Inv-loop μ-loop
 goes-on-requires c κs = search needs
@@ -34,31 +35,33 @@ loop-less c =
   let turn = c .before .before .before .before .before .before .turn in
   let goes-on = c .before .before .before .before .before .before .before .before .before .before .before .goes-on in
   let if1 = c .before .before .before .before .before .before .before .before .before .before .if1 in
-  omega (arith, turn .ensures .0, goes-on .ensures .0 (if1 .taken) .more)
+  omega (arith, turn .ensures .on, goes-on .ensures .0 (if1 .taken) .more)
 
 loop-again : tie.Need-loop-again Inv-loop μ-loop
 loop-again c =
   let loop = c .before .before .before .before .before .before .before .before .before .before .before .before .loop in
   let turn = c .before .before .before .before .before .before .turn in
-  (onto-then (loop .inv .0) (turn .ensures .1), turn .kept .1 .1 .1 .0 ∙ loop .inv .1)
+  let goes-on = c .before .before .before .before .before .before .before .before .before .before .before .goes-on in
+  let if1 = c .before .before .before .before .before .before .before .before .before .before .if1 in
+  going-turn (loop .inv) (goes-on .ensures .0 (if1 .taken)) (turn .ensures) (turn .kept .1 .1 .1 .0)
 
 same-length : tie.Need-same-length Inv-loop μ-loop
-same-length c = c .before .before .loop .inv .0 .lined
+same-length c = c .before .before .loop .inv .onto .lined
 
 same-length-2 : tie.Need-same-length-2 Inv-loop μ-loop
-same-length-2 c = c .before .before .loop .inv .0 .sized
+same-length-2 c = c .before .before .loop .inv .onto .sized
 
 same-length-3 : tie.Need-same-length-3 Inv-loop μ-loop
-same-length-3 c = c .before .before .loop .inv .1
+same-length-3 c = c .before .before .loop .inv .tabled
 
 returns : tie.Need-returns Inv-loop μ-loop
 returns c =
   let a = c .before .before .before .before .before .before .before .before .args in
   let loop = c .before .before .loop in
   let o = a in
-    block-answered (o .block .now) (o .from) (o .line .now) (o .out .now) (length (o .table .now)) (o .kept) _ _ _ _
-    (ap (λ (n : ℕ). record { kept = o .kept; next = n; filled = 0 }) (c .before .before .before .least .ensures)) (loop .inv .0)
-    (λ g. c .before .goes-on .ensures .1 (c .if1 .left) (rw (loop .inv .1) g))
+    block-answered (o .block .now) (o .from) (o .line .now) (o .out .now) (o .table .now) (o .kept) _ _ _ _ _
+    (ap (λ (n : ℕ). record { kept = o .kept; next = n; filled = 0 }) (c .before .before .before .least .ensures)) (loop .inv)
+    (c .before .goes-on .ensures .1 (c .if1 .left))
 
 pub answer-block-spec : {M : Type 1} → statement M
 answer-block-spec =

@@ -60,11 +60,12 @@ returns c =
   let reply-to = c .before .before .before .before .before .before .before .before .before .before .before .reply-to in
   let octets-of = c .before .before .before .before .before .before .octets-of in
   let numbers-of = c .before .before .before .before .before .before .before .numbers-of in
-  subst (λ (xs : List ℕ). Stored (a .out .now) (a .at) xs (write-reply .result) (write-reply .last .0))
+  (subst (λ (xs : List ℕ). Stored (a .out .now) (a .at) xs (write-reply .result) (write-reply .last .0))
     (ap (λ (k : ℕ). replyText (reply-to .result) (itemsOf (take k (reply-to .last .1 .0))) (take (octets-of .result) (reply-to .last .1 .1 .0))) (numbers-of .ensures)
     ∙ ap (λ (k : ℕ). replyText (reply-to .result) (itemsOf (take (numbersOf (reply-to .result)) (reply-to .last .1 .0))) (take k (reply-to .last .1 .1 .0))) (octets-of .ensures)
-    ∙ replied-text (a .line .now) _ _ _ (reply-to .ensures .0) (reply-to .ensures .1))
-    (write-reply .ensures)
+    ∙ replied-text (a .line .now) _ _ _ _ (reply-to .ensures .0) (reply-to .ensures .1))
+    (write-reply .ensures),
+    reply-to .ensures .0 .filled)
 
 pub answer-line-spec : {M : Type 1} → statement M
 answer-line-spec =

@@ -51,7 +51,7 @@ returns-3 c =
   let first-end = c .before .before .before .before .before .before .before .before .before .before .first-end in
   let if2 = c .before .before .before .before .before .before .before .before .before .if2 in
   let reply-words = c .before .before .before .before .reply-words in
-  line-words (a .line .now) _ _ _ (if1 .left) _ (first-end .ensures) (omega (arith, if2 .left, first-end .ensures .within)) (reply-words .ensures)
+  line-words (a .line .now) _ _ _ (if1 .left) _ (first-end .ensures) (omega (arith, if2 .left, first-end .ensures .within)) _ (reply-words .ensures)
 
 pub reply-to-spec : {M : Type 1} → statement M
 reply-to-spec =

@@ -38,7 +38,7 @@ returns-2 c =
   let same = c .before .before .before .before .before .before .before .before .same in
   let if2 = c .before .before .before .before .if2 in
   let same2 = c .before .before .before .before .before .same2 in
-  word-value (a .word .now) _ _ _ _ (sym (if1 .left) ∙ same .ensures) (sym (if2 .taken) ∙ same2 .ensures) (c .before .before .reply-value .ensures)
+  word-value (a .word .now) _ _ _ _ (sym (if1 .left) ∙ same .ensures) (sym (if2 .taken) ∙ same2 .ensures) _ (c .before .before .reply-value .ensures)
 
 slice-aggregate-same-3 : tie.Need-slice-aggregate-same-3
 slice-aggregate-same-3 c = search needs

@@ -5,10 +5,11 @@ use borrow.Author.Needs.{needs}
 use Rattle.steps.proofs.Members.{Members, members-none, members-cut, members-more, members-all}
 use Rattle.steps.proofs.member_steps.Statement.{statement}
 use Rattle.steps.proofs.member_steps.Tie as tie
+use Rattle.met.specs.Arrays.{kindsMet}
 
 abbrev Inv-loop : tie.InvT-loop
 Inv-loop labels v met i start order count noted₀ at₀ k₀ noted at k =
-    Members labels v met start order i count (noted₀ .rows) at₀ (noted .rows) at k
+    Members labels v (kindsMet met) start order i count (noted₀ .rows) at₀ (noted .rows) at k
 
 abbrev μ-loop : tie.MeasureT-loop
 μ-loop labels v met i start order count noted₀ at₀ k₀ noted at k = count - k
@@ -19,8 +20,8 @@ loop-holds c = members-none
 member-at-requires : tie.Need-member-at-requires Inv-loop μ-loop
 member-at-requires c κs = search needs
 
-enum-known-place : tie.Need-enum-known-place Inv-loop μ-loop
-enum-known-place c = search needs
+enum-known-inner : tie.Need-enum-known-inner Inv-loop μ-loop
+enum-known-inner c = search needs
 
 enum-told : tie.Need-enum-told Inv-loop μ-loop
 enum-told c = search needs
@@ -30,6 +31,9 @@ returns c =
     let at-member = c .before .before in
     let at-test = at-member .before in
     members-cut (at-test .before .loop .inv) (at-test .loop-test .taken) (sym (at-member .member-at .ensures) ∙ c .enum-told .given .1)
+
+place-in-requires : tie.Need-place-in-requires Inv-loop μ-loop
+place-in-requires c κs = search needs
 
 note-requires : tie.Need-note-requires Inv-loop μ-loop
 note-requires c κs = search needs
@@ -41,12 +45,9 @@ loop-less : tie.Need-loop-less Inv-loop μ-loop
 loop-less c = search needs
 
 loop-again : tie.Need-loop-again Inv-loop μ-loop
-loop-again c =
-    let at-place = c .before .before in
-    let at-member = at-place .before .before in
-    let at-test = at-member .before in
-    let found = sym (at-member .member-at .ensures) ∙ at-place .place .given .1 in
-    members-more (at-test .before .loop .inv) (at-test .loop-test .taken) found (c .note .ensures)
+loop-again c = 
+  let found = sym (c .before .before .before .before .before .member-at .ensures) ∙ c .before .before .before .inner .given .1 in
+  members-more (c .before .before .before .before .before .before .before .loop .inv) (c .before .before .before .before .before .before .loop-test .taken) found (c .before .place-in .ensures) (c .note .ensures)
 
 returns-2 : tie.Need-returns-2 Inv-loop μ-loop
 returns-2 c = members-all (c .before .loop .inv) (c .loop-test .left)
@@ -59,9 +60,10 @@ member-steps-spec =
     μ-loop
     loop-holds
     member-at-requires
-    enum-known-place
+    enum-known-inner
     enum-told
     returns
+    place-in-requires
     note-requires
     add-k
     loop-less

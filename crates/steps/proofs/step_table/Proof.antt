@@ -5,15 +5,19 @@ use Rattle.steps.specs.Inner.{Filled}
 use Rattle.steps.proofs.Filling.{filled-none, filled-more, filled-all}
 use Rattle.steps.proofs.step_table.Statement.{statement}
 use Rattle.steps.proofs.step_table.Tie as tie
+use Rattle.met.specs.Arrays.{kindsMet}
+use mathlib.Core.Path.{_≡_}
+use Rattle.met.proofs.Finding.{kinds-few}
+use native.Mathlib.Omega.{arith}
 
 abbrev Inv-loop : tie.InvT-loop
-Inv-loop v met n table₀ i₀ table i = (i ≤ n) × Filled v met i (table .rows)
+Inv-loop v met n table₀ i₀ table i = (i ≤ n) × Filled v (kindsMet met) i (table .rows)
 
 abbrev μ-loop : tie.MeasureT-loop
 μ-loop v met n table₀ i₀ table i = n - i
 
-kinds-in-requires : tie.Need-kinds-in-requires Inv-loop μ-loop
-kinds-in-requires c κs = search needs
+held-requires : tie.Need-held-requires Inv-loop μ-loop
+held-requires c κs = search needs
 
 none-requires : tie.Need-none-requires Inv-loop μ-loop
 none-requires c κs = search needs
@@ -22,7 +26,7 @@ loop-holds : tie.Need-loop-holds Inv-loop μ-loop
 loop-holds c = (search needs, filled-none _ _ _ (c .none .ensures))
 
 steps-from-requires : tie.Need-steps-from-requires Inv-loop μ-loop
-steps-from-requires c κs = search needs
+steps-from-requires c κs = omega (arith, c .loop-test .taken, c .before .before .before .held .ensures, kinds-few (c .before .before .before .before .before .args .met))
 
 add-i : tie.Need-add-i Inv-loop μ-loop
 add-i c = search needs
@@ -34,9 +38,9 @@ loop-again : tie.Need-loop-again Inv-loop μ-loop
 loop-again c = (search needs, filled-more _ _ _ _ _ (c .before .before .loop .inv .1) (c .steps-from .ensures))
 
 returns : tie.Need-returns Inv-loop μ-loop
-returns c =
+returns c = 
   let loop = c .before .loop in
-  filled-all _ _ _ _ _ (c .before .before .before .kinds-in .ensures) (loop .inv .0) (c .loop-test .left) (loop .inv .1)
+  filled-all _ _ _ _ _ (c .before .before .before .held .ensures) (loop .inv .0) (c .loop-test .left) (loop .inv .1)
 
 pub step-table-spec : {M : Type 1} → statement M
 step-table-spec =
@@ -44,7 +48,7 @@ step-table-spec =
     (tie.spec
     Inv-loop
     μ-loop
-    kinds-in-requires
+    held-requires
     none-requires
     loop-holds
     steps-from-requires

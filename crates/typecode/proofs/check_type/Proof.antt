@@ -21,15 +21,11 @@ loop-last-requires c κs = search needs
 
 returns : tie.Need-returns
 unfolding checkedType
-returns c =
-  let walk-type = c .before .before .before .before .before .before .walk-type in
-  rw (← walk-type .ensures, c .before .before .step .given .1) (c .refused-with .ensures)
+returns c = rw (← c .before .before .before .before .before .before .walk-type .ensures, c .before .before .step .given .1) (c .refused-with .ensures)
 
 returns-2 : tie.Need-returns-2
 unfolding checkedType
-returns-2 c =
-  let walk-type = c .before .before .before .before .before .before .walk-type in
-  rw (← walk-type .ensures, c .before .before .step2 .given .1) (c .loop-last .ensures)
+returns-2 c = rw (← c .before .before .before .before .before .before .walk-type .ensures, c .before .before .step2 .given .1) (c .loop-last .ensures)
 
 pub check-type-spec : {M : Type 1} → statement M
 check-type-spec =

@@ -16,9 +16,12 @@ returns : tie.Need-returns
 unfolding loopLast choose
 returns c = rw (sym (c .before .before .loops-back .ensures) ∙ c .before .if1 .taken) (c .refused-with .ensures)
 
+held-requires : tie.Need-held-requires
+held-requires c κs = search needs
+
 returns-2 : tie.Need-returns-2
 unfolding loopLast choose
-returns-2 c = rw (sym (c .before .loops-back .ensures) ∙ c .if1 .left)
+returns-2 c = rw (sym (c .before .before .loops-back .ensures) ∙ c .before .if1 .left, c .held .ensures)
 
 pub loop-last-spec : {M : Type 1} → statement M
-loop-last-spec = tie.close (tie.spec loops-back-requires refused-with-requires returns returns-2)
+loop-last-spec = tie.close (tie.spec loops-back-requires refused-with-requires returns held-requires returns-2)

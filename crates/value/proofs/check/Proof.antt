@@ -3,11 +3,14 @@ use borrow.Author.Needs.{needs}
 use Rattle.value.proofs.check.Statement.{statement}
 use Rattle.value.proofs.check.Tie as tie
 use mathlib.Core.Path.{_≡_, sym, ap, _∙_}
-use Rattle.typecode.specs.declared.CheckedType.{CheckedType}
+use Rattle.typecode.specs.TypeCode.{CheckedType}
 use Rattle.value.specs.declared.Judged.{Judged}
 use Rattle.value.specs.declared.Judged.the-variants.{Refused}
 use Rattle.value.specs.Typed.{typed, judgedBy}
 use Rattle.value.proofs.Answers as answers
+use mathlib.Core.List.{[]}
+use mathlib.Core.Path.{_≡_, refl}
+use Rattle.met.specs.Arrays.{kindsFrom, kindsMet, noKinds}
 
 over-long-requires : tie.Need-over-long-requires
 over-long-requires c κs = search needs
@@ -15,10 +18,14 @@ over-long-requires c κs = search needs
 none-requires : tie.Need-none-requires
 none-requires c κs = search needs
 
+no-kinds : kindsMet noKinds ≡ []
+unfolding kindsMet kindsFrom
+no-kinds = refl
+
 returns : tie.Need-returns
 returns c =
   let a = c .before .before .before .before .args in
-  ap (typed (Refused 42)) (c .none .ensures) ∙ answers.typed-long (a .t .now) (a .torder) (a .octets) (sym (c .before .before .over-long .ensures) ∙ c .before .if1 .taken)
+  ap (typed (Refused 42)) (ap kindsMet (c .none .ensures) ∙ no-kinds) ∙ answers.typed-long (a .t .now) (a .torder) (a .octets) (sym (c .before .before .over-long .ensures) ∙ c .before .if1 .taken)
 
 check-type-requires : tie.Need-check-type-requires
 check-type-requires c κs = search needs
@@ -31,7 +38,7 @@ returns-2 c =
   let check-type = c .before .before .check-type in
   let a = c .before .before .before .before .before .before .args in
   let over-long = c .before .before .before .before .over-long in
-  ap (λ (j : Judged). typed j (check-type .result .met)) (c .judge .ensures) ∙ ap (λ (y : CheckedType). typed (judgedBy (y .answer)) (y .met)) (check-type .ensures) ∙ answers.typed-short (a .t .now) (a .torder) (a .octets) (sym (over-long .ensures) ∙ c .before .before .before .if1 .left)
+  ap (λ (j : Judged). typed j (kindsMet (check-type .result .met))) (c .judge .ensures) ∙ ap (λ (y : CheckedType). typed (judgedBy (y .answer)) (y .kinds)) (check-type .ensures) ∙ answers.typed-short (a .t .now) (a .torder) (a .octets) (sym (over-long .ensures) ∙ c .before .before .before .if1 .left)
 
 pub check-spec : {M : Type 1} → statement M
 check-spec =

@@ -24,21 +24,20 @@ use Rattle.walking.proofs.+each+elements+exception+sequence+struct_memb
 use Rattle.walking.proofs.visit.Reads as visit
 use Rattle.walking.proofs.visit.Kinds as visit-kinds
 use Rattle.walking.proofs.+each+elements+exception+sequence+struct_members+union_member+visit.Lts-visit as visit-lts
-use Rattle.cases.proofs.chosen_of.Reads as chosen-of-reads
 use Rattle.kinds.proofs.member_at.Reads as member-at-reads
+use Rattle.kinds.proofs.place_in.Reads as place-in-reads
 use Rattle.leaves.proofs.Cursor.refused.Reads as refused-reads
 use Rattle.leaves.proofs.Cursor.visit.Reads as visit-reads
 use Rattle.leaves.proofs.count.Reads as count-reads
-use Rattle.leaves.proofs.enumerated.Reads as enumerated-reads
-use Rattle.leaves.proofs.leaf.Reads as leaf-reads
-use Rattle.leaves.proofs.reference.Reads as reference-reads
+use Rattle.leaves.proofs.inert.Reads as inert-reads
 use Rattle.leaves.proofs.text.Reads as text-reads
+use Rattle.met.proofs.chosen_of.Reads as chosen-of-reads
 use Rattle.met.proofs.labels_for.Reads as labels-for-reads
-use Rattle.walking.proofs.leaf_elements.Reads as leaf-elements-reads
-use Rattle.plans.proofs.flat_visit.Reads as flat-visit-reads
-use Rattle.plans.proofs.within.Reads as within-reads
+use Rattle.met.proofs.inside_of.Reads as inside-of-reads
+use Rattle.plans.proofs.flat.Reads as flat-reads
 use Rattle.plans.proofs.plan_of.Reads as plan-of-reads
 use Rattle.plans.proofs.structs.Reads as structs-reads
+use Rattle.walking.proofs.leaf_elements.Reads as leaf-elements-reads
 use Rattle.walking.proofs.+each+elements+exception+sequence+struct_members+union_member+visit.{statement}
 use Rattle.walking.proofs.+each+elements+exception+sequence+struct_members+union_member+visit.Tie.{close}
 use mathlib.Core.Path.{_≡_, sym, ap, _∙_}
@@ -48,17 +47,32 @@ use lib.ListN.{length}
 use native.Mathlib.Omega.{arith}
 use Prim.Native.Nat.{_-_, _+_, _*_}
 use Rattle.kinds.specs.declared.Labels.{Labels}
+use Rattle.kinds.specs.declared.Labels.the-variants.{NoLabels}
 use Rattle.kinds.specs.declared.Parameters.{Parameters}
-use Rattle.kinds.specs.Parameters.{fieldsOf}
+use Rattle.kinds.specs.Parts.{placeIn}
+use Rattle.kinds.specs.Members.{membersOf, typesOf}
+use Rattle.kinds.specs.declared.Kind.{Kind}
+use Rattle.met.specs.Arms.{chosenOf}
 use Rattle.met.specs.Discriminants.{labelsFor}
-use Rattle.reading.specs.Visit.{checked, inside, chosenOf, elementsAt, enter}
+use Rattle.met.specs.Shapes.{Shape, shapeOf, look}
+use Rattle.met.specs.Shapes.Shape.{flat}
+use Rattle.reading.specs.Sinks.{St}
+use Rattle.reading.specs.Visit.{checked}
 use Rattle.reading.specs.Reading.{reads}
-use Rattle.reading.proofs.Ways as way
+use Rattle.reading.proofs.Ways.{reads-none}
 use Rattle.leaves.specs.declared.Cursor.{Cursor}
+use Rattle.leaves.specs.declared.Mode.{Mode}
+use Rattle.leaves.specs.Lent.{Lent}
 use Rattle.leaves.specs.Walk.{sinkOf, sourceOf, stateOf}
 use Rattle.leaves.proofs.Loops.{Going, going-none, going-all, going-stop, going-more}
-use Rattle.plans.proofs.Steps.{flat-done, flat-left, plan-elements}
+use Rattle.walking.specs.Nested.{elementsAt, enter}
+use Rattle.walking.proofs.Nested as way
 use Rattle.walking.proofs.Onward.{Onward, onward-none, onward-all, onward-cut, onward-stop, onward-more}
+use Rattle.met.specs.Arrays.{kindsMet}
+
+-- a visit of what has these parameters
+abbrev visits : Mode → List ℕ → List ℕ → List Kind → ℕ → Parameters → St Lent → St Lent
+visits m v t ks left p s = reads (sinkOf m) (sourceOf m v) (checked t ks) left (shapeOf t ks p) s
 
 abbrev μ-each : Measures 3 each-kinds.ps ℕ
 μ-each κs a = 4 * a .1 .1 .1 .1 .1 .1 .1 .0 + 1
@@ -146,7 +160,8 @@ abbrev each-of : ℕ → each-lts.Claims
 each-of t = (visit-below t, visit.Post)
 
 abbrev each-Inv-loop : each-lts.InvT-loop
-each-Inv-loop t met v m table₀ e count left d₀ k₀ table d k = Going (reads (sinkOf m) (sourceOf m v) (checked t met) left e) count k (stateOf d₀ table₀) (stateOf d table)
+each-Inv-loop t met v m table₀ e count left d₀ k₀ table d k =
+    Going (reads (sinkOf m) (sourceOf m v) (checked t (kindsMet met)) left (shapeOf t (kindsMet met) e)) count k (stateOf d₀ table₀) (stateOf d table)
 
 abbrev each-μ-loop : each-lts.MeasureT-loop
 each-μ-loop t met v m table₀ e count left d₀ k₀ table d k = count - k
@@ -155,9 +170,7 @@ each-loop-holds : (t : ℕ) → each-lts.Need-loop-holds (each-of t) (each-at t)
 each-loop-holds t c = going-none
 
 each-visit-requires : (t : ℕ) → each-lts.Need-visit-requires (each-of t) (each-at t) each.Post each-Inv-loop each-μ-loop
-each-visit-requires t c κs =
-  let pre = c .before .before .before .before .before .before .pre in
-  (omega (arith, pre .0), tt)
+each-visit-requires t c κs = (omega (arith, c .before .before .before .before .before .before .pre .0), tt)
 
 each-same-length : (t : ℕ) → each-lts.Need-same-length (each-of t) (each-at t) each.Post each-Inv-loop each-μ-loop
 each-same-length t c =
@@ -171,7 +184,8 @@ each-returns t c =
   let loop = c .before .before .before .before .before .before .before .loop in
   let loop-test = c .before .before .before .before .before .before .loop-test in
   let visit = c .before .before .before .before .visit in
-  going-stop (loop .inv) (loop-test .taken) (visit .ensures) (c .if1 .taken)
+  let if1 = c .if1 in
+  going-stop (loop .inv) (loop-test .taken) (visit .ensures) (if1 .taken)
 
 each-add-k : (t : ℕ) → each-lts.Need-add-k (each-of t) (each-at t) each.Post each-Inv-loop each-μ-loop
 each-add-k t c = omega arith
@@ -184,7 +198,8 @@ each-loop-again t c =
   let loop = c .before .before .before .before .before .before .before .loop in
   let loop-test = c .before .before .before .before .before .before .loop-test in
   let visit = c .before .before .before .before .visit in
-  going-more (loop .inv) (loop-test .taken) (visit .ensures) (visit .kept .1 .1 .1 .1 .0) (c .if1 .left)
+  let if1 = c .if1 in
+  going-more (loop .inv) (loop-test .taken) (visit .ensures) (visit .kept .1 .1 .1 .1 .0) (if1 .left)
 
 each-same-length-2 : (t : ℕ) → each-lts.Need-same-length-2 (each-of t) (each-at t) each.Post each-Inv-loop each-μ-loop
 each-same-length-2 t c = c .before .loop .inv .same
@@ -194,30 +209,58 @@ unfolding elementsAt
 each-returns-2 t c = going-all (c .before .loop .inv) (c .loop-test .left)
 
 abbrev elements-of : ℕ → elements-lts.Claims
-elements-of t = (leaf-elements-reads.Asked, leaf-elements-reads.Learnt, each-below t, each.Post, plan-of-reads.Asked, plan-of-reads.Learnt, structs-reads.Asked, structs-reads.Learnt)
+elements-of t =
+    (leaf-elements-reads.Asked, leaf-elements-reads.Learnt, each-below t, each.Post, plan-of-reads.Asked, plan-of-reads.Learnt,
+    structs-reads.Asked, structs-reads.Learnt)
 
 elements-enum-known-e : (t : ℕ) → elements-lts.Need-enum-known-e (elements-of t) (elements-at t) elements.Post
 elements-enum-known-e t c = search needs
 
+elements-enum-known-inert : (t : ℕ) → elements-lts.Need-enum-known-inert (elements-of t) (elements-at t) elements.Post
+elements-enum-known-inert t c = search needs
+
 elements-leaf-elements-requires : (t : ℕ) → elements-lts.Need-leaf-elements-requires (elements-of t) (elements-at t) elements.Post
 elements-leaf-elements-requires t c κs = search needs
+
+elements-same-length : (t : ℕ) → elements-lts.Need-same-length (elements-of t) (elements-at t) elements.Post
+elements-same-length t c = search needs
+
+elements-returns : (t : ℕ) → elements-lts.Need-returns (elements-of t) (elements-at t) elements.Post
+unfolding shapeOf
+elements-returns t c =
+  let a = c .before .before .before .before .before .before .before .before .before .before .before .before .before .args in
+  let leaf-elements = c .before .before .leaf-elements in
+  let e1 = c .before .before .before .before .before .before .before .before .e in
+  let inert = c .before .before .before .before .before .inert in
+  let k = sinkOf (a .m) in
+  let x = sourceOf (a .m) (a .v .now) in
+  let u = checked (a .t .now) (kindsMet (a .met)) in
+  let s = stateOf (a .c) (a .table .now) in
+  leaf-elements .ensures u
+  ∙ ap (λ (p : Shape). elementsAt k x (reads k x u (a .left)) p (a .count) s) (sym (ap (shapeOf (a .t .now) (kindsMet (a .met))) (e1 .given .1) ∙ ap flat (inert .given .1)))
+
+elements-each-requires : (t : ℕ) → elements-lts.Need-each-requires (elements-of t) (elements-at t) elements.Post
+elements-each-requires t c κs = (omega (arith, c .before .before .before .before .before .before .before .before .pre .0), tt)
 
 elements-enum-known-e-2 : (t : ℕ) → elements-lts.Need-enum-known-e-2 (elements-of t) (elements-at t) elements.Post
 elements-enum-known-e-2 t c = search needs
 
-elements-each-requires : (t : ℕ) → elements-lts.Need-each-requires (elements-of t) (elements-at t) elements.Post
-elements-each-requires t c κs =
-  let pre = c .before .before .before .before .before .before .before .before .pre in
-  (omega (arith, pre .0), tt)
+elements-each-requires-2 : (t : ℕ) → elements-lts.Need-each-requires-2 (elements-of t) (elements-at t) elements.Post
+elements-each-requires-2 t c κs = (omega (arith, c .before .before .before .before .before .before .before .before .pre .0), tt)
 
-elements-same-length : (t : ℕ) → elements-lts.Need-same-length (elements-of t) (elements-at t) elements.Post
-elements-same-length t c = c .before .before .each .kept .1 .1 .1 .1 .0
+elements-same-length-2 : (t : ℕ) → elements-lts.Need-same-length-2 (elements-of t) (elements-at t) elements.Post
+elements-same-length-2 t c = c .before .before .each2 .kept .1 .1 .1 .1 .0
 
-elements-returns : (t : ℕ) → elements-lts.Need-returns (elements-of t) (elements-at t) elements.Post
-elements-returns t c =
+elements-returns-2 : (t : ℕ) → elements-lts.Need-returns-2 (elements-of t) (elements-at t) elements.Post
+elements-returns-2 t c =
   let a = c .before .before .before .before .before .before .before .before .before .before .before .args in
+  let each2 = c .before .before .each2 in
   let e2 = c .before .before .before .before .before .before .e2 in
-  c .before .before .each .ensures ∙ ap (λ (p : Parameters). elementsAt (sinkOf (a .m)) (sourceOf (a .m) (a .v .now)) (reads (sinkOf (a .m)) (sourceOf (a .m) (a .v .now)) (checked (a .t .now) (a .met)) (a .left)) p (a .count) (stateOf (a .c) (a .table .now))) (sym (e2 .given .1))
+  let k = sinkOf (a .m) in
+  let x = sourceOf (a .m) (a .v .now) in
+  let u = checked (a .t .now) (kindsMet (a .met)) in
+  let s = stateOf (a .c) (a .table .now) in
+  each2 .ensures ∙ ap (λ (p : Parameters). elementsAt k x (reads k x u (a .left)) (shapeOf (a .t .now) (kindsMet (a .met)) p) (a .count) s) (sym (e2 .given .1))
 
 elements-plan-of-requires : (t : ℕ) → elements-lts.Need-plan-of-requires (elements-of t) (elements-at t) elements.Post
 elements-plan-of-requires t c κs = search needs
@@ -225,50 +268,64 @@ elements-plan-of-requires t c κs = search needs
 elements-structs-requires : (t : ℕ) → elements-lts.Need-structs-requires (elements-of t) (elements-at t) elements.Post
 elements-structs-requires t c κs = search needs
 
-elements-same-length-2 : (t : ℕ) → elements-lts.Need-same-length-2 (elements-of t) (elements-at t) elements.Post
-elements-same-length-2 t c = c .before .before .structs .kept .1 .1 .0
-
-elements-returns-2 : (t : ℕ) → elements-lts.Need-returns-2 (elements-of t) (elements-at t) elements.Post
-elements-returns-2 t c =
-  let a = c .before .before .before .before .before .before .before .before .before .before .before .before .before .args in
-  let plan-of = c .before .before .before .before .before .plan-of in
-  let e2 = c .before .before .before .before .before .before .before .before .e2 in
-  let if2 = c .before .before .before .before .if2 in
-  c .before .before .structs .ensures ∙ sym (plan-elements (sinkOf (a .m)) (sourceOf (a .m) (a .v .now)) (checked (a .t .now) (a .met)) (a .e) _ (a .left) (plan-of .result) (e2 .given .1) (plan-of .ensures (if2 .taken)) (a .count) (stateOf (a .c) (a .table .now)))
-
-elements-each-requires-2 : (t : ℕ) → elements-lts.Need-each-requires-2 (elements-of t) (elements-at t) elements.Post
-elements-each-requires-2 t c κs =
-  let pre = c .before .before .before .before .before .before .before .before .before .before .pre in
-  (omega (arith, pre .0), tt)
-
-elements-each-requires-3 : (t : ℕ) → elements-lts.Need-each-requires-3 (elements-of t) (elements-at t) elements.Post
-elements-each-requires-3 t c κs =
-  let pre = c .before .before .before .before .before .pre in
-  (omega (arith, pre .0), tt)
-
 elements-same-length-3 : (t : ℕ) → elements-lts.Need-same-length-3 (elements-of t) (elements-at t) elements.Post
-elements-same-length-3 t c = search needs
+elements-same-length-3 t c = c .before .before .structs .kept .1 .1 .0
 
 elements-returns-3 : (t : ℕ) → elements-lts.Need-returns-3 (elements-of t) (elements-at t) elements.Post
+unfolding shapeOf
 elements-returns-3 t c =
-  let a = c .before .before .before .before .before .before .before .before .before .before .args in
-  let e = c .before .before .before .before .before .e in
-  c .before .before .leaf-elements .ensures (checked (a .t .now) (a .met)) ∙ ap (λ (p : Parameters). elementsAt (sinkOf (a .m)) (sourceOf (a .m) (a .v .now)) (reads (sinkOf (a .m)) (sourceOf (a .m) (a .v .now)) (checked (a .t .now) (a .met)) (a .left)) p (a .count) (stateOf (a .c) (a .table .now))) (sym (e .given .1))
+  let a = c .before .before .before .before .before .before .before .before .before .before .before .before .before .args in
+  let structs = c .before .before .structs in
+  let e2 = c .before .before .before .before .before .before .before .before .e2 in
+  let plan-of = c .before .before .before .before .before .plan-of in
+  let if2 = c .before .before .before .before .if2 in
+  let k = sinkOf (a .m) in
+  let x = sourceOf (a .m) (a .v .now) in
+  let u = checked (a .t .now) (kindsMet (a .met)) in
+  let s = stateOf (a .c) (a .table .now) in
+  structs .ensures
+  ∙ sym (ap (λ (p : Parameters). elementsAt k x (reads k x u (a .left)) (shapeOf (a .t .now) (kindsMet (a .met)) p) (a .count) s) (e2 .given .1)
+  ∙ way.elements-planned k x u (a .left) _ _ (plan-of .result) (plan-of .ensures) (if2 .taken) (a .count) s)
+
+elements-each-requires-3 : (t : ℕ) → elements-lts.Need-each-requires-3 (elements-of t) (elements-at t) elements.Post
+elements-each-requires-3 t c κs = (omega (arith, c .before .before .before .before .before .before .before .before .before .before .pre .0), tt)
+
+elements-each-requires-4 : (t : ℕ) → elements-lts.Need-each-requires-4 (elements-of t) (elements-at t) elements.Post
+elements-each-requires-4 t c κs = (omega (arith, c .before .before .before .before .before .pre .0), tt)
 
 elements-same-length-4 : (t : ℕ) → elements-lts.Need-same-length-4 (elements-of t) (elements-at t) elements.Post
-elements-same-length-4 t c = c .before .before .each2 .kept .1 .1 .1 .1 .0
+elements-same-length-4 t c = c .before .before .each .kept .1 .1 .1 .1 .0
 
 elements-returns-4 : (t : ℕ) → elements-lts.Need-returns-4 (elements-of t) (elements-at t) elements.Post
 elements-returns-4 t c =
-  let a = c .before .before .before .before .before .before .before .before .before .before .before .before .before .args in
-  let e2 = c .before .before .before .before .before .before .before .before .e2 in
-  c .before .before .each2 .ensures ∙ ap (λ (p : Parameters). elementsAt (sinkOf (a .m)) (sourceOf (a .m) (a .v .now)) (reads (sinkOf (a .m)) (sourceOf (a .m) (a .v .now)) (checked (a .t .now) (a .met)) (a .left)) p (a .count) (stateOf (a .c) (a .table .now))) (sym (e2 .given .1))
+  let a = c .before .before .before .before .before .before .before .before .before .before .before .args in
+  let each = c .before .before .each in
+  let e1 = c .before .before .before .before .before .before .e in
+  let k = sinkOf (a .m) in
+  let x = sourceOf (a .m) (a .v .now) in
+  let u = checked (a .t .now) (kindsMet (a .met)) in
+  let s = stateOf (a .c) (a .table .now) in
+  each .ensures ∙ ap (λ (p : Parameters). elementsAt k x (reads k x u (a .left)) (shapeOf (a .t .now) (kindsMet (a .met)) p) (a .count) s) (sym (e1 .given .1))
 
 elements-same-length-5 : (t : ℕ) → elements-lts.Need-same-length-5 (elements-of t) (elements-at t) elements.Post
 elements-same-length-5 t c = c .before .before .each3 .kept .1 .1 .1 .1 .0
 
 elements-returns-5 : (t : ℕ) → elements-lts.Need-returns-5 (elements-of t) (elements-at t) elements.Post
-elements-returns-5 t c = c .before .before .each3 .ensures
+elements-returns-5 t c =
+  let a = c .before .before .before .before .before .before .before .before .before .before .before .before .before .args in
+  let each3 = c .before .before .each3 in
+  let e2 = c .before .before .before .before .before .before .before .before .e2 in
+  let k = sinkOf (a .m) in
+  let x = sourceOf (a .m) (a .v .now) in
+  let u = checked (a .t .now) (kindsMet (a .met)) in
+  let s = stateOf (a .c) (a .table .now) in
+  each3 .ensures ∙ ap (λ (p : Parameters). elementsAt k x (reads k x u (a .left)) (shapeOf (a .t .now) (kindsMet (a .met)) p) (a .count) s) (sym (e2 .given .1))
+
+elements-same-length-6 : (t : ℕ) → elements-lts.Need-same-length-6 (elements-of t) (elements-at t) elements.Post
+elements-same-length-6 t c = c .before .before .each4 .kept .1 .1 .1 .1 .0
+
+elements-returns-6 : (t : ℕ) → elements-lts.Need-returns-6 (elements-of t) (elements-at t) elements.Post
+elements-returns-6 t c = c .before .before .each4 .ensures
 
 abbrev exception-of : ℕ → exception-lts.Claims
 exception-of t = (text-reads.Asked, text-reads.Learnt, struct-members-below t, struct-members.Post)
@@ -277,63 +334,77 @@ exception-text-requires : (t : ℕ) → exception-lts.Need-text-requires (except
 exception-text-requires t c κs = search needs
 
 exception-same-length : (t : ℕ) → exception-lts.Need-same-length (exception-of t) (exception-at t) exception.Post
-exception-same-length t c =
-  let text = c .before .before .before .before .text in
-  text .kept .1 .1 .0
+exception-same-length t c = c .before .before .before .before .text .kept .1 .1 .0
 
 exception-returns : (t : ℕ) → exception-lts.Need-returns (exception-of t) (exception-at t) exception.Post
 exception-returns t c =
   let a = c .before .before .before .before .before .before .before .before .before .args in
   let text = c .before .before .before .before .text in
-  sym (way.exception-stop (sinkOf (a .m)) (sourceOf (a .m) (a .v .now)) (reads (sinkOf (a .m)) (sourceOf (a .m) (a .v .now)) (checked (a .t .now) (a .met)) (a .left)) (checked (a .t .now) (a .met)) (a .fields) (stateOf (a .c) (a .table .now)) _ (text .ensures) (c .if1 .taken))
+  let if1 = c .if1 in
+  let k = sinkOf (a .m) in
+  let x = sourceOf (a .m) (a .v .now) in
+  let u = checked (a .t .now) (kindsMet (a .met)) in
+  let s = stateOf (a .c) (a .table .now) in
+  sym (way.exception-stop k x (reads k x u (a .left)) u (typesOf (membersOf NoLabels (a .t .now) (a .fields))) s _ (text .ensures) (if1 .taken))
 
 exception-struct-members-requires : (t : ℕ) → exception-lts.Need-struct-members-requires (exception-of t) (exception-at t) exception.Post
-exception-struct-members-requires t c κs =
-  let pre = c .before .before .before .before .before .before .before .before .before .before .pre in
-  (omega (arith, pre .0), tt)
+exception-struct-members-requires t c κs = (omega (arith, c .before .before .before .before .before .before .before .before .before .before .pre .0), tt)
 
 exception-same-length-2 : (t : ℕ) → exception-lts.Need-same-length-2 (exception-of t) (exception-at t) exception.Post
 exception-same-length-2 t c =
+  let struct-members = c .before .before .struct-members in
   let text = c .before .before .before .before .before .before .before .before .text in
-  c .before .before .struct-members .kept .1 .1 .1 .1 .0 ∙ text .kept .1 .1 .0
+  struct-members .kept .1 .1 .1 .1 .0 ∙ text .kept .1 .1 .0
 
 exception-returns-2 : (t : ℕ) → exception-lts.Need-returns-2 (exception-of t) (exception-at t) exception.Post
 exception-returns-2 t c =
   let a = c .before .before .before .before .before .before .before .before .before .before .before .before .before .args in
+  let struct-members = c .before .before .struct-members in
   let text = c .before .before .before .before .before .before .before .before .text in
   let if1 = c .before .before .before .before .if1 in
-  c .before .before .struct-members .ensures ∙ sym (way.exception-go (sinkOf (a .m)) (sourceOf (a .m) (a .v .now)) (reads (sinkOf (a .m)) (sourceOf (a .m) (a .v .now)) (checked (a .t .now) (a .met)) (a .left)) (checked (a .t .now) (a .met)) (a .fields) (stateOf (a .c) (a .table .now)) _ (text .ensures) (if1 .left))
+  let k = sinkOf (a .m) in
+  let x = sourceOf (a .m) (a .v .now) in
+  let u = checked (a .t .now) (kindsMet (a .met)) in
+  let s = stateOf (a .c) (a .table .now) in
+  struct-members .ensures ∙ sym (way.exception-go k x (reads k x u (a .left)) u (typesOf (membersOf NoLabels (a .t .now) (a .fields))) s _ (text .ensures) (if1 .left))
 
 abbrev sequence-of : ℕ → sequence-lts.Claims
-sequence-of t = (count-reads.Asked, count-reads.Learnt, within-reads.Asked, within-reads.Learnt, elements-below t, elements.Post)
+sequence-of t = (count-reads.Asked, count-reads.Learnt, inside-of-reads.Asked, inside-of-reads.Learnt, elements-below t, elements.Post)
 
 sequence-count-requires : (t : ℕ) → sequence-lts.Need-count-requires (sequence-of t) (sequence-at t) sequence.Post
 sequence-count-requires t c κs = search needs
 
 sequence-same-length : (t : ℕ) → sequence-lts.Need-same-length (sequence-of t) (sequence-at t) sequence.Post
-sequence-same-length t c =
-  let count = c .before .before .before .before .count in
-  count .kept .1 .1 .0
+sequence-same-length t c = c .before .before .before .before .count .kept .1 .1 .0
 
 sequence-returns : (t : ℕ) → sequence-lts.Need-returns (sequence-of t) (sequence-at t) sequence.Post
 sequence-returns t c =
   let a = c .before .before .before .before .before .before .before .before .before .args in
-  let count = c .before .before .before .before .count in
-  sym (way.sequence-stop (sinkOf (a .m)) (sourceOf (a .m) (a .v .now)) (reads (sinkOf (a .m)) (sourceOf (a .m) (a .v .now)) (checked (a .t .now) (a .met)) (a .left)) (inside (checked (a .t .now) (a .met)) (a .element)) (a .bound) (stateOf (a .c) (a .table .now)) _ (count .ensures) (c .if1 .taken))
+  let k = sinkOf (a .m) in
+  let x = sourceOf (a .m) (a .v .now) in
+  let u = checked (a .t .now) (kindsMet (a .met)) in
+  let s = stateOf (a .c) (a .table .now) in
+  sym (way.sequence-stop k x (reads k x u (a .left)) (u .look (a .element)) (a .bound) s _ (c .before .before .before .before .count .ensures) (c .if1 .taken))
 
 sequence-same-length-2 : (t : ℕ) → sequence-lts.Need-same-length-2 (sequence-of t) (sequence-at t) sequence.Post
-sequence-same-length-2 t c =
-  let count = c .before .before .before .before .before .before .count in
-  count .kept .1 .1 .0
+sequence-same-length-2 t c = c .before .before .before .before .before .before .count .kept .1 .1 .0
 
 sequence-returns-2 : (t : ℕ) → sequence-lts.Need-returns-2 (sequence-of t) (sequence-at t) sequence.Post
 sequence-returns-2 t c =
   let a = c .before .before .before .before .before .before .before .before .before .before .before .args in
   let count = c .before .before .before .before .before .before .count in
-  sym (way.sequence-go (sinkOf (a .m)) (sourceOf (a .m) (a .v .now)) (reads (sinkOf (a .m)) (sourceOf (a .m) (a .v .now)) (checked (a .t .now) (a .met)) (a .left)) (inside (checked (a .t .now) (a .met)) (a .element)) (a .bound) (stateOf (a .c) (a .table .now)) _ (count .ensures) (c .before .before .if1 .left) ∙ way.elements-none (sinkOf (a .m)) (sourceOf (a .m) (a .v .now)) (reads (sinkOf (a .m)) (sourceOf (a .m) (a .v .now)) (checked (a .t .now) (a .met)) (a .left)) (inside (checked (a .t .now) (a .met)) (a .element)) (count .result .last) (stateOf (count .result) (count .last .1 .1 .0)) (c .if2 .taken))
+  let if1 = c .before .before .if1 in
+  let if2 = c .if2 in
+  let k = sinkOf (a .m) in
+  let x = sourceOf (a .m) (a .v .now) in
+  let u = checked (a .t .now) (kindsMet (a .met)) in
+  let s = stateOf (a .c) (a .table .now) in
+  let d = stateOf (count .result) (count .last .1 .1 .0) in
+  sym (way.sequence-go k x (reads k x u (a .left)) (u .look (a .element)) (a .bound) s _ (count .ensures) (if1 .left)
+  ∙ way.elements-none k x (reads k x u (a .left)) (u .look (a .element)) (count .result .last) d (if2 .taken))
 
-sequence-within-requires : (t : ℕ) → sequence-lts.Need-within-requires (sequence-of t) (sequence-at t) sequence.Post
-sequence-within-requires t c κs = search needs
+sequence-inside-of-requires : (t : ℕ) → sequence-lts.Need-inside-of-requires (sequence-of t) (sequence-at t) sequence.Post
+sequence-inside-of-requires t c κs = search needs
 
 sequence-elements-requires : (t : ℕ) → sequence-lts.Need-elements-requires (sequence-of t) (sequence-at t) sequence.Post
 sequence-elements-requires t c κs =
@@ -342,22 +413,36 @@ sequence-elements-requires t c κs =
 
 sequence-same-length-3 : (t : ℕ) → sequence-lts.Need-same-length-3 (sequence-of t) (sequence-at t) sequence.Post
 sequence-same-length-3 t c =
+  let elements = c .before .before .elements in
   let count = c .before .before .before .before .before .before .before .before .before .before .before .count in
-  c .before .before .elements .kept .1 .1 .1 .1 .0 ∙ count .kept .1 .1 .0
+  elements .kept .1 .1 .1 .1 .0 ∙ count .kept .1 .1 .0
 
 sequence-returns-3 : (t : ℕ) → sequence-lts.Need-returns-3 (sequence-of t) (sequence-at t) sequence.Post
+unfolding look
 sequence-returns-3 t c =
   let a = c .before .before .before .before .before .before .before .before .before .before .before .before .before .before .before .before .args in
   let count = c .before .before .before .before .before .before .before .before .before .before .before .count in
-  let within = c .before .before .before .before .within in
+  let elements = c .before .before .elements in
+  let inside-of = c .before .before .before .before .inside-of in
   let if1 = c .before .before .before .before .before .before .before .if1 in
-  c .before .before .elements .ensures ∙ ap (λ (p : Parameters). elementsAt (sinkOf (a .m)) (sourceOf (a .m) (a .v .now)) (reads (sinkOf (a .m)) (sourceOf (a .m) (a .v .now)) (checked (a .t .now) (a .met)) (a .left)) p (count .result .last) (stateOf (count .result) (count .last .1 .1 .0))) (within .ensures) ∙ sym (way.sequence-go (sinkOf (a .m)) (sourceOf (a .m) (a .v .now)) (reads (sinkOf (a .m)) (sourceOf (a .m) (a .v .now)) (checked (a .t .now) (a .met)) (a .left)) (inside (checked (a .t .now) (a .met)) (a .element)) (a .bound) (stateOf (a .c) (a .table .now)) _ (count .ensures) (if1 .left))
+  let k = sinkOf (a .m) in
+  let x = sourceOf (a .m) (a .v .now) in
+  let u = checked (a .t .now) (kindsMet (a .met)) in
+  let s = stateOf (a .c) (a .table .now) in
+  let d = stateOf (count .result) (count .last .1 .1 .0) in
+  elements .ensures
+  ∙ ap (λ (p : Parameters). elementsAt k x (reads k x u (a .left)) (shapeOf (a .t .now) (kindsMet (a .met)) p) (count .result .last) d) (inside-of .ensures)
+  ∙ sym (way.sequence-go k x (reads k x u (a .left)) (u .look (a .element)) (a .bound) s _ (count .ensures) (if1 .left))
 
 abbrev struct-members-of : ℕ → struct-members-lts.Claims
-struct-members-of t = (member-at-reads.Asked, member-at-reads.Learnt, within-reads.Asked, within-reads.Learnt, flat-visit-reads.Asked, flat-visit-reads.Learnt, visit-below t, visit.Post)
+struct-members-of t =
+    (member-at-reads.Asked, member-at-reads.Learnt, inside-of-reads.Asked, inside-of-reads.Learnt, flat-reads.Asked, flat-reads.Learnt,
+    visit-below t, visit.Post)
 
 abbrev struct-members-Inv-loop : struct-members-lts.InvT-loop
-struct-members-Inv-loop t met v m table₀ left start order count at₀ d₀ k₀ table at d k = Onward (sinkOf m) (sourceOf m v) (reads (sinkOf m) (sourceOf m v) (checked t met) left) (checked t met) (fieldsOf start order count at₀) count k at₀ (stateOf d₀ table₀) at (stateOf d table)
+struct-members-Inv-loop t met v m table₀ left start order count at₀ d₀ k₀ table at d k =
+    Onward (sinkOf m) (sourceOf m v) (reads (sinkOf m) (sourceOf m v) (checked t (kindsMet met)) left) (checked t (kindsMet met)) t start order
+    count at₀ (stateOf d₀ table₀) k at (stateOf d table)
 
 abbrev struct-members-μ-loop : struct-members-lts.MeasureT-loop
 struct-members-μ-loop t met v m table₀ left start order count at₀ d₀ k₀ table at d k = count - k
@@ -365,88 +450,126 @@ struct-members-μ-loop t met v m table₀ left start order count at₀ d₀ k₀
 struct-members-loop-holds : (t : ℕ) → struct-members-lts.Need-loop-holds (struct-members-of t) (struct-members-at t) struct-members.Post struct-members-Inv-loop struct-members-μ-loop
 struct-members-loop-holds t c =
   let a = c .before .before .before .before .before .args in
-  onward-none (sinkOf (a .m)) (sourceOf (a .m) (a .v .now)) (reads (sinkOf (a .m)) (sourceOf (a .m) (a .v .now)) (checked (a .t .now) (a .met)) (a .left)) (checked (a .t .now) (a .met)) (a .fields)
+  let k = sinkOf (a .m) in
+  let x = sourceOf (a .m) (a .v .now) in
+  let u = checked (a .t .now) (kindsMet (a .met)) in
+  onward-none k x (reads k x u (a .left)) u (a .t .now) (a .fields .start) (a .fields .order)
 
 struct-members-member-at-requires : (t : ℕ) → struct-members-lts.Need-member-at-requires (struct-members-of t) (struct-members-at t) struct-members.Post struct-members-Inv-loop struct-members-μ-loop
 struct-members-member-at-requires t c κs = search needs
 
-struct-members-enum-known-place : (t : ℕ) → struct-members-lts.Need-enum-known-place (struct-members-of t) (struct-members-at t) struct-members.Post struct-members-Inv-loop struct-members-μ-loop
-struct-members-enum-known-place t c = search needs
+struct-members-enum-known-inner : (t : ℕ) → struct-members-lts.Need-enum-known-inner (struct-members-of t) (struct-members-at t) struct-members.Post struct-members-Inv-loop struct-members-μ-loop
+struct-members-enum-known-inner t c = search needs
 
 struct-members-enum-told : (t : ℕ) → struct-members-lts.Need-enum-told (struct-members-of t) (struct-members-at t) struct-members.Post struct-members-Inv-loop struct-members-μ-loop
 struct-members-enum-told t c = search needs
 
 struct-members-same-length : (t : ℕ) → struct-members-lts.Need-same-length (struct-members-of t) (struct-members-at t) struct-members.Post struct-members-Inv-loop struct-members-μ-loop
-struct-members-same-length t c =
-  let loop = c .before .before .before .before .loop in
-  loop .inv .same
+struct-members-same-length t c = c .before .before .before .before .loop .inv .same
 
 struct-members-returns : (t : ℕ) → struct-members-lts.Need-returns (struct-members-of t) (struct-members-at t) struct-members.Post struct-members-Inv-loop struct-members-μ-loop
 struct-members-returns t c =
   let a = c .before .before .before .before .before .before .before .before .before .before .args in
   let loop = c .before .before .before .before .loop in
-  onward-cut (sinkOf (a .m)) (sourceOf (a .m) (a .v .now)) (reads (sinkOf (a .m)) (sourceOf (a .m) (a .v .now)) (checked (a .t .now) (a .met)) (a .left)) (checked (a .t .now) (a .met)) (a .fields) (loop .inv) (c .before .before .before .loop-test .taken) (sym (c .before .before .member-at .ensures) ∙ c .enum-told .given .1)
+  let loop-test = c .before .before .before .loop-test in
+  let member-at = c .before .before .member-at in
+  let enum-told = c .enum-told in
+  let k = sinkOf (a .m) in
+  let x = sourceOf (a .m) (a .v .now) in
+  let u = checked (a .t .now) (kindsMet (a .met)) in
+  onward-cut k x (reads k x u (a .left)) u (a .t .now) (a .fields .start) (a .fields .order) (loop .inv) (loop-test .taken) (sym (member-at .ensures) ∙ enum-told .given .1)
 
-struct-members-within-requires : (t : ℕ) → struct-members-lts.Need-within-requires (struct-members-of t) (struct-members-at t) struct-members.Post struct-members-Inv-loop struct-members-μ-loop
-struct-members-within-requires t c κs = search needs
+struct-members-inside-of-requires : (t : ℕ) → struct-members-lts.Need-inside-of-requires (struct-members-of t) (struct-members-at t) struct-members.Post struct-members-Inv-loop struct-members-μ-loop
+struct-members-inside-of-requires t c κs = search needs
 
-struct-members-flat-visit-requires : (t : ℕ) → struct-members-lts.Need-flat-visit-requires (struct-members-of t) (struct-members-at t) struct-members.Post struct-members-Inv-loop struct-members-μ-loop
-struct-members-flat-visit-requires t c κs = search needs
+struct-members-enum-known-e : (t : ℕ) → struct-members-lts.Need-enum-known-e (struct-members-of t) (struct-members-at t) struct-members.Post struct-members-Inv-loop struct-members-μ-loop
+struct-members-enum-known-e t c = search needs
+
+struct-members-flat-requires : (t : ℕ) → struct-members-lts.Need-flat-requires (struct-members-of t) (struct-members-at t) struct-members.Post struct-members-Inv-loop struct-members-μ-loop
+struct-members-flat-requires t c κs = search needs
 
 struct-members-visit-requires : (t : ℕ) → struct-members-lts.Need-visit-requires (struct-members-of t) (struct-members-at t) struct-members.Post struct-members-Inv-loop struct-members-μ-loop
 struct-members-visit-requires t c κs =
-  let pre = c .before .before .before .before .before .before .before .before .before .before .before .before .before .before .before .before .before .before .before .pre in
+  let pre = c .before .before .before .before .before .before .before .before .before .before .before .before .before .before .pre in
   (omega (arith, pre .0), tt)
 
-struct-members-step : (t : ℕ) (c : struct-members-lts.Joined1 (struct-members-of t) (struct-members-at t) struct-members.Post struct-members-Inv-loop struct-members-μ-loop) → stateOf (c .if1 .d) (c .if1 .table) ≡ reads (sinkOf (c .before .before .before .before .before .before .before .before .before .before .before .before .before .before .before .before .before .before .args .m)) (sourceOf (c .before .before .before .before .before .before .before .before .before .before .before .before .before .before .before .before .before .before .args .m) (c .before .before .before .before .before .before .before .before .before .before .before .before .before .before .before .before .before .before .args .v .now)) (checked (c .before .before .before .before .before .before .before .before .before .before .before .before .before .before .before .before .before .before .args .t .now) (c .before .before .before .before .before .before .before .before .before .before .before .before .before .before .before .before .before .before .args .met)) (c .before .before .before .before .before .before .before .before .before .before .before .before .before .before .before .before .before .before .args .left) (c .before .before .before .before .before .before .within .result) (stateOf (c .before .before .before .before .before .before .before .before .before .before .before .before .loop .d) (c .before .before .before .before .before .before .before .before .before .before .before .before .loop .table))
+-- a member is visited, whether it enters something or not
+struct-members-step : (t : ℕ) (c : struct-members-lts.At-match2-came (struct-members-of t) (struct-members-at t) struct-members.Post struct-members-Inv-loop struct-members-μ-loop) →
+    let a = c .before .before .before .before .before .before .before .before .before .before .before .before .before .args in
+    let l = c .before .before .before .before .before .before .before .loop in
+    stateOf (c .match2 .d) (c .match2 .table) ≡ visits (a .m) (a .v .now) (a .t .now) (kindsMet (a .met)) (a .left) (c .before .inside-of .result) (stateOf (l .d) (l .table))
+unfolding shapeOf
 struct-members-step t c =
-  let a2 = c .before .before .before .before .before .before .before .before .before .before .before .before .before .before .before .before .before .before .args in
-  let within = c .before .before .before .before .before .before .within in
-  let loop = c .before .before .before .before .before .before .before .before .before .before .before .before .loop in
-  let flat-visit = c .before .before .before .before .flat-visit in
+  let a = c .before .before .before .before .before .before .before .before .before .before .before .before .before .args in
+  let l = c .before .before .before .before .before .before .before .loop in
+  let r = c .match2 in
   ⊎-elim
-    (λ a. ap (λ (w : Cursor). stateOf w (c .if1 .table)) (a .6) ∙ ap (stateOf (a .2 .result)) (a .5) ∙ a .2 .ensures ∙ ap (reads (sinkOf (a2 .m)) (sourceOf (a2 .m) (a2 .v .now)) (checked (a2 .t .now) (a2 .met)) (a2 .left) (within .result)) (flat-left (a2 .m) (a2 .v .now) (within .result) (a2 .left) (stateOf (loop .d) (loop .table)) (stateOf (flat-visit .result .cursor) (flat-visit .last .1 .1 .0)) (flat-visit .result .enters) (flat-visit .ensures) (a .0 .taken)))
-    (λ b. ap (λ (w : Cursor). stateOf w (c .if1 .table)) (b .2) ∙ ap (stateOf (flat-visit .result .cursor)) (b .1) ∙ flat-done (a2 .m) (a2 .v .now) (within .result) (a2 .left) (stateOf (loop .d) (loop .table)) (stateOf (flat-visit .result .cursor) (flat-visit .last .1 .1 .0)) (flat-visit .result .enters) (flat-visit .ensures) (b .0 .left) (checked (a2 .t .now) (a2 .met)))
-    (c .if1 .came)
+  (λ f. ap (λ (w : Cursor). stateOf w (r .table)) (f .8) ∙ ap (stateOf (f .4 .result)) (f .7) ∙ f .4 .ensures (checked (a .t .now) (kindsMet (a .met)))
+  ∙ ap (λ (p : Parameters). visits (a .m) (a .v .now) (a .t .now) (kindsMet (a .met)) (a .left) p (stateOf (l .d) (l .table))) (sym (f .1 .given .1)))
+  (λ e. ap (λ (w : Cursor). stateOf w (r .table)) (e .6) ∙ ap (stateOf (e .2 .result)) (e .5) ∙ e .2 .ensures)
+  (r .came)
 
-struct-members-rows : (t : ℕ) (c : struct-members-lts.Joined1 (struct-members-of t) (struct-members-at t) struct-members.Post struct-members-Inv-loop struct-members-μ-loop) → length (c .if1 .table) ≡ length (c .before .before .before .before .before .before .before .before .before .before .before .before .loop .table)
+struct-members-rows : (t : ℕ) (c : struct-members-lts.At-match2-came (struct-members-of t) (struct-members-at t) struct-members.Post struct-members-Inv-loop struct-members-μ-loop) →
+    length (c .match2 .table) ≡ length (c .before .before .before .before .before .before .before .loop .table)
 struct-members-rows t c =
-  let flat-visit = c .before .before .before .before .flat-visit in
   ⊎-elim
-    (λ a. ap (λ (l : List ℕ). length l) (a .5) ∙ a .2 .kept .1 .1 .1 .1 .0 ∙ flat-visit .kept .1 .1 .0)
-    (λ b. ap (λ (l : List ℕ). length l) (b .1) ∙ flat-visit .kept .1 .1 .0)
-    (c .if1 .came)
+  (λ f. ap (λ (l : List ℕ). length l) (f .7) ∙ f .4 .kept .1 .1 .0)
+  (λ e. ap (λ (l : List ℕ). length l) (e .5) ∙ e .2 .kept .1 .1 .1 .1 .0)
+  (c .match2 .came)
 
 struct-members-same-length-2 : (t : ℕ) → struct-members-lts.Need-same-length-2 (struct-members-of t) (struct-members-at t) struct-members.Post struct-members-Inv-loop struct-members-μ-loop
 struct-members-same-length-2 t c =
-  let loop = c .before .before .before .before .before .before .before .before .before .before .before .before .before .before .loop in
-  struct-members-rows t (c .before .before) ∙ loop .inv .same
+  let joined = c .before .before in
+  let loop = c .before .before .before .before .before .before .before .before .before .loop in
+  struct-members-rows t joined ∙ loop .inv .same
 
 struct-members-returns-2 : (t : ℕ) → struct-members-lts.Need-returns-2 (struct-members-of t) (struct-members-at t) struct-members.Post struct-members-Inv-loop struct-members-μ-loop
+unfolding look
 struct-members-returns-2 t c =
-  let a = c .before .before .before .before .before .before .before .before .before .before .before .before .before .before .before .before .before .before .before .before .args in
-  let loop = c .before .before .before .before .before .before .before .before .before .before .before .before .before .before .loop in
-  let loop-test = c .before .before .before .before .before .before .before .before .before .before .before .before .before .loop-test in
-  let member-at = c .before .before .before .before .before .before .before .before .before .before .before .before .member-at in
-  let place = c .before .before .before .before .before .before .before .before .before .before .place in
-  let within = c .before .before .before .before .before .before .before .before .within in
-  onward-stop (sinkOf (a .m)) (sourceOf (a .m) (a .v .now)) (reads (sinkOf (a .m)) (sourceOf (a .m) (a .v .now)) (checked (a .t .now) (a .met)) (a .left)) (checked (a .t .now) (a .met)) (a .fields) (loop .inv) _ _ (loop-test .taken) (sym (member-at .ensures) ∙ place .given .1) (struct-members-step t (c .before .before) ∙ ap (λ (p : Parameters). reads (sinkOf (a .m)) (sourceOf (a .m) (a .v .now)) (checked (a .t .now) (a .met)) (a .left) p (stateOf (loop .d) (loop .table))) (within .ensures)) (c .if2 .taken)
+  let a = c .before .before .before .before .before .before .before .before .before .before .before .before .before .before .before .args in
+  let member-at = c .before .before .before .before .before .before .before .member-at in
+  let inner = c .before .before .before .before .before .inner in
+  let loop-test = c .before .before .before .before .before .before .before .before .loop-test in
+  let joined = c .before .before in
+  let inside-of = c .before .before .before .inside-of in
+  let if1 = c .if1 in
+  let k = sinkOf (a .m) in
+  let x = sourceOf (a .m) (a .v .now) in
+  let u = checked (a .t .now) (kindsMet (a .met)) in
+  let loop = c .before .before .before .before .before .before .before .before .before .loop in
+  let s = stateOf (loop .d) (loop .table) in
+  let at = sym (member-at .ensures) ∙ inner .given .1 in
+  onward-stop k x (reads k x u (a .left)) u (a .t .now) (a .fields .start) (a .fields .order) (loop .inv) _ _ (loop-test .taken) at
+  (struct-members-step t joined ∙ ap (λ (p : Parameters). visits (a .m) (a .v .now) (a .t .now) (kindsMet (a .met)) (a .left) p s) (inside-of .ensures))
+  (if1 .taken)
 
 struct-members-add-k : (t : ℕ) → struct-members-lts.Need-add-k (struct-members-of t) (struct-members-at t) struct-members.Post struct-members-Inv-loop struct-members-μ-loop
-struct-members-add-k t c = search (needs, c .before .before .before .before .before .before .before .before .before .before .before .before .before .before .before .before .before .before .before .before .good .1 .1 .1 .1 .1 .0)
+struct-members-add-k t c =
+  let good = c .before .before .before .before .before .before .before .before .before .before .before .before .before .before .before .good in
+  search (needs, good .1 .1 .1 .1 .1 .0)
 
 struct-members-loop-less : (t : ℕ) → struct-members-lts.Need-loop-less (struct-members-of t) (struct-members-at t) struct-members.Post struct-members-Inv-loop struct-members-μ-loop
 struct-members-loop-less t c = omega arith
 
 struct-members-loop-again : (t : ℕ) → struct-members-lts.Need-loop-again (struct-members-of t) (struct-members-at t) struct-members.Post struct-members-Inv-loop struct-members-μ-loop
+unfolding look
 struct-members-loop-again t c =
-  let a = c .before .before .before .before .before .before .before .before .before .before .before .before .before .before .before .before .before .before .before .before .args in
-  let loop = c .before .before .before .before .before .before .before .before .before .before .before .before .before .before .loop in
-  let loop-test = c .before .before .before .before .before .before .before .before .before .before .before .before .before .loop-test in
-  let member-at = c .before .before .before .before .before .before .before .before .before .before .before .before .member-at in
-  let place = c .before .before .before .before .before .before .before .before .before .before .place in
-  let within = c .before .before .before .before .before .before .before .before .within in
-  onward-more (sinkOf (a .m)) (sourceOf (a .m) (a .v .now)) (reads (sinkOf (a .m)) (sourceOf (a .m) (a .v .now)) (checked (a .t .now) (a .met)) (a .left)) (checked (a .t .now) (a .met)) (a .fields) (loop .inv) _ _ (loop-test .taken) (sym (member-at .ensures) ∙ place .given .1) (struct-members-step t (c .before .before) ∙ ap (λ (p : Parameters). reads (sinkOf (a .m)) (sourceOf (a .m) (a .v .now)) (checked (a .t .now) (a .met)) (a .left) p (stateOf (loop .d) (loop .table))) (within .ensures)) (struct-members-rows t (c .before .before)) (c .if2 .left)
+  let a = c .before .before .before .before .before .before .before .before .before .before .before .before .before .before .before .args in
+  let member-at = c .before .before .before .before .before .before .before .member-at in
+  let inner = c .before .before .before .before .before .inner in
+  let loop-test = c .before .before .before .before .before .before .before .before .loop-test in
+  let joined = c .before .before in
+  let inside-of = c .before .before .before .inside-of in
+  let if1 = c .if1 in
+  let k = sinkOf (a .m) in
+  let x = sourceOf (a .m) (a .v .now) in
+  let u = checked (a .t .now) (kindsMet (a .met)) in
+  let loop = c .before .before .before .before .before .before .before .before .before .loop in
+  let s = stateOf (loop .d) (loop .table) in
+  let at = sym (member-at .ensures) ∙ inner .given .1 in
+  onward-more k x (reads k x u (a .left)) u (a .t .now) (a .fields .start) (a .fields .order) (loop .inv) _ _ (loop-test .taken) at
+  (struct-members-step t joined ∙ ap (λ (p : Parameters). visits (a .m) (a .v .now) (a .t .now) (kindsMet (a .met)) (a .left) p s) (inside-of .ensures))
+  (struct-members-rows t joined) (if1 .left)
 
 struct-members-same-length-3 : (t : ℕ) → struct-members-lts.Need-same-length-3 (struct-members-of t) (struct-members-at t) struct-members.Post struct-members-Inv-loop struct-members-μ-loop
 struct-members-same-length-3 t c = c .before .loop .inv .same
@@ -454,49 +577,70 @@ struct-members-same-length-3 t c = c .before .loop .inv .same
 struct-members-returns-3 : (t : ℕ) → struct-members-lts.Need-returns-3 (struct-members-of t) (struct-members-at t) struct-members.Post struct-members-Inv-loop struct-members-μ-loop
 struct-members-returns-3 t c =
   let a = c .before .before .before .before .before .before .before .args in
-  onward-all (sinkOf (a .m)) (sourceOf (a .m) (a .v .now)) (reads (sinkOf (a .m)) (sourceOf (a .m) (a .v .now)) (checked (a .t .now) (a .met)) (a .left)) (checked (a .t .now) (a .met)) (a .fields) (c .before .loop .inv) (c .loop-test .left)
+  let k = sinkOf (a .m) in
+  let x = sourceOf (a .m) (a .v .now) in
+  let u = checked (a .t .now) (kindsMet (a .met)) in
+  onward-all k x (reads k x u (a .left)) u (a .t .now) (a .fields .start) (a .fields .order) (c .before .loop .inv) (c .loop-test .left)
 
 abbrev union-member-of : ℕ → union-member-lts.Claims
-union-member-of t = (within-reads.Asked, within-reads.Learnt, flat-visit-reads.Asked, flat-visit-reads.Learnt, visit-below t, visit.Post, labels-for-reads.Asked, labels-for-reads.Learnt, chosen-of-reads.Asked, chosen-of-reads.Learnt)
+union-member-of t =
+    (inside-of-reads.Asked, inside-of-reads.Learnt, flat-reads.Asked, flat-reads.Learnt, visit-below t, visit.Post,
+    place-in-reads.Asked, place-in-reads.Learnt, labels-for-reads.Asked, labels-for-reads.Learnt, chosen-of-reads.Asked,
+    chosen-of-reads.Learnt)
 
-union-member-within-requires : (t : ℕ) → union-member-lts.Need-within-requires (union-member-of t) (union-member-at t) union-member.Post
-union-member-within-requires t c κs = search needs
+union-member-inside-of-requires : (t : ℕ) → union-member-lts.Need-inside-of-requires (union-member-of t) (union-member-at t) union-member.Post
+union-member-inside-of-requires t c κs = search needs
 
-union-member-flat-visit-requires : (t : ℕ) → union-member-lts.Need-flat-visit-requires (union-member-of t) (union-member-at t) union-member.Post
-union-member-flat-visit-requires t c κs = search needs
+union-member-enum-known-switch : (t : ℕ) → union-member-lts.Need-enum-known-switch (union-member-of t) (union-member-at t) union-member.Post
+union-member-enum-known-switch t c = search needs
+
+union-member-flat-requires : (t : ℕ) → union-member-lts.Need-flat-requires (union-member-of t) (union-member-at t) union-member.Post
+union-member-flat-requires t c κs = search needs
 
 union-member-visit-requires : (t : ℕ) → union-member-lts.Need-visit-requires (union-member-of t) (union-member-at t) union-member.Post
-union-member-visit-requires t c κs =
-  let pre = c .before .before .before .before .before .before .before .before .before .before .before .pre in
-  (omega (arith, pre .0), tt)
+union-member-visit-requires t c κs = (omega (arith, c .before .before .before .before .before .before .pre .0), tt)
 
-union-member-step : (t : ℕ) (c : union-member-lts.Joined1 (union-member-of t) (union-member-at t) union-member.Post) → stateOf (c .if1 .d) (c .if1 .table) ≡ reads (sinkOf (c .before .before .before .before .before .before .before .before .before .before .args .m)) (sourceOf (c .before .before .before .before .before .before .before .before .before .before .args .m) (c .before .before .before .before .before .before .before .before .before .before .args .v .now)) (checked (c .before .before .before .before .before .before .before .before .before .before .args .t .now) (c .before .before .before .before .before .before .before .before .before .before .args .met)) (c .before .before .before .before .before .before .before .before .before .before .args .left) (c .before .before .before .before .before .before .within .result) (stateOf (c .before .before .before .before .before .before .before .before .before .before .args .c) (c .before .before .before .before .before .before .before .before .before .before .args .table .now))
+-- the discriminant is visited, whether it enters something or not
+union-member-step : (t : ℕ) (c : union-member-lts.At-match-came (union-member-of t) (union-member-at t) union-member.Post) →
+    let a = c .before .before .before .before .before .args in
+    stateOf (c .match .d) (c .match .table) ≡ visits (a .m) (a .v .now) (a .t .now) (kindsMet (a .met)) (a .left) (c .before .inside-of .result) (stateOf (a .c) (a .table .now))
+unfolding shapeOf
 union-member-step t c =
-  let a2 = c .before .before .before .before .before .before .before .before .before .before .args in
-  let within = c .before .before .before .before .before .before .within in
-  let flat-visit = c .before .before .before .before .flat-visit in
+  let a = c .before .before .before .before .before .args in
+  let r = c .match in
   ⊎-elim
-    (λ a. ap (λ (w : Cursor). stateOf w (c .if1 .table)) (a .6) ∙ ap (stateOf (a .2 .result)) (a .5) ∙ a .2 .ensures ∙ ap (reads (sinkOf (a2 .m)) (sourceOf (a2 .m) (a2 .v .now)) (checked (a2 .t .now) (a2 .met)) (a2 .left) (within .result)) (flat-left (a2 .m) (a2 .v .now) (within .result) (a2 .left) (stateOf (a2 .c) (a2 .table .now)) (stateOf (flat-visit .result .cursor) (flat-visit .last .1 .1 .0)) (flat-visit .result .enters) (flat-visit .ensures) (a .0 .taken)))
-    (λ b. ap (λ (w : Cursor). stateOf w (c .if1 .table)) (b .2) ∙ ap (stateOf (flat-visit .result .cursor)) (b .1) ∙ flat-done (a2 .m) (a2 .v .now) (within .result) (a2 .left) (stateOf (a2 .c) (a2 .table .now)) (stateOf (flat-visit .result .cursor) (flat-visit .last .1 .1 .0)) (flat-visit .result .enters) (flat-visit .ensures) (b .0 .left) (checked (a2 .t .now) (a2 .met)))
-    (c .if1 .came)
+  (λ f. ap (λ (w : Cursor). stateOf w (r .table)) (f .8) ∙ ap (stateOf (f .4 .result)) (f .7) ∙ f .4 .ensures (checked (a .t .now) (kindsMet (a .met)))
+  ∙ ap (λ (p : Parameters). visits (a .m) (a .v .now) (a .t .now) (kindsMet (a .met)) (a .left) p (stateOf (a .c) (a .table .now))) (sym (f .1 .given .1)))
+  (λ e. ap (λ (w : Cursor). stateOf w (r .table)) (e .6) ∙ ap (stateOf (e .2 .result)) (e .5) ∙ e .2 .ensures)
+  (r .came)
 
-union-member-rows : (t : ℕ) (c : union-member-lts.Joined1 (union-member-of t) (union-member-at t) union-member.Post) → length (c .if1 .table) ≡ length (c .before .before .before .before .before .before .before .before .before .before .args .table .now)
+union-member-rows : (t : ℕ) (c : union-member-lts.At-match-came (union-member-of t) (union-member-at t) union-member.Post) →
+    length (c .match .table) ≡ length (c .before .before .before .before .before .args .table .now)
 union-member-rows t c =
-  let flat-visit = c .before .before .before .before .flat-visit in
   ⊎-elim
-    (λ a. ap (λ (l : List ℕ). length l) (a .5) ∙ a .2 .kept .1 .1 .1 .1 .0 ∙ flat-visit .kept .1 .1 .0)
-    (λ b. ap (λ (l : List ℕ). length l) (b .1) ∙ flat-visit .kept .1 .1 .0)
-    (c .if1 .came)
+  (λ f. ap (λ (l : List ℕ). length l) (f .7) ∙ f .4 .kept .1 .1 .0)
+  (λ e. ap (λ (l : List ℕ). length l) (e .5) ∙ e .2 .kept .1 .1 .1 .1 .0)
+  (c .match .came)
 
 union-member-same-length : (t : ℕ) → union-member-lts.Need-same-length (union-member-of t) (union-member-at t) union-member.Post
 union-member-same-length t c = union-member-rows t (c .before .before)
 
 union-member-returns : (t : ℕ) → union-member-lts.Need-returns (union-member-of t) (union-member-at t) union-member.Post
+unfolding look
 union-member-returns t c =
-  let a = c .before .before .before .before .before .before .before .before .before .before .before .before .args in
-  let if1 = c .before .before .if1 in
-  let within = c .before .before .before .before .before .before .before .before .within in
-  sym (way.union-stop (sinkOf (a .m)) (sourceOf (a .m) (a .v .now)) (reads (sinkOf (a .m)) (sourceOf (a .m) (a .v .now)) (checked (a .t .now) (a .met)) (a .left)) (checked (a .t .now) (a .met)) (labelsFor (a .t .now) (a .met) (a .discriminant)) (a .fields) (a .discriminant) (a .default) (stateOf (a .c) (a .table .now)) (stateOf (if1 .d) (if1 .table)) (union-member-step t (c .before .before) ∙ ap (λ (p : Parameters). reads (sinkOf (a .m)) (sourceOf (a .m) (a .v .now)) (checked (a .t .now) (a .met)) (a .left) p (stateOf (a .c) (a .table .now))) (within .ensures)) (c .if2 .taken))
+  let a = c .before .before .before .before .before .before .before .args in
+  let k = sinkOf (a .m) in
+  let x = sourceOf (a .m) (a .v .now) in
+  let u = checked (a .t .now) (kindsMet (a .met)) in
+  let s = stateOf (a .c) (a .table .now) in
+  let d = stateOf (c .before .before .match .d) (c .before .before .match .table) in
+  let ms = membersOf (labelsFor (a .t .now) (kindsMet (a .met)) (placeIn (a .discriminant))) (a .t .now) (a .fields) in
+  let is = union-member-step t (c .before .before)
+  ∙ ap (λ (p : Parameters). visits (a .m) (a .v .now) (a .t .now) (kindsMet (a .met)) (a .left) p s) (c .before .before .before .inside-of .ensures) in
+  sym (way.union-stop k x (reads k x u (a .left)) u (a .discriminant) ms (a .default) s d is (c .if1 .taken))
+
+union-member-place-in-requires : (t : ℕ) → union-member-lts.Need-place-in-requires (union-member-of t) (union-member-at t) union-member.Post
+union-member-place-in-requires t c κs = search needs
 
 union-member-labels-for-requires : (t : ℕ) → union-member-lts.Need-labels-for-requires (union-member-of t) (union-member-at t) union-member.Post
 union-member-labels-for-requires t c κs = search needs
@@ -504,73 +648,128 @@ union-member-labels-for-requires t c κs = search needs
 union-member-chosen-of-requires : (t : ℕ) → union-member-lts.Need-chosen-of-requires (union-member-of t) (union-member-at t) union-member.Post
 union-member-chosen-of-requires t c κs = search needs
 
-union-member-enum-known-place : (t : ℕ) → union-member-lts.Need-enum-known-place (union-member-of t) (union-member-at t) union-member.Post
-union-member-enum-known-place t c = search needs
-
-union-member-within-requires-2 : (t : ℕ) → union-member-lts.Need-within-requires-2 (union-member-of t) (union-member-at t) union-member.Post
-union-member-within-requires-2 t c κs = search needs
-
-union-member-flat-visit-requires-2 : (t : ℕ) → union-member-lts.Need-flat-visit-requires-2 (union-member-of t) (union-member-at t) union-member.Post
-union-member-flat-visit-requires-2 t c κs = search needs
-
-union-member-visit-requires-2 : (t : ℕ) → union-member-lts.Need-visit-requires-2 (union-member-of t) (union-member-at t) union-member.Post
-union-member-visit-requires-2 t c κs =
-  let pre = c .before .before .before .before .before .before .before .before .before .before .before .before .before .before .before .before .before .before .before .before .before .before .before .before .pre in
-  (omega (arith, pre .0), tt)
-
-union-member-same-length-2 : (t : ℕ) → union-member-lts.Need-same-length-2 (union-member-of t) (union-member-at t) union-member.Post
-union-member-same-length-2 t c =
-  let flat-visit2 = c .before .before .before .before .before .before .before .flat-visit2 in
-  c .before .before .visit2 .kept .1 .1 .1 .1 .0 ∙ flat-visit2 .kept .1 .1 .0 ∙ union-member-rows t (c .before .before .before .before .before .before .before .before .before .before .before .before .before .before .before .before .before)
-
-union-member-returns-2 : (t : ℕ) → union-member-lts.Need-returns-2 (union-member-of t) (union-member-at t) union-member.Post
-union-member-returns-2 t c =
-  let a = c .before .before .before .before .before .before .before .before .before .before .before .before .before .before .before .before .before .before .before .before .before .before .before .before .before .before .before .args in
-  let within2 = c .before .before .before .before .before .before .before .before .before .within2 in
-  let if1 = c .before .before .before .before .before .before .before .before .before .before .before .before .before .before .before .before .before .if1 in
-  let flat-visit2 = c .before .before .before .before .before .before .before .flat-visit2 in
-  let if3 = c .before .before .before .before .if3 in
-  let within = c .before .before .before .before .before .before .before .before .before .before .before .before .before .before .before .before .before .before .before .before .before .before .before .within in
-  let if2 = c .before .before .before .before .before .before .before .before .before .before .before .before .before .before .before .if2 in
-  let labels-for = c .before .before .before .before .before .before .before .before .before .before .before .before .before .before .labels-for in
-  let chosen-of = c .before .before .before .before .before .before .before .before .before .before .before .before .before .chosen-of in
-  let place = c .before .before .before .before .before .before .before .before .before .before .before .place in
-  c .before .before .visit2 .ensures ∙ ap (reads (sinkOf (a .m)) (sourceOf (a .m) (a .v .now)) (checked (a .t .now) (a .met)) (a .left) (within2 .result)) (flat-left (a .m) (a .v .now) (within2 .result) (a .left) (stateOf (if1 .d) (if1 .table)) (stateOf (flat-visit2 .result .cursor) (flat-visit2 .last .1 .1 .0)) (flat-visit2 .result .enters) (flat-visit2 .ensures) (if3 .taken)) ∙ ap (λ (p : Parameters). reads (sinkOf (a .m)) (sourceOf (a .m) (a .v .now)) (checked (a .t .now) (a .met)) (a .left) p (stateOf (if1 .d) (if1 .table))) (within2 .ensures) ∙ sym (way.union-member (sinkOf (a .m)) (sourceOf (a .m) (a .v .now)) (reads (sinkOf (a .m)) (sourceOf (a .m) (a .v .now)) (checked (a .t .now) (a .met)) (a .left)) (checked (a .t .now) (a .met)) (labelsFor (a .t .now) (a .met) (a .discriminant)) (a .fields) (a .discriminant) (a .default) (stateOf (a .c) (a .table .now)) (stateOf (if1 .d) (if1 .table)) (union-member-step t (c .before .before .before .before .before .before .before .before .before .before .before .before .before .before .before .before .before) ∙ ap (λ (p : Parameters). reads (sinkOf (a .m)) (sourceOf (a .m) (a .v .now)) (checked (a .t .now) (a .met)) (a .left) p (stateOf (a .c) (a .table .now))) (within .ensures)) _ _ (if2 .left) (ap (λ (l : Labels). chosenOf l (a .t .now) (a .fields) (a .default) (if1 .d .last)) (sym (labels-for .ensures)) ∙ sym (chosen-of .ensures) ∙ place .given .1))
+union-member-enum-known-inner : (t : ℕ) → union-member-lts.Need-enum-known-inner (union-member-of t) (union-member-at t) union-member.Post
+union-member-enum-known-inner t c = search needs
 
 union-member-enum-told : (t : ℕ) → union-member-lts.Need-enum-told (union-member-of t) (union-member-at t) union-member.Post
 union-member-enum-told t c = search needs
 
+union-member-same-length-2 : (t : ℕ) → union-member-lts.Need-same-length-2 (union-member-of t) (union-member-at t) union-member.Post
+union-member-same-length-2 t c = union-member-rows t (c .before .before .before .before .before .before .before)
+
+union-member-returns-2 : (t : ℕ) → union-member-lts.Need-returns-2 (union-member-of t) (union-member-at t) union-member.Post
+unfolding look
+union-member-returns-2 t c =
+  let a = c .before .before .before .before .before .before .before .before .before .before .before .before .args in
+  let match = c .before .before .before .before .before .before .before .match in
+  let joined = c .before .before .before .before .before .before .before in
+  let inside-of = c .before .before .before .before .before .before .before .before .inside-of in
+  let labels-for = c .before .before .before .labels-for in
+  let place-in = c .before .before .before .before .place-in in
+  let chosen-of = c .before .before .chosen-of in
+  let if1 = c .before .before .before .before .before .if1 in
+  let enum-told = c .enum-told in
+  let k = sinkOf (a .m) in
+  let x = sourceOf (a .m) (a .v .now) in
+  let u = checked (a .t .now) (kindsMet (a .met)) in
+  let s = stateOf (a .c) (a .table .now) in
+  let d = stateOf (match .d) (match .table) in
+  let ms = membersOf (labelsFor (a .t .now) (kindsMet (a .met)) (placeIn (a .discriminant))) (a .t .now) (a .fields) in
+  let is = union-member-step t joined
+  ∙ ap (λ (p : Parameters). visits (a .m) (a .v .now) (a .t .now) (kindsMet (a .met)) (a .left) p s) (inside-of .ensures) in
+  let arm = ap (λ (l : Labels). chosenOf (membersOf l (a .t .now) (a .fields)) (a .default) (match .d .last))
+  (sym (labels-for .ensures ∙ ap (labelsFor (a .t .now) (kindsMet (a .met))) (place-in .ensures))) ∙ sym (chosen-of .ensures) in
+  sym (way.union-none k x (reads k x u (a .left)) u (a .discriminant) ms (a .default) s d is (if1 .left) (arm ∙ enum-told .given .1))
+
+union-member-inside-of-requires-2 : (t : ℕ) → union-member-lts.Need-inside-of-requires-2 (union-member-of t) (union-member-at t) union-member.Post
+union-member-inside-of-requires-2 t c κs = search needs
+
+union-member-enum-known-e : (t : ℕ) → union-member-lts.Need-enum-known-e (union-member-of t) (union-member-at t) union-member.Post
+union-member-enum-known-e t c = search needs
+
+union-member-flat-requires-2 : (t : ℕ) → union-member-lts.Need-flat-requires-2 (union-member-of t) (union-member-at t) union-member.Post
+union-member-flat-requires-2 t c κs = search needs
+
+union-member-visit-requires-2 : (t : ℕ) → union-member-lts.Need-visit-requires-2 (union-member-of t) (union-member-at t) union-member.Post
+union-member-visit-requires-2 t c κs =
+  let pre = c .before .before .before .before .before .before .before .before .before .before .before .before .before .before .before .before .pre in
+  (omega (arith, pre .0), tt)
+
 union-member-same-length-3 : (t : ℕ) → union-member-lts.Need-same-length-3 (union-member-of t) (union-member-at t) union-member.Post
 union-member-same-length-3 t c =
-  let flat-visit2 = c .before .before .before .before .flat-visit2 in
-  flat-visit2 .kept .1 .1 .0 ∙ union-member-rows t (c .before .before .before .before .before .before .before .before .before .before .before .before .before .before)
+  let flat2 = c .before .before .flat2 in
+  let joined = c .before .before .before .before .before .before .before .before .before .before .before .before .before .before .before .before in
+  flat2 .kept .1 .1 .0 ∙ union-member-rows t joined
 
 union-member-returns-3 : (t : ℕ) → union-member-lts.Need-returns-3 (union-member-of t) (union-member-at t) union-member.Post
+unfolding look shapeOf
 union-member-returns-3 t c =
-  let a = c .before .before .before .before .before .before .before .before .before .before .before .before .before .before .before .before .before .before .before .before .before .before .before .before .args in
-  let within2 = c .before .before .before .before .before .before .within2 in
+  let a = c .before .before .before .before .before .before .before .before .before .before .before .before .before .before .before .before .before .before .before .before .before .args in
+  let match = c .before .before .before .before .before .before .before .before .before .before .before .before .before .before .before .before .match in
+  let joined = c .before .before .before .before .before .before .before .before .before .before .before .before .before .before .before .before in
+  let inside-of = c .before .before .before .before .before .before .before .before .before .before .before .before .before .before .before .before .before .inside-of in
+  let labels-for = c .before .before .before .before .before .before .before .before .before .before .before .before .labels-for in
+  let place-in = c .before .before .before .before .before .before .before .before .before .before .before .before .before .place-in in
+  let chosen-of = c .before .before .before .before .before .before .before .before .before .before .before .chosen-of in
+  let flat2 = c .before .before .flat2 in
+  let e1 = c .before .before .before .before .before .e in
+  let inside-of2 = c .before .before .before .before .before .before .before .inside-of2 in
   let if1 = c .before .before .before .before .before .before .before .before .before .before .before .before .before .before .if1 in
-  let flat-visit2 = c .before .before .before .before .flat-visit2 in
-  let within = c .before .before .before .before .before .before .before .before .before .before .before .before .before .before .before .before .before .before .before .before .within in
-  let if2 = c .before .before .before .before .before .before .before .before .before .before .before .before .if2 in
-  let labels-for = c .before .before .before .before .before .before .before .before .before .before .before .labels-for in
-  let chosen-of = c .before .before .before .before .before .before .before .before .before .before .chosen-of in
-  let place = c .before .before .before .before .before .before .before .before .place in
-  flat-done (a .m) (a .v .now) (within2 .result) (a .left) (stateOf (if1 .d) (if1 .table)) (stateOf (flat-visit2 .result .cursor) (flat-visit2 .last .1 .1 .0)) (flat-visit2 .result .enters) (flat-visit2 .ensures) (c .before .if3 .left) (checked (a .t .now) (a .met)) ∙ ap (λ (p : Parameters). reads (sinkOf (a .m)) (sourceOf (a .m) (a .v .now)) (checked (a .t .now) (a .met)) (a .left) p (stateOf (if1 .d) (if1 .table))) (within2 .ensures) ∙ sym (way.union-member (sinkOf (a .m)) (sourceOf (a .m) (a .v .now)) (reads (sinkOf (a .m)) (sourceOf (a .m) (a .v .now)) (checked (a .t .now) (a .met)) (a .left)) (checked (a .t .now) (a .met)) (labelsFor (a .t .now) (a .met) (a .discriminant)) (a .fields) (a .discriminant) (a .default) (stateOf (a .c) (a .table .now)) (stateOf (if1 .d) (if1 .table)) (union-member-step t (c .before .before .before .before .before .before .before .before .before .before .before .before .before .before) ∙ ap (λ (p : Parameters). reads (sinkOf (a .m)) (sourceOf (a .m) (a .v .now)) (checked (a .t .now) (a .met)) (a .left) p (stateOf (a .c) (a .table .now))) (within .ensures)) _ _ (if2 .left) (ap (λ (l : Labels). chosenOf l (a .t .now) (a .fields) (a .default) (if1 .d .last)) (sym (labels-for .ensures)) ∙ sym (chosen-of .ensures) ∙ place .given .1))
+  let inner = c .before .before .before .before .before .before .before .before .before .inner in
+  let k = sinkOf (a .m) in
+  let x = sourceOf (a .m) (a .v .now) in
+  let u = checked (a .t .now) (kindsMet (a .met)) in
+  let s = stateOf (a .c) (a .table .now) in
+  let d = stateOf (match .d) (match .table) in
+  let ms = membersOf (labelsFor (a .t .now) (kindsMet (a .met)) (placeIn (a .discriminant))) (a .t .now) (a .fields) in
+  let is = union-member-step t joined
+  ∙ ap (λ (p : Parameters). visits (a .m) (a .v .now) (a .t .now) (kindsMet (a .met)) (a .left) p s) (inside-of .ensures) in
+  let arm = ap (λ (l : Labels). chosenOf (membersOf l (a .t .now) (a .fields)) (a .default) (match .d .last))
+  (sym (labels-for .ensures ∙ ap (labelsFor (a .t .now) (kindsMet (a .met))) (place-in .ensures))) ∙ sym (chosen-of .ensures) in
+  flat2 .ensures u
+  ∙ ap (λ (p : Parameters). visits (a .m) (a .v .now) (a .t .now) (kindsMet (a .met)) (a .left) p d) (sym (e1 .given .1) ∙ inside-of2 .ensures)
+  ∙ sym (way.union-member k x (reads k x u (a .left)) u (a .discriminant) ms (a .default) s d is _ (if1 .left) (arm ∙ inner .given .1))
 
 union-member-same-length-4 : (t : ℕ) → union-member-lts.Need-same-length-4 (union-member-of t) (union-member-at t) union-member.Post
-union-member-same-length-4 t c = union-member-rows t (c .before .before .before .before .before .before)
+union-member-same-length-4 t c =
+  let visit2 = c .before .before .visit2 in
+  let joined = c .before .before .before .before .before .before .before .before .before .before .before .before .before .before in
+  visit2 .kept .1 .1 .1 .1 .0 ∙ union-member-rows t joined
 
 union-member-returns-4 : (t : ℕ) → union-member-lts.Need-returns-4 (union-member-of t) (union-member-at t) union-member.Post
+unfolding look
 union-member-returns-4 t c =
-  let a = c .before .before .before .before .before .before .before .before .before .before .before .before .before .before .before .before .args in
-  let if1 = c .before .before .before .before .before .before .if1 in
-  let within = c .before .before .before .before .before .before .before .before .before .before .before .before .within in
-  let if2 = c .before .before .before .before .if2 in
-  sym (way.union-none (sinkOf (a .m)) (sourceOf (a .m) (a .v .now)) (reads (sinkOf (a .m)) (sourceOf (a .m) (a .v .now)) (checked (a .t .now) (a .met)) (a .left)) (checked (a .t .now) (a .met)) (labelsFor (a .t .now) (a .met) (a .discriminant)) (a .fields) (a .discriminant) (a .default) (stateOf (a .c) (a .table .now)) (stateOf (if1 .d) (if1 .table)) (union-member-step t (c .before .before .before .before .before .before) ∙ ap (λ (p : Parameters). reads (sinkOf (a .m)) (sourceOf (a .m) (a .v .now)) (checked (a .t .now) (a .met)) (a .left) p (stateOf (a .c) (a .table .now))) (within .ensures)) (if2 .left) (ap (λ (l : Labels). chosenOf l (a .t .now) (a .fields) (a .default) (if1 .d .last)) (sym (c .before .before .before .labels-for .ensures)) ∙ sym (c .before .before .chosen-of .ensures) ∙ c .enum-told .given .1))
+  let a = c .before .before .before .before .before .before .before .before .before .before .before .before .before .before .before .before .before .before .before .args in
+  let match = c .before .before .before .before .before .before .before .before .before .before .before .before .before .before .match in
+  let joined = c .before .before .before .before .before .before .before .before .before .before .before .before .before .before in
+  let inside-of = c .before .before .before .before .before .before .before .before .before .before .before .before .before .before .before .inside-of in
+  let labels-for = c .before .before .before .before .before .before .before .before .before .before .labels-for in
+  let place-in = c .before .before .before .before .before .before .before .before .before .before .before .place-in in
+  let chosen-of = c .before .before .before .before .before .before .before .before .before .chosen-of in
+  let visit2 = c .before .before .visit2 in
+  let inside-of2 = c .before .before .before .before .before .inside-of2 in
+  let if1 = c .before .before .before .before .before .before .before .before .before .before .before .before .if1 in
+  let inner = c .before .before .before .before .before .before .before .inner in
+  let k = sinkOf (a .m) in
+  let x = sourceOf (a .m) (a .v .now) in
+  let u = checked (a .t .now) (kindsMet (a .met)) in
+  let s = stateOf (a .c) (a .table .now) in
+  let d = stateOf (match .d) (match .table) in
+  let ms = membersOf (labelsFor (a .t .now) (kindsMet (a .met)) (placeIn (a .discriminant))) (a .t .now) (a .fields) in
+  let is = union-member-step t joined
+  ∙ ap (λ (p : Parameters). visits (a .m) (a .v .now) (a .t .now) (kindsMet (a .met)) (a .left) p s) (inside-of .ensures) in
+  let arm = ap (λ (l : Labels). chosenOf (membersOf l (a .t .now) (a .fields)) (a .default) (match .d .last))
+  (sym (labels-for .ensures ∙ ap (labelsFor (a .t .now) (kindsMet (a .met))) (place-in .ensures))) ∙ sym (chosen-of .ensures) in
+  visit2 .ensures
+  ∙ ap (λ (p : Parameters). visits (a .m) (a .v .now) (a .t .now) (kindsMet (a .met)) (a .left) p d) (inside-of2 .ensures)
+  ∙ sym (way.union-member k x (reads k x u (a .left)) u (a .discriminant) ms (a .default) s d is _ (if1 .left) (arm ∙ inner .given .1))
 
 abbrev visit-of : ℕ → visit-lts.Claims
-visit-of t = (refused-reads.Asked, refused-reads.Learnt, visit-reads.Asked, visit-reads.Learnt, leaf-reads.Asked, leaf-reads.Learnt, text-reads.Asked, text-reads.Learnt, reference-reads.Asked, reference-reads.Learnt, struct-members-below t, struct-members.Post, exception-below t, exception.Post, union-member-below t, union-member.Post, enumerated-reads.Asked, enumerated-reads.Learnt, sequence-below t, sequence.Post, within-reads.Asked, within-reads.Learnt, elements-below t, elements.Post, visit-below t, visit.Post)
+visit-of t =
+    (refused-reads.Asked, refused-reads.Learnt, visit-reads.Asked, visit-reads.Learnt, inert-reads.Asked, inert-reads.Learnt,
+    struct-members-below t, struct-members.Post, exception-below t, exception.Post, union-member-below t, union-member.Post,
+    sequence-below t, sequence.Post, inside-of-reads.Asked, inside-of-reads.Learnt, elements-below t, elements.Post, visit-below t,
+    visit.Post)
 
 visit-refused-requires : (t : ℕ) → visit-lts.Need-refused-requires (visit-of t) (visit-at t) visit.Post
 visit-refused-requires t c κs = search needs
@@ -578,7 +777,12 @@ visit-refused-requires t c κs = search needs
 visit-returns : (t : ℕ) → visit-lts.Need-returns (visit-of t) (visit-at t) visit.Post
 visit-returns t c =
   let a = c .before .before .before .before .before .args in
-  c .refused .ensures (a .table .now) ∙ sym (ap (λ (l : ℕ). reads (sinkOf (a .m)) (sourceOf (a .m) (a .v .now)) (checked (a .t .now) (a .met)) l (a .p) (stateOf (a .c) (a .table .now))) (c .before .if1 .taken) ∙ way.reads-none (sinkOf (a .m)) (sourceOf (a .m) (a .v .now)) (checked (a .t .now) (a .met)) (a .p) (stateOf (a .c) (a .table .now)))
+  let k = sinkOf (a .m) in
+  let x = sourceOf (a .m) (a .v .now) in
+  let u = checked (a .t .now) (kindsMet (a .met)) in
+  let s = stateOf (a .c) (a .table .now) in
+  let p = shapeOf (a .t .now) (kindsMet (a .met)) (a .p) in
+  c .refused .ensures (a .table .now) ∙ sym (ap (λ (l : ℕ). reads k x u l p s) (c .before .if1 .taken) ∙ reads-none k x u p s)
 
 visit-sub-below : (t : ℕ) → visit-lts.Need-sub-below (visit-of t) (visit-at t) visit.Post
 visit-sub-below t c = omega arith
@@ -592,207 +796,196 @@ visit-enum-told t c = search needs
 visit-enum-known-p : (t : ℕ) → visit-lts.Need-enum-known-p (visit-of t) (visit-at t) visit.Post
 visit-enum-known-p t c = search needs
 
-visit-leaf-requires : (t : ℕ) → visit-lts.Need-leaf-requires (visit-of t) (visit-at t) visit.Post
-visit-leaf-requires t c κs = search needs
+visit-inert-requires : (t : ℕ) → visit-lts.Need-inert-requires (visit-of t) (visit-at t) visit.Post
+visit-inert-requires t c κs = search needs
 
 visit-enum-known-p-2 : (t : ℕ) → visit-lts.Need-enum-known-p-2 (visit-of t) (visit-at t) visit.Post
 visit-enum-known-p-2 t c = search needs
 
-visit-text-requires : (t : ℕ) → visit-lts.Need-text-requires (visit-of t) (visit-at t) visit.Post
-visit-text-requires t c κs = search needs
-
-visit-enum-told-2 : (t : ℕ) → visit-lts.Need-enum-told-2 (visit-of t) (visit-at t) visit.Post
-visit-enum-told-2 t c = search needs
-
-visit-reference-requires : (t : ℕ) → visit-lts.Need-reference-requires (visit-of t) (visit-at t) visit.Post
-visit-reference-requires t c κs = search needs
+visit-struct-members-requires : (t : ℕ) → visit-lts.Need-struct-members-requires (visit-of t) (visit-at t) visit.Post
+visit-struct-members-requires t c κs = (omega (arith, c .before .before .before .before .before .before .before .before .before .pre .0), tt)
 
 visit-enum-known-p-3 : (t : ℕ) → visit-lts.Need-enum-known-p-3 (visit-of t) (visit-at t) visit.Post
 visit-enum-known-p-3 t c = search needs
 
-visit-struct-members-requires : (t : ℕ) → visit-lts.Need-struct-members-requires (visit-of t) (visit-at t) visit.Post
-visit-struct-members-requires t c κs =
-  let pre = c .before .before .before .before .before .before .before .before .before .pre in
-  (omega (arith, pre .0), tt)
+visit-exception-requires : (t : ℕ) → visit-lts.Need-exception-requires (visit-of t) (visit-at t) visit.Post
+visit-exception-requires t c κs = (omega (arith, c .before .before .before .before .before .before .before .before .before .pre .0), tt)
 
 visit-enum-known-p-4 : (t : ℕ) → visit-lts.Need-enum-known-p-4 (visit-of t) (visit-at t) visit.Post
 visit-enum-known-p-4 t c = search needs
 
-visit-exception-requires : (t : ℕ) → visit-lts.Need-exception-requires (visit-of t) (visit-at t) visit.Post
-visit-exception-requires t c κs =
-  let pre = c .before .before .before .before .before .before .before .before .before .pre in
-  (omega (arith, pre .0), tt)
+visit-union-member-requires : (t : ℕ) → visit-lts.Need-union-member-requires (visit-of t) (visit-at t) visit.Post
+visit-union-member-requires t c κs = (omega (arith, c .before .before .before .before .before .before .before .before .before .pre .0), tt)
 
 visit-enum-known-p-5 : (t : ℕ) → visit-lts.Need-enum-known-p-5 (visit-of t) (visit-at t) visit.Post
 visit-enum-known-p-5 t c = search needs
 
-visit-union-member-requires : (t : ℕ) → visit-lts.Need-union-member-requires (visit-of t) (visit-at t) visit.Post
-visit-union-member-requires t c κs =
-  let pre = c .before .before .before .before .before .before .before .before .before .pre in
-  (omega (arith, pre .0), tt)
+visit-sequence-requires : (t : ℕ) → visit-lts.Need-sequence-requires (visit-of t) (visit-at t) visit.Post
+visit-sequence-requires t c κs = (omega (arith, c .before .before .before .before .before .before .before .before .before .pre .0), tt)
 
 visit-enum-known-p-6 : (t : ℕ) → visit-lts.Need-enum-known-p-6 (visit-of t) (visit-at t) visit.Post
 visit-enum-known-p-6 t c = search needs
 
-visit-enumerated-requires : (t : ℕ) → visit-lts.Need-enumerated-requires (visit-of t) (visit-at t) visit.Post
-visit-enumerated-requires t c κs = search needs
+visit-inside-of-requires : (t : ℕ) → visit-lts.Need-inside-of-requires (visit-of t) (visit-at t) visit.Post
+visit-inside-of-requires t c κs = search needs
+
+visit-elements-requires : (t : ℕ) → visit-lts.Need-elements-requires (visit-of t) (visit-at t) visit.Post
+visit-elements-requires t c κs = (omega (arith, c .before .before .before .before .before .before .before .before .before .before .pre .0), tt)
 
 visit-enum-known-p-7 : (t : ℕ) → visit-lts.Need-enum-known-p-7 (visit-of t) (visit-at t) visit.Post
 visit-enum-known-p-7 t c = search needs
 
-visit-sequence-requires : (t : ℕ) → visit-lts.Need-sequence-requires (visit-of t) (visit-at t) visit.Post
-visit-sequence-requires t c κs =
-  let pre = c .before .before .before .before .before .before .before .before .before .pre in
-  (omega (arith, pre .0), tt)
-
-visit-enum-known-p-8 : (t : ℕ) → visit-lts.Need-enum-known-p-8 (visit-of t) (visit-at t) visit.Post
-visit-enum-known-p-8 t c = search needs
-
-visit-within-requires : (t : ℕ) → visit-lts.Need-within-requires (visit-of t) (visit-at t) visit.Post
-visit-within-requires t c κs = search needs
-
-visit-elements-requires : (t : ℕ) → visit-lts.Need-elements-requires (visit-of t) (visit-at t) visit.Post
-visit-elements-requires t c κs =
-  let pre = c .before .before .before .before .before .before .before .before .before .before .pre in
-  (omega (arith, pre .0), tt)
-
-visit-enum-known-p-9 : (t : ℕ) → visit-lts.Need-enum-known-p-9 (visit-of t) (visit-at t) visit.Post
-visit-enum-known-p-9 t c = search needs
-
-visit-within-requires-2 : (t : ℕ) → visit-lts.Need-within-requires-2 (visit-of t) (visit-at t) visit.Post
-visit-within-requires-2 t c κs = search needs
+visit-inside-of-requires-2 : (t : ℕ) → visit-lts.Need-inside-of-requires-2 (visit-of t) (visit-at t) visit.Post
+visit-inside-of-requires-2 t c κs = search needs
 
 visit-visit-requires-2 : (t : ℕ) → visit-lts.Need-visit-requires-2 (visit-of t) (visit-at t) visit.Post
-visit-visit-requires-2 t c κs =
-  let pre = c .before .before .before .before .before .before .before .before .before .before .pre in
-  (omega (arith, pre .0), tt)
+visit-visit-requires-2 t c κs = (omega (arith, c .before .before .before .before .before .before .before .before .before .before .pre .0), tt)
 
 visit-returns-2 : (t : ℕ) → visit-lts.Need-returns-2 (visit-of t) (visit-at t) visit.Post
-unfolding enter
+unfolding enter shapeOf
 visit-returns-2 t c =
   let a = c .before .before .before .before .before .before .before .args in
-  sym (way.visit-some (sinkOf (a .m)) (sourceOf (a .m) (a .v .now)) (checked (a .t .now) (a .met)) (a .left) (a .p) _ (stateOf (a .c) (a .table .now)) _ (c .before .before .before .if1 .left) (c .enum-told .given .1) (c .before .before .visit .ensures (a .m) (a .table .now)))
+  let k = sinkOf (a .m) in
+  let x = sourceOf (a .m) (a .v .now) in
+  let u = checked (a .t .now) (kindsMet (a .met)) in
+  let s = stateOf (a .c) (a .table .now) in
+  sym (way.visit-some k x u (a .left) (shapeOf (a .t .now) (kindsMet (a .met)) (a .p)) _ s _ (c .before .before .before .if1 .left)
+  (ap (shapeOf (a .t .now) (kindsMet (a .met))) (c .enum-told .given .1)) (c .before .before .visit .ensures (a .m) (a .table .now)))
 
 visit-same-length : (t : ℕ) → visit-lts.Need-same-length (visit-of t) (visit-at t) visit.Post
-visit-same-length t c = search needs
+visit-same-length t c = c .before .before .inert .kept .1 .1 .0
 
 visit-returns-3 : (t : ℕ) → visit-lts.Need-returns-3 (visit-of t) (visit-at t) visit.Post
-unfolding enter
+unfolding enter shapeOf
 visit-returns-3 t c =
   let a = c .before .before .before .before .before .before .before .before .before .before .before .before .args in
+  let inert = c .before .before .inert in
   let if1 = c .before .before .before .before .before .before .before .before .if1 in
-  let p = c .before .before .before .before .before .p in
+  let p1 = c .before .before .before .before .before .p in
   let visit = c .before .before .before .before .before .before .before .visit in
-  c .before .before .leaf .ensures ∙ sym (way.visit-some (sinkOf (a .m)) (sourceOf (a .m) (a .v .now)) (checked (a .t .now) (a .met)) (a .left) (a .p) _ (stateOf (a .c) (a .table .now)) _ (if1 .left) (p .given .1) (visit .ensures (a .m) (a .table .now)))
+  let k = sinkOf (a .m) in
+  let x = sourceOf (a .m) (a .v .now) in
+  let u = checked (a .t .now) (kindsMet (a .met)) in
+  let s = stateOf (a .c) (a .table .now) in
+  inert .ensures ∙
+  sym (way.visit-some k x u (a .left) (shapeOf (a .t .now) (kindsMet (a .met)) (a .p)) _ s _ (if1 .left)
+  (ap (shapeOf (a .t .now) (kindsMet (a .met))) (p1 .given .1)) (visit .ensures (a .m) (a .table .now)))
 
 visit-same-length-2 : (t : ℕ) → visit-lts.Need-same-length-2 (visit-of t) (visit-at t) visit.Post
-visit-same-length-2 t c = c .before .before .text .kept .1 .1 .0
+visit-same-length-2 t c = c .before .before .struct-members .kept .1 .1 .1 .1 .0
 
 visit-returns-4 : (t : ℕ) → visit-lts.Need-returns-4 (visit-of t) (visit-at t) visit.Post
-unfolding enter
+unfolding enter shapeOf
 visit-returns-4 t c =
   let a = c .before .before .before .before .before .before .before .before .before .before .before .before .args in
+  let struct-members = c .before .before .struct-members in
   let if1 = c .before .before .before .before .before .before .before .before .if1 in
   let p2 = c .before .before .before .before .before .p2 in
   let visit = c .before .before .before .before .before .before .before .visit in
-  c .before .before .text .ensures ∙ sym (way.visit-some (sinkOf (a .m)) (sourceOf (a .m) (a .v .now)) (checked (a .t .now) (a .met)) (a .left) (a .p) _ (stateOf (a .c) (a .table .now)) _ (if1 .left) (p2 .given .1) (visit .ensures (a .m) (a .table .now)))
+  let k = sinkOf (a .m) in
+  let x = sourceOf (a .m) (a .v .now) in
+  let u = checked (a .t .now) (kindsMet (a .met)) in
+  let s = stateOf (a .c) (a .table .now) in
+  struct-members .ensures ∙
+  sym (way.visit-some k x u (a .left) (shapeOf (a .t .now) (kindsMet (a .met)) (a .p)) _ s _ (if1 .left)
+  (ap (shapeOf (a .t .now) (kindsMet (a .met))) (p2 .given .1)) (visit .ensures (a .m) (a .table .now)))
 
 visit-same-length-3 : (t : ℕ) → visit-lts.Need-same-length-3 (visit-of t) (visit-at t) visit.Post
-visit-same-length-3 t c = c .before .before .reference .kept .1 .1 .0
+visit-same-length-3 t c = c .before .before .exception .kept .1 .1 .1 .1 .0
 
 visit-returns-5 : (t : ℕ) → visit-lts.Need-returns-5 (visit-of t) (visit-at t) visit.Post
-unfolding enter
+unfolding enter shapeOf
 visit-returns-5 t c =
-  let a = c .before .before .before .before .before .before .before .before .before .before .before .args in
-  let if1 = c .before .before .before .before .before .before .before .if1 in
-  let enum-told2 = c .before .before .before .before .enum-told2 in
-  let visit = c .before .before .before .before .before .before .visit in
-  c .before .before .reference .ensures ∙ sym (way.visit-some (sinkOf (a .m)) (sourceOf (a .m) (a .v .now)) (checked (a .t .now) (a .met)) (a .left) (a .p) _ (stateOf (a .c) (a .table .now)) _ (if1 .left) (enum-told2 .given .1) (visit .ensures (a .m) (a .table .now)))
-
-visit-same-length-4 : (t : ℕ) → visit-lts.Need-same-length-4 (visit-of t) (visit-at t) visit.Post
-visit-same-length-4 t c = c .before .before .struct-members .kept .1 .1 .1 .1 .0
-
-visit-returns-6 : (t : ℕ) → visit-lts.Need-returns-6 (visit-of t) (visit-at t) visit.Post
-unfolding enter
-visit-returns-6 t c =
   let a = c .before .before .before .before .before .before .before .before .before .before .before .before .args in
+  let exception = c .before .before .exception in
   let if1 = c .before .before .before .before .before .before .before .before .if1 in
   let p3 = c .before .before .before .before .before .p3 in
   let visit = c .before .before .before .before .before .before .before .visit in
-  c .before .before .struct-members .ensures ∙ sym (way.visit-some (sinkOf (a .m)) (sourceOf (a .m) (a .v .now)) (checked (a .t .now) (a .met)) (a .left) (a .p) _ (stateOf (a .c) (a .table .now)) _ (if1 .left) (p3 .given .1) (visit .ensures (a .m) (a .table .now)))
+  let k = sinkOf (a .m) in
+  let x = sourceOf (a .m) (a .v .now) in
+  let u = checked (a .t .now) (kindsMet (a .met)) in
+  let s = stateOf (a .c) (a .table .now) in
+  exception .ensures ∙
+  sym (way.visit-some k x u (a .left) (shapeOf (a .t .now) (kindsMet (a .met)) (a .p)) _ s _ (if1 .left)
+  (ap (shapeOf (a .t .now) (kindsMet (a .met))) (p3 .given .1)) (visit .ensures (a .m) (a .table .now)))
 
-visit-same-length-5 : (t : ℕ) → visit-lts.Need-same-length-5 (visit-of t) (visit-at t) visit.Post
-visit-same-length-5 t c = c .before .before .exception .kept .1 .1 .1 .1 .0
+visit-same-length-4 : (t : ℕ) → visit-lts.Need-same-length-4 (visit-of t) (visit-at t) visit.Post
+visit-same-length-4 t c = c .before .before .union-member .kept .1 .1 .1 .1 .0
 
-visit-returns-7 : (t : ℕ) → visit-lts.Need-returns-7 (visit-of t) (visit-at t) visit.Post
-unfolding enter
-visit-returns-7 t c =
+visit-returns-6 : (t : ℕ) → visit-lts.Need-returns-6 (visit-of t) (visit-at t) visit.Post
+unfolding enter shapeOf
+visit-returns-6 t c =
   let a = c .before .before .before .before .before .before .before .before .before .before .before .before .args in
+  let union-member = c .before .before .union-member in
   let if1 = c .before .before .before .before .before .before .before .before .if1 in
   let p4 = c .before .before .before .before .before .p4 in
   let visit = c .before .before .before .before .before .before .before .visit in
-  c .before .before .exception .ensures ∙ sym (way.visit-some (sinkOf (a .m)) (sourceOf (a .m) (a .v .now)) (checked (a .t .now) (a .met)) (a .left) (a .p) _ (stateOf (a .c) (a .table .now)) _ (if1 .left) (p4 .given .1) (visit .ensures (a .m) (a .table .now)))
+  let k = sinkOf (a .m) in
+  let x = sourceOf (a .m) (a .v .now) in
+  let u = checked (a .t .now) (kindsMet (a .met)) in
+  let s = stateOf (a .c) (a .table .now) in
+  union-member .ensures ∙
+  sym (way.visit-some k x u (a .left) (shapeOf (a .t .now) (kindsMet (a .met)) (a .p)) _ s _ (if1 .left)
+  (ap (shapeOf (a .t .now) (kindsMet (a .met))) (p4 .given .1)) (visit .ensures (a .m) (a .table .now)))
 
-visit-same-length-6 : (t : ℕ) → visit-lts.Need-same-length-6 (visit-of t) (visit-at t) visit.Post
-visit-same-length-6 t c = c .before .before .union-member .kept .1 .1 .1 .1 .0
+visit-same-length-5 : (t : ℕ) → visit-lts.Need-same-length-5 (visit-of t) (visit-at t) visit.Post
+visit-same-length-5 t c = c .before .before .sequence .kept .1 .1 .1 .1 .0
 
-visit-returns-8 : (t : ℕ) → visit-lts.Need-returns-8 (visit-of t) (visit-at t) visit.Post
-unfolding enter
-visit-returns-8 t c =
+visit-returns-7 : (t : ℕ) → visit-lts.Need-returns-7 (visit-of t) (visit-at t) visit.Post
+unfolding enter shapeOf
+visit-returns-7 t c =
   let a = c .before .before .before .before .before .before .before .before .before .before .before .before .args in
+  let sequence = c .before .before .sequence in
   let if1 = c .before .before .before .before .before .before .before .before .if1 in
   let p5 = c .before .before .before .before .before .p5 in
   let visit = c .before .before .before .before .before .before .before .visit in
-  c .before .before .union-member .ensures ∙ sym (way.visit-some (sinkOf (a .m)) (sourceOf (a .m) (a .v .now)) (checked (a .t .now) (a .met)) (a .left) (a .p) _ (stateOf (a .c) (a .table .now)) _ (if1 .left) (p5 .given .1) (visit .ensures (a .m) (a .table .now)))
+  let k = sinkOf (a .m) in
+  let x = sourceOf (a .m) (a .v .now) in
+  let u = checked (a .t .now) (kindsMet (a .met)) in
+  let s = stateOf (a .c) (a .table .now) in
+  sequence .ensures ∙
+  sym (way.visit-some k x u (a .left) (shapeOf (a .t .now) (kindsMet (a .met)) (a .p)) _ s _ (if1 .left)
+  (ap (shapeOf (a .t .now) (kindsMet (a .met))) (p5 .given .1)) (visit .ensures (a .m) (a .table .now)))
+
+visit-same-length-6 : (t : ℕ) → visit-lts.Need-same-length-6 (visit-of t) (visit-at t) visit.Post
+visit-same-length-6 t c = c .before .before .elements .kept .1 .1 .1 .1 .0
+
+visit-returns-8 : (t : ℕ) → visit-lts.Need-returns-8 (visit-of t) (visit-at t) visit.Post
+unfolding look shapeOf
+visit-returns-8 t c =
+  let a = c .before .before .before .before .before .before .before .before .before .before .before .before .before .args in
+  let elements = c .before .before .elements in
+  let if1 = c .before .before .before .before .before .before .before .before .before .if1 in
+  let visit = c .before .before .before .before .before .before .before .before .visit in
+  let inside-of = c .before .before .before .before .inside-of in
+  let p6 = c .before .before .before .before .before .before .p6 in
+  let k = sinkOf (a .m) in
+  let x = sourceOf (a .m) (a .v .now) in
+  let u = checked (a .t .now) (kindsMet (a .met)) in
+  let s = stateOf (a .c) (a .table .now) in
+  elements .ensures ∙
+  sym (way.visit-array k x u (a .left) (shapeOf (a .t .now) (kindsMet (a .met)) (a .p)) _ _ s _ (if1 .left) (visit .ensures (a .m) (a .table .now))
+  (ap (shapeOf (a .t .now) (kindsMet (a .met))) (inside-of .ensures)) _ (ap (shapeOf (a .t .now) (kindsMet (a .met))) (p6 .given .1)))
 
 visit-same-length-7 : (t : ℕ) → visit-lts.Need-same-length-7 (visit-of t) (visit-at t) visit.Post
-visit-same-length-7 t c = c .before .before .enumerated .kept .1 .1 .0
+visit-same-length-7 t c = c .before .before .visit2 .kept .1 .1 .1 .1 .0
 
 visit-returns-9 : (t : ℕ) → visit-lts.Need-returns-9 (visit-of t) (visit-at t) visit.Post
-unfolding enter
+unfolding look shapeOf
 visit-returns-9 t c =
-  let a = c .before .before .before .before .before .before .before .before .before .before .before .before .args in
-  let if1 = c .before .before .before .before .before .before .before .before .if1 in
-  let p6 = c .before .before .before .before .before .p6 in
-  let visit = c .before .before .before .before .before .before .before .visit in
-  c .before .before .enumerated .ensures ∙ sym (way.visit-some (sinkOf (a .m)) (sourceOf (a .m) (a .v .now)) (checked (a .t .now) (a .met)) (a .left) (a .p) _ (stateOf (a .c) (a .table .now)) _ (if1 .left) (p6 .given .1) (visit .ensures (a .m) (a .table .now)))
-
-visit-same-length-8 : (t : ℕ) → visit-lts.Need-same-length-8 (visit-of t) (visit-at t) visit.Post
-visit-same-length-8 t c = c .before .before .sequence .kept .1 .1 .1 .1 .0
-
-visit-returns-10 : (t : ℕ) → visit-lts.Need-returns-10 (visit-of t) (visit-at t) visit.Post
-unfolding enter
-visit-returns-10 t c =
-  let a = c .before .before .before .before .before .before .before .before .before .before .before .before .args in
-  let if1 = c .before .before .before .before .before .before .before .before .if1 in
-  let p7 = c .before .before .before .before .before .p7 in
-  let visit = c .before .before .before .before .before .before .before .visit in
-  c .before .before .sequence .ensures ∙ sym (way.visit-some (sinkOf (a .m)) (sourceOf (a .m) (a .v .now)) (checked (a .t .now) (a .met)) (a .left) (a .p) _ (stateOf (a .c) (a .table .now)) _ (if1 .left) (p7 .given .1) (visit .ensures (a .m) (a .table .now)))
-
-visit-same-length-9 : (t : ℕ) → visit-lts.Need-same-length-9 (visit-of t) (visit-at t) visit.Post
-visit-same-length-9 t c = c .before .before .elements .kept .1 .1 .1 .1 .0
-
-visit-returns-11 : (t : ℕ) → visit-lts.Need-returns-11 (visit-of t) (visit-at t) visit.Post
-visit-returns-11 t c =
   let a = c .before .before .before .before .before .before .before .before .before .before .before .before .before .args in
+  let visit2 = c .before .before .visit2 in
   let if1 = c .before .before .before .before .before .before .before .before .before .if1 in
-  let p8 = c .before .before .before .before .before .before .p8 in
   let visit = c .before .before .before .before .before .before .before .before .visit in
-  let within = c .before .before .before .before .within in
-  c .before .before .elements .ensures ∙ sym (way.visit-array (sinkOf (a .m)) (sourceOf (a .m) (a .v .now)) (checked (a .t .now) (a .met)) (a .left) (a .p) _ _ _ (stateOf (a .c) (a .table .now)) _ (if1 .left) (p8 .given .1) (visit .ensures (a .m) (a .table .now)) (within .ensures))
-
-visit-same-length-10 : (t : ℕ) → visit-lts.Need-same-length-10 (visit-of t) (visit-at t) visit.Post
-visit-same-length-10 t c = c .before .before .visit2 .kept .1 .1 .1 .1 .0
-
-visit-returns-12 : (t : ℕ) → visit-lts.Need-returns-12 (visit-of t) (visit-at t) visit.Post
-unfolding enter
-visit-returns-12 t c =
-  let a = c .before .before .before .before .before .before .before .before .before .before .before .before .before .args in
-  let visit = c .before .before .before .before .before .before .before .before .visit in
-  let within2 = c .before .before .before .before .within2 in
-  let if1 = c .before .before .before .before .before .before .before .before .before .if1 in
-  let p9 = c .before .before .before .before .before .before .p9 in
-  c .before .before .visit2 .ensures ∙ ap (λ (p : Parameters). reads (sinkOf (a .m)) (sourceOf (a .m) (a .v .now)) (checked (a .t .now) (a .met)) (a .left - 1) p (stateOf (visit .result) (a .table .now))) (within2 .ensures) ∙ sym (way.visit-some (sinkOf (a .m)) (sourceOf (a .m) (a .v .now)) (checked (a .t .now) (a .met)) (a .left) (a .p) _ (stateOf (a .c) (a .table .now)) _ (if1 .left) (p9 .given .1) (visit .ensures (a .m) (a .table .now)))
+  let inside-of2 = c .before .before .before .before .inside-of2 in
+  let p7 = c .before .before .before .before .before .before .p7 in
+  let k = sinkOf (a .m) in
+  let x = sourceOf (a .m) (a .v .now) in
+  let u = checked (a .t .now) (kindsMet (a .met)) in
+  let s = stateOf (a .c) (a .table .now) in
+  visit2 .ensures ∙
+  sym (way.visit-alias k x u (a .left) (shapeOf (a .t .now) (kindsMet (a .met)) (a .p)) _ _ s _ (if1 .left) (visit .ensures (a .m) (a .table .now))
+  (ap (shapeOf (a .t .now) (kindsMet (a .met))) (inside-of2 .ensures)) (ap (shapeOf (a .t .now) (kindsMet (a .met))) (p7 .given .1)))
 
 pub +each+elements+exception+sequence+struct-members+union-member+visit-spec :
     {M : Type 1} → statement M
@@ -823,23 +1016,27 @@ pub +each+elements+exception+sequence+struct-members+union-member+visit-spec :
     (elements-at t)
     elements.Post
     (elements-enum-known-e t)
+    (elements-enum-known-inert t)
     (elements-leaf-elements-requires t)
-    (elements-enum-known-e-2 t)
-    (elements-each-requires t)
     (elements-same-length t)
     (elements-returns t)
-    (elements-plan-of-requires t)
-    (elements-structs-requires t)
+    (elements-each-requires t)
+    (elements-enum-known-e-2 t)
+    (elements-each-requires-2 t)
     (elements-same-length-2 t)
     (elements-returns-2 t)
-    (elements-each-requires-2 t)
-    (elements-each-requires-3 t)
+    (elements-plan-of-requires t)
+    (elements-structs-requires t)
     (elements-same-length-3 t)
     (elements-returns-3 t)
+    (elements-each-requires-3 t)
+    (elements-each-requires-4 t)
     (elements-same-length-4 t)
     (elements-returns-4 t)
     (elements-same-length-5 t)
-    (elements-returns-5 t))
+    (elements-returns-5 t)
+    (elements-same-length-6 t)
+    (elements-returns-6 t))
     (λ t. exception-lts.spec (exception-of t)
     (exception-at t)
     exception.Post
@@ -857,7 +1054,7 @@ pub +each+elements+exception+sequence+struct-members+union-member+visit-spec :
     (sequence-returns t)
     (sequence-same-length-2 t)
     (sequence-returns-2 t)
-    (sequence-within-requires t)
+    (sequence-inside-of-requires t)
     (sequence-elements-requires t)
     (sequence-same-length-3 t)
     (sequence-returns-3 t))
@@ -868,12 +1065,13 @@ pub +each+elements+exception+sequence+struct-members+union-member+visit-spec :
     struct-members-μ-loop
     (struct-members-loop-holds t)
     (struct-members-member-at-requires t)
-    (struct-members-enum-known-place t)
+    (struct-members-enum-known-inner t)
     (struct-members-enum-told t)
     (struct-members-same-length t)
     (struct-members-returns t)
-    (struct-members-within-requires t)
-    (struct-members-flat-visit-requires t)
+    (struct-members-inside-of-requires t)
+    (struct-members-enum-known-e t)
+    (struct-members-flat-requires t)
     (struct-members-visit-requires t)
     (struct-members-same-length-2 t)
     (struct-members-returns-2 t)
@@ -885,20 +1083,23 @@ pub +each+elements+exception+sequence+struct-members+union-member+visit-spec :
     (λ t. union-member-lts.spec (union-member-of t)
     (union-member-at t)
     union-member.Post
-    (union-member-within-requires t)
-    (union-member-flat-visit-requires t)
+    (union-member-inside-of-requires t)
+    (union-member-enum-known-switch t)
+    (union-member-flat-requires t)
     (union-member-visit-requires t)
     (union-member-same-length t)
     (union-member-returns t)
+    (union-member-place-in-requires t)
     (union-member-labels-for-requires t)
     (union-member-chosen-of-requires t)
-    (union-member-enum-known-place t)
-    (union-member-within-requires-2 t)
-    (union-member-flat-visit-requires-2 t)
-    (union-member-visit-requires-2 t)
+    (union-member-enum-known-inner t)
+    (union-member-enum-told t)
     (union-member-same-length-2 t)
     (union-member-returns-2 t)
-    (union-member-enum-told t)
+    (union-member-inside-of-requires-2 t)
+    (union-member-enum-known-e t)
+    (union-member-flat-requires-2 t)
+    (union-member-visit-requires-2 t)
     (union-member-same-length-3 t)
     (union-member-returns-3 t)
     (union-member-same-length-4 t)
@@ -912,26 +1113,20 @@ pub +each+elements+exception+sequence+struct-members+union-member+visit-spec :
     (visit-visit-requires t)
     (visit-enum-told t)
     (visit-enum-known-p t)
-    (visit-leaf-requires t)
+    (visit-inert-requires t)
     (visit-enum-known-p-2 t)
-    (visit-text-requires t)
-    (visit-enum-told-2 t)
-    (visit-reference-requires t)
-    (visit-enum-known-p-3 t)
     (visit-struct-members-requires t)
-    (visit-enum-known-p-4 t)
+    (visit-enum-known-p-3 t)
     (visit-exception-requires t)
-    (visit-enum-known-p-5 t)
+    (visit-enum-known-p-4 t)
     (visit-union-member-requires t)
-    (visit-enum-known-p-6 t)
-    (visit-enumerated-requires t)
-    (visit-enum-known-p-7 t)
+    (visit-enum-known-p-5 t)
     (visit-sequence-requires t)
-    (visit-enum-known-p-8 t)
-    (visit-within-requires t)
+    (visit-enum-known-p-6 t)
+    (visit-inside-of-requires t)
     (visit-elements-requires t)
-    (visit-enum-known-p-9 t)
-    (visit-within-requires-2 t)
+    (visit-enum-known-p-7 t)
+    (visit-inside-of-requires-2 t)
     (visit-visit-requires-2 t)
     (visit-returns-2 t)
     (visit-same-length t)
@@ -948,9 +1143,3 @@ pub +each+elements+exception+sequence+struct-members+union-member+visit-spec :
     (visit-returns-8 t)
     (visit-same-length-7 t)
     (visit-returns-9 t)
-    (visit-same-length-8 t)
-    (visit-returns-10 t)
-    (visit-same-length-9 t)
-    (visit-returns-11 t)
-    (visit-same-length-10 t)
-    (visit-returns-12 t)

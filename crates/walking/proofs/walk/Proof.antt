@@ -4,14 +4,15 @@ use Rattle.walking.proofs.walk.Statement.{statement}
 use Rattle.walking.proofs.walk.Tie as tie
 use mathlib.Core.Path.{ap, _∙_}
 use Rattle.kinds.specs.declared.Parameters.{Parameters}
-use Rattle.reading.specs.Visit.{checked, inside}
-use Rattle.reading.specs.Reading.{reads}
+use Rattle.met.specs.Shapes.{shapeOf, look}
+use Rattle.reading.specs.Visit.{checked}
+use Rattle.reading.specs.Reading.{reads, topOf}
 use Rattle.leaves.specs.Walk.{sinkOf, sourceOf, stateOf}
 use Rattle.leaves.specs.declared.Cursor.{Cursor}
-use Rattle.kinds.specs.Parts.{placeOf}
+use Rattle.met.specs.Arrays.{kindsMet}
 
-within-requires : tie.Need-within-requires
-within-requires c κs = search needs
+inside-of-requires : tie.Need-inside-of-requires
+inside-of-requires c κs = search needs
 
 start-requires : tie.Need-start-requires
 start-requires c κs = search needs
@@ -23,11 +24,18 @@ same-length : tie.Need-same-length
 same-length c = search needs
 
 returns : tie.Need-returns
+unfolding look
 returns c =
   let a = c .before .before .before .before .before .before .before .before .before .args in
+  let visit = c .before .before .visit in
   let start = c .before .before .before .start in
-  let within = c .before .before .before .before .before .within in
-  c .before .before .visit .ensures ∙ ap (λ (p : Parameters). reads (sinkOf (a .m)) (sourceOf (a .m) (a .v .now)) (checked (a .t .now) (a .met)) 64 p (stateOf (start .result) (a .table .now))) (within .ensures) ∙ ap (λ (w : Cursor). reads (sinkOf (a .m)) (sourceOf (a .m) (a .v .now)) (checked (a .t .now) (a .met)) 64 (inside (checked (a .t .now) (a .met)) (placeOf 0)) (stateOf w (a .table .now))) (start .ensures)
+  let inside-of = c .before .before .before .before .before .inside-of in
+  let k = sinkOf (a .m) in
+  let x = sourceOf (a .m) (a .v .now) in
+  let u = checked (a .t .now) (kindsMet (a .met)) in
+  visit .ensures
+  ∙ ap (λ (p : Parameters). reads k x u 64 (shapeOf (a .t .now) (kindsMet (a .met)) p) (stateOf (start .result) (a .table .now))) (inside-of .ensures)
+  ∙ ap (λ (w : Cursor). reads k x u 64 (topOf u) (stateOf w (a .table .now))) (start .ensures)
 
 pub walk-spec : {M : Type 1} → statement M
-walk-spec = tie.close (tie.spec within-requires start-requires visit-requires same-length returns)
+walk-spec = tie.close (tie.spec inside-of-requires start-requires visit-requires same-length returns)

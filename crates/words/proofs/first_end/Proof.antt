@@ -4,7 +4,7 @@ use Prim.Native.Nat.{_-_, _≤_}
 use native.Mathlib.Omega.{arith}
 use lib.ListN.{length, take, drop}
 use Rattle.words.specs.Words.{wordsFrom, words}
-use Rattle.words.proofs.Found.{word-ended, word-onward, word-last}
+use Rattle.words.proofs.Found.{word-ended, word-onward, word-last, ends-at, ends-last}
 use borrow.Author.Needs.{needs}
 use Rattle.words.proofs.first_end.Statement.{statement}
 use Rattle.words.proofs.first_end.Tie as tie
@@ -30,6 +30,7 @@ returns c =
       within = omega arith;
       only = λ k. absurd (omega arith);
       more = λ k. word-ended (a .line .now) (l .i) (l .inv .1) h (c .if1 .taken);
+      decided = ends-at (a .line .now) (l .i) _ (l .inv .0) (word-ended (a .line .now) (l .i) (l .inv .1) h (c .if1 .taken));
     }
 
 add-i : tie.Need-add-i Inv-loop μ-loop
@@ -52,6 +53,7 @@ returns-2 c =
       within = l .inv .0;
       only = λ k. word-last (c .before .before .args .line .now) (l .i) (l .inv .1) h;
       more = λ k. absurd (omega arith);
+      decided = ends-last (c .before .before .args .line .now) (l .i) (l .inv .0) h (word-last (c .before .before .args .line .now) (l .i) (l .inv .1) h);
     }
 
 pub first-end-spec : {M : Type 1} → statement M

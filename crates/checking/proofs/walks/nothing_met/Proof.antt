@@ -2,12 +2,13 @@
 use borrow.Author.Needs.{needs}
 use Rattle.checking.proofs.walks.nothing_met.Statement.{statement}
 use Rattle.checking.proofs.walks.nothing_met.Tie as tie
+use Rattle.checking.proofs.Seen.{seen-none}
 
 none-requires : tie.Need-none-requires
 none-requires c κs = search needs
 
 returns : tie.Need-returns
-returns c = rw (c .none .ensures)
+returns c = seen-none _ (c .none .ensures)
 
 pub nothing-met-spec : {M : Type 1} → statement M
 nothing-met-spec = tie.close (tie.spec none-requires returns)

@@ -2,9 +2,10 @@
 use Rattle.checking.proofs.walks.on.Statement.{statement}
 use Rattle.checking.proofs.walks.on.Tie as tie
 use Rattle.checking.proofs.Ways.{on-is}
+use Rattle.checking.specs.Walk.{seen}
 
 returns : tie.Need-returns
-returns c = on-is (c .args .step) (c .args .walk)
+returns c = on-is (c .args .step) (seen (c .args .walk))
 
 -- a step and what was met
 pub on-spec : {M : Type 1} → statement M

@@ -6,6 +6,8 @@ use mathlib.Core.Path.{sym, _∙_}
 use borrow.Author.Tests.{lt-ltb}
 use Rattle.checking.specs.Types.{targetStep}
 use Rattle.met.proofs.Finding.{position-facts, position-nowhere}
+use Rattle.met.specs.Arrays.{kindsMet}
+use Rattle.checking.proofs.Seen.{seen-barred}
 
 position-requires : tie.Need-position-requires
 position-requires c κs = search needs
@@ -21,9 +23,9 @@ refused-requires c κs = search needs
 
 returns : tie.Need-returns
 unfolding targetStep
-returns c =
+returns c = 
   let a = c .before .before .before .before .before .before .args in
-  rw (position-nowhere (a .walk .met) (a .place) (sym (c .before .before .before .position .ensures) ∙ c .before .enum-told .given .1)) (c .refused .ensures)
+  rw (position-nowhere (kindsMet (a .walk .met)) (a .place) (sym (c .before .before .before .position .ensures) ∙ c .before .enum-told .given .1)) (c .refused .ensures)
 
 barred-at-requires : tie.Need-barred-at-requires
 barred-at-requires c κs = search needs
@@ -33,22 +35,20 @@ refused-requires-2 c κs = search needs
 
 returns-2 : tie.Need-returns-2
 unfolding targetStep
-returns-2 c =
+returns-2 c = 
   let a = c .before .before .before .before .before .before .before .before .before .args in
-  let position = c .before .before .before .before .before .before .position in
-  let i = c .before .before .before .before .i in
-  rw (position-facts (a .walk .met) (a .place) _ (sym (position .ensures) ∙ i .given .1) .0, lt-ltb _ _ (position-facts (a .walk .met) (a .place) _ (sym (position .ensures) ∙ i .given .1) .1), sym (c .before .before .barred-at .ensures) ∙ c .before .if1 .taken) (c .refused2 .ensures)
+  let f = position-facts (kindsMet (a .walk .met)) (a .place) _ (sym (c .before .before .before .before .before .before .position .ensures) ∙ c .before .before .before .before .i .given .1) in
+  rw (f .0, lt-ltb _ _ (f .1), seen-barred (a .walk) _ (f .1) ∙ sym (c .before .before .barred-at .ensures) ∙ c .before .if1 .taken) (c .refused2 .ensures)
 
 goes-on-requires : tie.Need-goes-on-requires
 goes-on-requires c κs = search needs
 
 returns-3 : tie.Need-returns-3
 unfolding targetStep
-returns-3 c =
+returns-3 c = 
   let a = c .before .before .before .before .before .before .before .before .before .args in
-  let position = c .before .before .before .before .before .before .position in
-  let i = c .before .before .before .before .i in
-  rw (position-facts (a .walk .met) (a .place) _ (sym (position .ensures) ∙ i .given .1) .0, lt-ltb _ _ (position-facts (a .walk .met) (a .place) _ (sym (position .ensures) ∙ i .given .1) .1), sym (c .before .before .barred-at .ensures) ∙ c .before .if1 .left) (c .goes-on .ensures)
+  let f = position-facts (kindsMet (a .walk .met)) (a .place) _ (sym (c .before .before .before .before .before .before .position .ensures) ∙ c .before .before .before .before .i .given .1) in
+  rw (f .0, lt-ltb _ _ (f .1), seen-barred (a .walk) _ (f .1) ∙ sym (c .before .before .barred-at .ensures) ∙ c .before .if1 .left) (c .goes-on .ensures)
 
 pub target-step-spec : {M : Type 1} → statement M
 target-step-spec =

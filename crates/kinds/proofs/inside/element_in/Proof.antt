@@ -8,8 +8,8 @@ use Rattle.kinds.specs.Parameters.{elementIn}
 spot-at-requires : tie.Need-spot-at-requires
 spot-at-requires c κs = search needs
 
-enum-known-place : tie.Need-enum-known-place
-enum-known-place c = search needs
+enum-known-inner : tie.Need-enum-known-inner
+enum-known-inner c = search needs
 
 enum-told : tie.Need-enum-told
 enum-told c = search needs
@@ -31,22 +31,22 @@ returns-2 : tie.Need-returns-2
 unfolding elementIn
 returns-2 c =
   let spot-at = c .before .before .before .before .before .before .before .spot-at in
-  let place = c .before .before .before .before .before .place in
-  rw (sym (spot-at .ensures) ∙ place .given .1, sym (c .before .before .before .field-in .ensures) ∙ c .before .number .given .1)
+  let inner = c .before .before .before .before .before .inner in
+  rw (sym (spot-at .ensures) ∙ inner .given .1, sym (c .before .before .before .field-in .ensures) ∙ c .before .number .given .1)
 
 returns-3 : tie.Need-returns-3
 unfolding elementIn
 returns-3 c =
   let spot-at = c .before .before .before .before .before .before .spot-at in
-  let place = c .before .before .before .before .place in
-  rw (sym (spot-at .ensures) ∙ place .given .1, sym (c .before .before .field-in .ensures) ∙ c .enum-told2 .given .1)
+  let inner = c .before .before .before .before .inner in
+  rw (sym (spot-at .ensures) ∙ inner .given .1, sym (c .before .before .field-in .ensures) ∙ c .enum-told2 .given .1)
 
 pub element-in-spec : {M : Type 1} → statement M
 element-in-spec =
     tie.close
     (tie.spec
     spot-at-requires
-    enum-known-place
+    enum-known-inner
     enum-told
     returns
     field-in-requires

@@ -49,7 +49,7 @@ exception-in-requires : tie.Need-exception-in-requires
 exception-in-requires c κs = search needs
 
 returns : tie.Need-returns
-returns c = search needs
+returns c = rw (c .enum-told .given .1)
 
 returns-2 : tie.Need-returns-2
 returns-2 c = rw (c .before .enum-told2 .given .1) (c .struct-in .ensures)

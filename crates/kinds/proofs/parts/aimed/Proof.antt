@@ -21,17 +21,11 @@ returns : tie.Need-returns
 unfolding aimed
 returns c = rw (sym (c .before .before .field-in .ensures) ∙ c .enum-told .given .1)
 
-sub-t11 : tie.Need-sub-t11
-sub-t11 c =
-  let a = c .before .before .before .before .before .before .args in
-  let field-in = c .before .before .before .before .field-in in
-  omega (arith, field-inside (a .v .now) (a .start) (a .at) Four (a .order) _ _ (sym (field-in .ensures) ∙ c .before .before .value .given .1) .0)
-
-add-t12 : tie.Need-add-t12
-add-t12 c =
-  let a = c .before .before .before .before .before .before .before .args in
-  let field-in = c .before .before .before .before .before .field-in in
-  omega (arith, field-inside (a .v .now) (a .start) (a .at) Four (a .order) _ _ (sym (field-in .ensures) ∙ c .before .before .before .value .given .1) .1)
+behind-requires : tie.Need-behind-requires
+behind-requires c κs =
+  let a = c .before .before .before .before .before .args in
+  let f = field-inside (a .v .now) (a .start) (a .at) Four (a .order) _ _ (sym (c .before .before .before .field-in .ensures) ∙ c .before .value .given .1) in
+  (omega (arith, f .0), omega (arith, f .1))
 
 target-of-requires : tie.Need-target-of-requires
 target-of-requires c κs = search needs
@@ -45,16 +39,14 @@ enum-told-2 c = search needs
 returns-2 : tie.Need-returns-2
 unfolding aimed
 returns-2 c =
-  let field-in = c .before .before .before .before .before .before .before .before .before .field-in in
-  let value = c .before .before .before .before .before .before .before .value in
-  rw (sym (field-in .ensures) ∙ value .given .1, sym (c .before .before .before .target-of .ensures) ∙ c .before .place .given .1)
+  let target-of = c .before .before .before .target-of in
+  rw (sym (c .before .before .before .before .before .before .before .before .field-in .ensures) ∙ c .before .before .before .before .before .before .value .given .1, ← c .before .before .before .before .behind .ensures, sym (target-of .ensures) ∙ c .before .place .given .1)
 
 returns-3 : tie.Need-returns-3
 unfolding aimed
 returns-3 c =
-  let field-in = c .before .before .before .before .before .before .before .before .field-in in
-  let value = c .before .before .before .before .before .before .value in
-  rw (sym (field-in .ensures) ∙ value .given .1, sym (c .before .before .target-of .ensures) ∙ c .enum-told2 .given .1)
+  let target-of = c .before .before .target-of in
+  rw (sym (c .before .before .before .before .before .before .before .field-in .ensures) ∙ c .before .before .before .before .before .value .given .1, ← c .before .before .before .behind .ensures, sym (target-of .ensures) ∙ c .enum-told2 .given .1)
 
 pub aimed-spec : {M : Type 1} → statement M
 aimed-spec =
@@ -64,8 +56,7 @@ aimed-spec =
     enum-known-value
     enum-told
     returns
-    sub-t11
-    add-t12
+    behind-requires
     target-of-requires
     enum-known-place
     enum-told-2

@@ -3,7 +3,7 @@ use borrow.Author.Needs.{needs}
 use Rattle.met.proofs.Met.add.Statement.{statement}
 use Rattle.met.proofs.Met.add.Tie as tie
 use borrow.Author.Tests.{lt-ltb, le-ltb}
-use Rattle.met.specs.Met.{added}
+use Rattle.met.specs.Arrays.{added}
 
 returns : tie.Need-returns
 unfolding added

@@ -2,55 +2,63 @@
 use borrow.Author.Needs.{needs}
 use Rattle.met.proofs.Met.position.Statement.{statement}
 use Rattle.met.proofs.Met.position.Tie as tie
-use mathlib.Core.Path.{_≡_, sym, _∙_, ap}
+use Rattle.met.proofs.Met.position.Reads as reads
+use Rattle.met.proofs.Met.position.Lts as lts
+use Rattle.met.proofs.entry.Reads as entry-reads
+use Rattle.met.proofs.held_in.Reads as held-in-reads
+use mathlib.Core.Path.{_≡_, refl, sym, ap, _∙_, subst}
+use Prim.Native.Nat.{ℕ, _-_, _<_}
 use native.Mathlib.Omega.{arith}
-use Prim.Native.Nat.{_-_, _≤_}
-use Rattle.met.specs.Met.{findIn, findPlace}
-use Rattle.met.proofs.Finding.{find-hit, find-miss, find-end, position-is, position-none}
-use Prim.Native.Nat.{ℕ}
-use native.Mathlib.Nat.{sub-zero}
+use Rattle.choices.proofs.Turns.{Left, left-none, left-here, left-more, left-end}
+use Rattle.met.specs.Arrays.{heldIn, kindsMet}
+use Rattle.met.proofs.Finding.{findIn, found-here, found-on, find-is, length-kinds, position-is, position-none}
 
 abbrev Inv-loop : tie.InvT-loop
-Inv-loop place places n i₀ i = (i ≤ n) × (findIn places (place .0) (n - i) i ≡ findIn places (place .0) n 0)
+Inv-loop place places n i₀ i = Left (findIn places (place .0)) n 0 i i
 
 abbrev μ-loop : tie.MeasureT-loop
 μ-loop place places n i₀ i = n - i
 
+held-in-requires : tie.Need-held-in-requires Inv-loop μ-loop
+held-in-requires c κs = search needs
+
 loop-holds : tie.Need-loop-holds Inv-loop μ-loop
-loop-holds c =
-  let a = c .before .args in
-  (omega arith, ap (λ (x : ℕ). findIn (a .self .places) (a .place .0) x 0) (sub-zero (a .self .count)))
+loop-holds c = 
+  let a = c .before .before .args in
+  left-none (findIn (a .self .places) (a .place .0)) (c .held-in .result) 0
 
 entry-requires : tie.Need-entry-requires Inv-loop μ-loop
 entry-requires c κs = search needs
 
 returns : tie.Need-returns Inv-loop μ-loop
-unfolding findPlace
-returns c =
-  let a = c .before .before .before .before .before .before .args in
+returns c = 
+  let a = c .before .before .before .before .before .before .before .args in
   let loop = c .before .before .before .before .loop in
-  let loop-test = c .before .before .before .loop-test in
-  let o = a in let l = loop in
-    sym (position-is (o .self) (o .place) (l .i) (sym (l .inv .1) ∙ find-hit (o .self .places) (o .place .0) (o .self .count) (l .i) (loop-test .taken) (sym (c .before .before .entry .ensures) ∙ c .if1 .taken)) (loop-test .taken))
+  let here = left-here (findIn (a .self .places) (a .place .0)) (c .before .before .before .before .before .held-in .result) 0 (loop .inv) (c .before .before .before .loop-test .taken) (loop .i)
+  (found-here (a .self .places) (a .place .0) (loop .i) (sym (c .before .before .entry .ensures) ∙ c .if1 .taken)) in
+  let is : loop .i ≡ _ = here ∙ ap (λ (n : ℕ). findIn (a .self .places) (a .place .0) n 0) (c .before .before .before .before .before .held-in .ensures) ∙ find-is (a .self) (a .place) in
+  sym (position-is (kindsMet (a .self)) (a .place) (loop .i) (sym is) (omega (arith, c .before .before .before .loop-test .taken, c .before .before .before .before .before .held-in .ensures, length-kinds (a .self))))
 
 add-i : tie.Need-add-i Inv-loop μ-loop
 add-i c = search needs
 
 loop-less : tie.Need-loop-less Inv-loop μ-loop
-loop-less c = search needs
+loop-less c = omega arith
 
 loop-again : tie.Need-loop-again Inv-loop μ-loop
-loop-again c =
-  let loop-test = c .before .before .before .loop-test in
-  let a = c .before .before .before .before .before .before .args in
+loop-again c = 
+  let a = c .before .before .before .before .before .before .before .args in
   let loop = c .before .before .before .before .loop in
-  (omega (arith, loop-test .taken), sym (find-miss (a .self .places) (a .place .0) (a .self .count) (loop .i) (loop-test .taken) (λ e. c .if1 .left (c .before .before .entry .ensures ∙ e))) ∙ loop .inv .1)
+  left-more (findIn (a .self .places) (a .place .0)) (c .before .before .before .before .before .held-in .result) 0 (loop .inv) (c .before .before .before .loop-test .taken) _ (found-on (a .self .places) (a .place .0) (loop .i) (λ e. c .if1 .left (c .before .before .entry .ensures ∙ e)))
 
 returns-2 : tie.Need-returns-2 Inv-loop μ-loop
-unfolding findPlace
-returns-2 c =
-    let o = c .before .before .before .args in let l = c .before .loop in
-    sym (position-none (o .self) (o .place) (sym (l .inv .1) ∙ find-end (o .self .places) (o .place .0) (o .self .count) (l .i) (c .loop-test .left) (l .inv .0)))
+unfolding findIn
+returns-2 c = 
+  let a = c .before .before .before .before .args in
+  let loop = c .before .loop in
+  let is = left-end (findIn (a .self .places) (a .place .0)) (c .before .before .held-in .result) 0 (loop .inv) (c .loop-test .left) ∙ ap (λ (n : ℕ). findIn (a .self .places) (a .place .0) n 0) (c .before .before .held-in .ensures) ∙ find-is (a .self) (a .place) in
+  let few = loop .inv .few in
+  sym (position-none (kindsMet (a .self)) (a .place) (sym is ∙ omega (arith, few, c .loop-test .left, c .before .before .held-in .ensures, length-kinds (a .self))))
 
 pub position-spec : {M : Type 1} → statement M
 position-spec =
@@ -58,6 +66,7 @@ position-spec =
     (tie.spec
     Inv-loop
     μ-loop
+    held-in-requires
     loop-holds
     entry-requires
     returns

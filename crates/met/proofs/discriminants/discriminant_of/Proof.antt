@@ -2,15 +2,21 @@
 use borrow.Author.Needs.{needs}
 use Rattle.met.proofs.discriminants.discriminant_of.Statement.{statement}
 use Rattle.met.proofs.discriminants.discriminant_of.Tie as tie
-
-enum-told : tie.Need-enum-told
-enum-told c = search needs
+use Rattle.met.proofs.discriminants.discriminant_of.Reads as reads
+use Rattle.met.proofs.discriminants.discriminant_of.Lts as lts
+use Rattle.met.proofs.discriminants.inert_labels.Reads as inert-labels-reads
 
 enum-known-parameters : tie.Need-enum-known-parameters
 enum-known-parameters c = search needs
 
-leaf-labels-requires : tie.Need-leaf-labels-requires
-leaf-labels-requires c κs = search needs
+inert-labels-requires : tie.Need-inert-labels-requires
+inert-labels-requires c κs = search needs
+
+enum-known-parameters-2 : tie.Need-enum-known-parameters-2
+enum-known-parameters-2 c = search needs
+
+enum-told : tie.Need-enum-told
+enum-told c = search needs
 
 enum-told-2 : tie.Need-enum-told-2
 enum-told-2 c = search needs
@@ -27,67 +33,43 @@ enum-told-5 c = search needs
 enum-told-6 : tie.Need-enum-told-6
 enum-told-6 c = search needs
 
-enum-known-parameters-2 : tie.Need-enum-known-parameters-2
-enum-known-parameters-2 c = search needs
-
-enum-told-7 : tie.Need-enum-told-7
-enum-told-7 c = search needs
-
-enum-told-8 : tie.Need-enum-told-8
-enum-told-8 c = search needs
-
-enum-known-parameters-3 : tie.Need-enum-known-parameters-3
-enum-known-parameters-3 c = search needs
-
 returns : tie.Need-returns
-returns c = rw (c .enum-told .given .1)
+returns c = rw (c .before .before .parameters .given .1, c .inert-labels .ensures)
 
 returns-2 : tie.Need-returns-2
-returns-2 c = rw (c .before .before .parameters .given .1, c .leaf-labels .ensures)
+returns-2 c = rw (c .before .parameters2 .given .1)
 
 returns-3 : tie.Need-returns-3
-returns-3 c = rw (c .enum-told2 .given .1)
+returns-3 c = rw (c .enum-told .given .1)
 
 returns-4 : tie.Need-returns-4
-returns-4 c = rw (c .enum-told3 .given .1)
+returns-4 c = rw (c .enum-told2 .given .1)
 
 returns-5 : tie.Need-returns-5
-returns-5 c = rw (c .enum-told4 .given .1)
+returns-5 c = rw (c .enum-told3 .given .1)
 
 returns-6 : tie.Need-returns-6
-returns-6 c = rw (c .enum-told5 .given .1)
+returns-6 c = rw (c .enum-told4 .given .1)
 
 returns-7 : tie.Need-returns-7
-returns-7 c = rw (c .enum-told6 .given .1)
+returns-7 c = rw (c .enum-told5 .given .1)
 
 returns-8 : tie.Need-returns-8
-returns-8 c = rw (c .before .parameters2 .given .1)
-
-returns-9 : tie.Need-returns-9
-returns-9 c = rw (c .enum-told7 .given .1)
-
-returns-10 : tie.Need-returns-10
-returns-10 c = rw (c .enum-told8 .given .1)
-
-returns-11 : tie.Need-returns-11
-returns-11 c = rw (c .before .parameters3 .given .1)
+returns-8 c = rw (c .enum-told6 .given .1)
 
 pub discriminant-of-spec : {M : Type 1} → statement M
 discriminant-of-spec =
     tie.close
     (tie.spec
-    enum-told
     enum-known-parameters
-    leaf-labels-requires
+    inert-labels-requires
+    enum-known-parameters-2
+    enum-told
     enum-told-2
     enum-told-3
     enum-told-4
     enum-told-5
     enum-told-6
-    enum-known-parameters-2
-    enum-told-7
-    enum-told-8
-    enum-known-parameters-3
     returns
     returns-2
     returns-3
@@ -95,7 +77,4 @@ discriminant-of-spec =
     returns-5
     returns-6
     returns-7
-    returns-8
-    returns-9
-    returns-10
-    returns-11)
+    returns-8)

@@ -8,9 +8,10 @@ use mathlib.Core.Path.{refl}
 use Prim.Native.Nat.{_≤_}
 use Rattle.met.specs.Discriminants.{discriminantOf, labelsAfter, labelsFor}
 use Rattle.met.proofs.Finding.{labels-nowhere, labels-said, labels-through, labels-end}
+use Rattle.met.specs.Arrays.{kindsMet}
 
 abbrev Inv-loop : tie.InvT-loop
-Inv-loop v met at₀ left₀ at left = (left ≤ 64) × (labelsAfter v met left at ≡ labelsAfter v met 64 at₀)
+Inv-loop v met at₀ left₀ at left = (left ≤ 64) × (labelsAfter v (kindsMet met) left at ≡ labelsAfter v (kindsMet met) 64 at₀)
 
 abbrev μ-loop : tie.MeasureT-loop
 μ-loop v met at₀ left₀ at left = left
@@ -32,7 +33,7 @@ unfolding labelsFor
 returns c =
   let a = c .before .before .before .before .before .before .args in
   let loop = c .before .before .before .before .loop in
-  labels-nowhere (a .v .now) (a .met) (loop .at) (loop .left) (sym (c .before .before .position .ensures) ∙ c .enum-told .given .1) ∙ loop .inv .1
+  labels-nowhere (a .v .now) (kindsMet (a .met)) (loop .at) (loop .left) (sym (c .before .before .position .ensures) ∙ c .enum-told .given .1) ∙ loop .inv .1
 
 parameters-of-requires : tie.Need-parameters-of-requires Inv-loop μ-loop
 parameters-of-requires c κs = search needs
@@ -42,6 +43,9 @@ discriminant-of-requires c κs = search needs
 
 enum-known-next : tie.Need-enum-known-next Inv-loop μ-loop
 enum-known-next c = search needs
+
+place-in-requires : tie.Need-place-in-requires Inv-loop μ-loop
+place-in-requires c κs = search needs
 
 enum-known-labels : tie.Need-enum-known-labels Inv-loop μ-loop
 enum-known-labels c = search needs
@@ -55,7 +59,7 @@ returns-2 c =
   let position = c .before .before .before .before .before .before .before .before .position in
   let j = c .before .before .before .before .before .before .j in
   let parameters-of = c .before .before .before .before .parameters-of in
-  labels-said (a .v .now) (a .met) (loop .at) (loop .left) _ (loop-test .taken) (sym (position .ensures) ∙ j .given .1) _ (sym (ap discriminantOf (parameters-of .ensures)) ∙ sym (c .before .before .before .discriminant-of .ensures) ∙ c .before .labels .given .1) ∙ loop .inv .1
+  labels-said (a .v .now) (kindsMet (a .met)) (loop .at) (loop .left) _ (loop-test .taken) (sym (position .ensures) ∙ j .given .1) _ (sym (ap discriminantOf (parameters-of .ensures)) ∙ sym (c .before .before .before .discriminant-of .ensures) ∙ c .before .labels .given .1) ∙ loop .inv .1
 
 sub-left : tie.Need-sub-left Inv-loop μ-loop
 sub-left c = search needs
@@ -64,21 +68,18 @@ loop-less : tie.Need-loop-less Inv-loop μ-loop
 loop-less c = search needs
 
 loop-again : tie.Need-loop-again Inv-loop μ-loop
-loop-again c =
-  let a = c .before .before .before .before .before .before .before .before .before .before .before .before .args in
-  let loop = c .before .before .before .before .before .before .before .before .before .before .loop in
-  let loop-test = c .before .before .before .before .before .before .before .before .before .loop-test in
-  let position = c .before .before .before .before .before .before .before .before .position in
-  let j = c .before .before .before .before .before .before .j in
-  let parameters-of = c .before .before .before .before .parameters-of in
-  (omega arith, labels-through (a .v .now) (a .met) (loop .at) (loop .left) _ (loop-test .taken) (sym (position .ensures) ∙ j .given .1) _ (sym (ap discriminantOf (parameters-of .ensures)) ∙ sym (c .before .before .before .discriminant-of .ensures) ∙ c .before .next .given .1) ∙ loop .inv .1)
+loop-again c = 
+  let a = c .before .before .before .before .before .before .before .before .before .before .before .before .before .args in
+  let loop = c .before .before .before .before .before .before .before .before .before .before .before .loop in
+  let leads = sym (ap discriminantOf (c .before .before .before .before .before .parameters-of .ensures)) ∙ sym (c .before .before .before .before .discriminant-of .ensures) ∙ c .before .before .next .given .1 in
+  (omega arith, rw (c .place-in .ensures) (labels-through (a .v .now) (kindsMet (a .met)) (loop .at) (loop .left) _ (c .before .before .before .before .before .before .before .before .before .before .loop-test .taken) (sym (c .before .before .before .before .before .before .before .before .before .position .ensures) ∙ c .before .before .before .before .before .before .before .j .given .1) _ leads ∙ loop .inv .1))
 
 returns-3 : tie.Need-returns-3 Inv-loop μ-loop
 unfolding labelsFor
 returns-3 c =
   let a = c .before .before .before .args in
   let loop = c .before .loop in
-  labels-end (a .v .now) (a .met) (loop .at) (loop .left) (omega (arith, c .loop-test .left)) ∙ loop .inv .1
+  labels-end (a .v .now) (kindsMet (a .met)) (loop .at) (loop .left) (omega (arith, c .loop-test .left)) ∙ loop .inv .1
 
 pub labels-for-spec : {M : Type 1} → statement M
 labels-for-spec =
@@ -94,6 +95,7 @@ labels-for-spec =
     parameters-of-requires
     discriminant-of-requires
     enum-known-next
+    place-in-requires
     enum-known-labels
     returns-2
     sub-left

@@ -2,7 +2,7 @@
 use mathlib.Core.Path.{sym}
 use borrow.Author.Tests.{not-true, not-false}
 use lib.Seq.{length-take-le}
-use Rattle.questions.proofs.Turns.{taken-within, on, turn-begun, turn-ended, turn-always}
+use Rattle.questions.proofs.Turns.{taken-within, turn-begun, turn-ended, turn-always}
 use borrow.Author.Needs.{needs}
 use Rattle.questions.proofs.block.turn.Statement.{statement}
 use Rattle.questions.proofs.block.turn.Tie as tie
@@ -18,21 +18,21 @@ returns c =
   let a = c .before .before .before .before .before .before .before .before .before .before .args in
   let pre = c .before .before .before .before .before .before .before .before .before .before .pre in
   let take-line = c .before .before .before .before .take-line in
-  (on (a .block .now) (a .at) (a .line .now) (a .out .now) _ pre _ _ (take-line .ensures), turn-begun (a .block .now) (a .at) (a .line .now) (a .out .now) _ pre _ _ (take-line .ensures) (not-true _ (c .if1 .taken)))
+  turn-begun (a .block .now) (a .at) (a .line .now) (a .out .now) (a .table .now) pre _ _ (take-line .ensures) (not-true _ (c .if1 .taken))
 
 slice-reshare-prefix-answer-line : tie.Need-slice-reshare-prefix-answer-line
 slice-reshare-prefix-answer-line c =
   let a = c .before .before .before .before .before .before .before .before .before .before .args in
   let pre = c .before .before .before .before .before .before .before .before .before .before .pre in
   let take-line = c .before .before .before .before .take-line in
-  taken-within (a .block .now) (a .at) (a .line .now) (a .out .now) _ pre _ _ (take-line .ensures)
+  taken-within (a .block .now) (a .at) (a .line .now) (a .out .now) (a .table .now) pre _ _ (take-line .ensures)
 
 slice-aggregate-answer-line : tie.Need-slice-aggregate-answer-line
 slice-aggregate-answer-line c =
   let a = c .before .before .before .before .before .before .before .before .before .before .before .args in
   let pre = c .before .before .before .before .before .before .before .before .before .before .before .pre in
   let take-line = c .before .before .before .before .before .take-line in
-  sym (length-take-le _ _ (taken-within (a .block .now) (a .at) (a .line .now) (a .out .now) _ pre _ _ (take-line .ensures)))
+  sym (length-take-le _ _ (taken-within (a .block .now) (a .at) (a .line .now) (a .out .now) (a .table .now) pre _ _ (take-line .ensures)))
 
 answer-line-requires : tie.Need-answer-line-requires
 answer-line-requires c κs = search needs
@@ -59,7 +59,8 @@ returns-2 c =
   let take-line = c .before .before .before .before .before .before .before .before .before .before .before .before .before .before .take-line in
   let if1 = c .before .before .before .before .before .before .before .before .before .before .if1 in
   let answer-line = c .before .before .before .before .before .before .answer-line in
-  turn-always (a .block .now) (a .at) (a .line .now) (a .out .now) _ pre _ _ (take-line .ensures) (not-false _ (if1 .left)) _ _ (answer-line .ensures) (c .enum-told .given .1)
+  turn-always (a .block .now) (a .at) (a .line .now) (a .out .now) (a .table .now) pre _ _ (take-line .ensures) (not-false _ (if1 .left))
+    _ _ (answer-line .ensures .0) (c .enum-told .given .1)
 
 same-length-5 : tie.Need-same-length-5
 same-length-5 c = search needs
@@ -77,7 +78,8 @@ returns-3 c =
   let take-line = c .before .before .before .before .before .before .before .before .before .before .before .before .before .before .before .take-line in
   let if1 = c .before .before .before .before .before .before .before .before .before .before .before .if1 in
   let answer-line = c .before .before .before .before .before .before .before .answer-line in
-  (on (a .block .now) (a .at) (a .line .now) (a .out .now) _ pre _ _ (take-line .ensures), turn-ended (a .block .now) (a .at) (a .line .now) (a .out .now) _ pre _ _ (take-line .ensures) (not-false _ (if1 .left)) _ _ (answer-line .ensures) _ (c .before .end .given .1))
+  turn-ended (a .block .now) (a .at) (a .line .now) (a .out .now) (a .table .now) pre _ _ (take-line .ensures) (not-false _ (if1 .left))
+    _ _ (answer-line .ensures .0) _ (c .before .end .given .1) _ (answer-line .ensures .1)
 
 pub turn-spec : {M : Type 1} → statement M
 turn-spec =

@@ -50,7 +50,7 @@ returns-2 c =
   let room-of = c .before .before .before .before .before .before .before .room-of in
   let pre = c .before .before .before .before .before .before .before .before .before .before .before .pre in
   let read-value = c .before .before .before .before .before .read-value in
-  value-refused (a .t .now) (a .typed) _ (a .room) (a .table .now) _ (room-of .ensures) (omega (arith, room-of .ensures, pre)) _ (read-value .ensures .0) _ _ (c .before .answer2 .given .1) _
+  value-refused (a .t .now) (a .typed) _ (a .room) (a .table .now) _ (room-of .ensures) (omega (arith, room-of .ensures, pre)) _ (read-value .ensures .0) _ _ (c .before .answer2 .given .1) _ (read-value .ensures .1)
 
 pub read-value-spec : {M : Type 1} → statement M
 read-value-spec =

@@ -1,0 +1,61 @@
+-- "Checked type as a struct with arrays of places, starts and orders": which list of kinds the struct stands for. What its entries hold past
+-- its count says nothing, and no function reads them.
+--   orderIn      the order that an entry says
+--   entryAt      the kind that the entries at a position say
+--   kindsFrom    n kinds from a position on
+--   heldIn       how many kinds the struct stands for: its count, of which its arrays have room for 64
+--   kindsMet     the list that the struct stands for
+--   noKinds      the struct of no kind
+--   roomFor      there is room for one more kind, at a place and in an encapsulation that the entries can hold, as every one of a type of at
+--                most 16,384 octets is
+--   added        the struct with one more kind
+--   gathered     the struct with more kinds, one after the other; from `noKinds` on, its entries past the last are 0
+use Prim.Native.Nat.{ℕ, zero, suc, min, _+_}
+use mathlib.Core.List.{List, [], _∷_}
+use mathlib.Core.Bool.{Bool, cond, _&&_}
+use lib.Dec.{ltb, eqb}
+use lib.ListN.{getD, set, replicate}
+use Rattle.cdr.specs.declared.Place.{Place}
+use Rattle.cdr.specs.declared.Order.{Order}
+use Rattle.cdr.specs.declared.Order.the-variants.{Big, Little}
+use Rattle.kinds.specs.declared.Kind.{Kind}
+use Rattle.met.specs.declared.Met.{Met}
+use Rattle.cdr.specs.Orders.{orderOctet}
+use Rattle.kinds.specs.Parts.{placeOf, writtenAt}
+
+abbrev pub orderIn : ℕ → Order
+orderIn octet = cond (eqb octet 1) Little Big
+
+abbrev pub entryAt : Met → ℕ → Kind
+entryAt m j = writtenAt (placeOf (getD (m .places) j 0)) (placeOf (getD (m .starts) j 0)) (orderIn (getD (m .orders) j 0))
+
+unfoldable pub kindsFrom : Met → ℕ → ℕ → List Kind
+kindsFrom m zero i = []
+kindsFrom m (suc n) i = entryAt m i ∷ kindsFrom m n (i + 1)
+
+abbrev pub heldIn : Met → ℕ
+heldIn m = min (m .count) 64
+
+unfoldable pub kindsMet : Met → List Kind
+kindsMet m = kindsFrom m (heldIn m) 0
+
+abbrev pub noKinds : Met
+noKinds = record { places = replicate 64 0; starts = replicate 64 0; orders = replicate 64 0; count = 0 }
+
+abbrev pub roomFor : Met → Place → Place → Bool
+roomFor m p b = ltb (m .count) 64 && (ltb (p .0) 65536 && ltb (b .0) 65536)
+
+unfoldable pub added : Met → Place → Place → Order → Met
+added m p b order =
+    cond (roomFor m p b)
+    (record {
+      places = set (m .places) (m .count) (p .0);
+      starts = set (m .starts) (m .count) (b .0);
+      orders = set (m .orders) (m .count) (orderOctet order);
+      count = m .count + 1;
+    })
+    m
+
+unfoldable pub gathered : Met → List Kind → Met
+gathered m [] = m
+gathered m (k ∷ ks) = gathered (added m (k .place) (k .start) (k .order)) ks

@@ -1,0 +1,78 @@
+-- What the table holds at first decides nothing but what it holds afterwards: answers, line and output are the same whatever it held.
+use mathlib.Core.Path.{_≡_, refl, sym, ap, _∙_}
+use mathlib.Core.List.{List}
+use Prim.Native.Nat.{ℕ, zero, suc}
+use lib.ListN.{length}
+use lib.Seq.{length-sets}
+use Rattle.choices.proofs.Choices.{by-test}
+use Rattle.choices.specs.Branch.{choose}
+use Rattle.lines.specs.Lines.{takenOf}
+use Rattle.reading.specs.Value.{flat}
+use Rattle.questions.specs.declared.Progress.{Progress}
+use Rattle.questions.specs.Questions.{Question}
+use Rattle.questions.specs.Replies.{itemsIn}
+use Rattle.questions.specs.Blocks.{tableFor, Work, goesOn, turnOf, blockFrom, workOf, blockStart, blockOf, BlockAnswered}
+use Rattle.questions.proofs.Blocks.{block-on, block-stops}
+
+table-size : (q : Question) (table : List ℕ) → length (tableFor q table) ≡ length table
+unfolding tableFor
+table-size q table = length-sets table 0 (flat (itemsIn q))
+
+abbrev withTable : Work → List ℕ → Work
+withTable w table = workOf (w .at) (w .line) (w .out) table
+
+-- the same but for the table, which has as many numbers
+pub record SameBut (w v : Work) : Type 0 where
+  pub table : List ℕ
+  pub sized : length table ≡ length (w .table)
+  pub is : v ≡ withTable w table
+
+module _ (block : List ℕ) (w : Work) (table : List ℕ) (h : length table ≡ length (w .table)) where
+  goes-same : goesOn block (withTable w table) ≡ goesOn block w
+  unfolding goesOn
+  goes-same = rw h
+
+  turn-same : SameBut (turnOf block w) (turnOf block (withTable w table))
+  unfolding turnOf choose
+  turn-same =
+      by-test (takenOf block (w .at .next) (length (w .line)) (w .at .kept) .ended)
+      (λ e. rw e (record { table = tableFor _ table; sized = table-size _ table ∙ h ∙ sym (table-size _ (w .table)); is = refl }))
+      (λ e. rw e (record { table = table; sized = h; is = refl }))
+
+block-same : (n : ℕ) (block : List ℕ) (w : Work) (table : List ℕ) → length table ≡ length (w .table)
+    → SameBut (blockFrom n block w) (blockFrom n block (withTable w table))
+unfolding blockFrom
+block-same zero block w table h = record { table = table; sized = h; is = refl }
+block-same (suc n) block w table h =
+    let s = turn-same block w table h in
+    by-test (goesOn block w)
+    (λ e.
+    rw (block-on block w e n, block-on block (withTable w table) (goes-same block w table h ∙ e) n, s .is)
+    (block-same n block (turnOf block w) (s .table) (s .sized)))
+    (λ e.
+    rw (block-stops block w e (suc n), block-stops block (withTable w table) (goes-same block w table h ∙ e) (suc n))
+    (record { table = table; sized = h; is = refl }))
+
+-- a whole call, by the definition
+pub same-but-table : (block : List ℕ) (from : ℕ) (line out table other : List ℕ) (kept : ℕ) → length other ≡ length table
+    → SameBut (blockOf block from line out table kept) (blockOf block from line out other kept)
+unfolding blockOf
+same-but-table block from line out table other kept h =
+    block-same (length block) block (workOf (blockStart block from kept) line out table) other h
+
+-- and any two calls that differ in what their tables hold
+pub record SameCall (r : Progress) (line out : List ℕ) (s : Progress) (lineToo outToo : List ℕ) : Type 0 where
+  pub progress : s ≡ r
+  pub lines : lineToo ≡ line
+  pub texts : outToo ≡ out
+
+pub same-call : (block : List ℕ) (from : ℕ) (line out table other : List ℕ) (kept : ℕ) → length other ≡ length table
+    → (r s : Progress) (lineLast outLast tableLast lineToo outToo tableToo : List ℕ)
+    → BlockAnswered block from line out table kept r lineLast outLast tableLast → BlockAnswered block from line out other kept s lineToo outToo tableToo
+    → SameCall r lineLast outLast s lineToo outToo
+same-call block from line out table other kept h r s lineLast outLast tableLast lineToo outToo tableToo a b =
+    let m = same-but-table block from line out table other kept h in
+    let e : workOf s lineToo outToo tableToo ≡ withTable (workOf r lineLast outLast tableLast) (m .table) =
+    b .decided ∙ m .is ∙ ap (λ (w : Work). withTable w (m .table)) (sym (a .decided))
+    in
+    record { progress = ap (λ (w : Work). w .at) e; lines = ap (λ (w : Work). w .line) e; texts = ap (λ (w : Work). w .out) e }

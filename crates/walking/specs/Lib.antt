@@ -1,0 +1,2 @@
+-- The words of the readers that call one another.
+pub mod Nested

@@ -1,0 +1,57 @@
+-- What a visit does, in the words of readers that call one another. f reads what is inside, one level down; t is the checked type.
+--   elementsAt     n elements, all of one shape
+--   sequenceAt     "sequence: count, then elements"
+--   membersAt      members of these types, in order
+--   exceptionAt    "exception: a text id, then members"; "an exception's id none"
+--   armAt          the chosen member, if there is one
+--   unionAt        "union: discriminant, then the member"
+--   enter          what a visit does, by the type's shape; an accepted type has no fault
+--   readsNested    a visit with so many levels left
+use Prim.Native.Nat.{ℕ, zero, suc}
+use mathlib.Core.List.{List, [], _∷_}
+use Rattle.kinds.specs.declared.Inner.{Inner}
+use Rattle.kinds.specs.Members.{Member}
+use Rattle.met.specs.declared.Arm.{Arm}
+use Rattle.met.specs.declared.Arm.the-variants.{Chosen, NoneChosen}
+use Rattle.met.specs.Arms.{chosenOf}
+use Rattle.met.specs.Shapes.{Shape}
+use Rattle.met.specs.Shapes.Shape.{fault, flat, struct, exception, union, sequence, array, alias}
+use Rattle.reading.specs.Sinks.{Source, Sink, St, failed, after, repeats, begun}
+use Rattle.reading.specs.Visit.{Checked, textAt, countAt, inertAt}
+
+module _ {A : Type 0} (k : Sink A) (x : Source) (f : Shape → St A → St A) where
+  unfoldable pub elementsAt : Shape → ℕ → St A → St A
+  elementsAt e n s = repeats (f e) n s
+
+  unfoldable pub sequenceAt : Shape → ℕ → St A → St A
+  sequenceAt e bound s = after (countAt k x bound s) (λ u. elementsAt e (u .last) u)
+
+  module _ (t : Checked) where
+    unfoldable pub membersAt : List Inner → St A → St A
+    membersAt [] s = s
+    membersAt (y ∷ ys) s = after (f (t .look y) s) (membersAt ys)
+
+    unfoldable pub exceptionAt : List Inner → St A → St A
+    exceptionAt ys s = after (textAt k x 0 s) (membersAt ys)
+
+    abbrev pub armAt : Arm → St A → St A
+    armAt (Chosen y) s = f (t .look y) s
+    armAt NoneChosen s = s
+
+    unfoldable pub unionAt : Inner → List Member → ℕ → St A → St A
+    unionAt d ms default s = after (f (t .look d) s) (λ u. armAt (chosenOf ms default (u .last)) u)
+
+    unfoldable pub enter : Shape → St A → St A
+    enter fault s = s
+    enter (flat i) s = inertAt k x i s
+    enter (struct ys) s = membersAt ys s
+    enter (exception ys) s = exceptionAt ys s
+    enter (union d ms default) s = unionAt d ms default s
+    enter (sequence y bound) s = sequenceAt (t .look y) bound s
+    enter (array y n) s = elementsAt (t .look y) n s
+    enter (alias y) s = f (t .look y) s
+
+module _ {A : Type 0} (k : Sink A) (x : Source) (t : Checked) where
+  unfoldable pub readsNested : ℕ → Shape → St A → St A
+  readsNested zero p s = failed 55 s
+  readsNested (suc l) p s = enter k x (readsNested l) t p (begun k s)
