@@ -29,7 +29,7 @@ mod walks;
 // The kinds met so far, and which of them are no target yet.
 pub struct Walk {
     pub met: Met,
-    pub barred: [bool; 64],
+    pub barred: [bool; tags::KINDS_LIMIT],
 }
 
 // Where a check goes on, or why it does not; and what it has met.
@@ -94,7 +94,7 @@ fn check(v: &[u8], s: &[u8], start: Place, order: Order, at: Index, left: u8, wa
     else {
         return walks::refused(Refusal::Ends, walk);
     };
-    if kind == kinds::INDIRECTION {
+    if kind == tags::INDIRECTION {
         return indirection(s, start, order, next, walk);
     }
     let form = kinds::form_of(kind);

@@ -26,7 +26,7 @@ pub(crate) fn nothing_met() -> Walk
 {
     Walk {
         met: Met::none(),
-        barred: [false; 64],
+        barred: [false; tags::KINDS_LIMIT],
     }
 }
 
@@ -66,10 +66,14 @@ pub(crate) fn count(walk: Walk) -> usize
 }
 
 // Whether the kind at a position is no target yet.
-fn barred_at(barred: [bool; 64], i: usize) -> bool
+fn barred_at(barred: [bool; tags::KINDS_LIMIT], i: usize) -> bool
     ensures { λ r. ⌜ r ≡ getD barred i false ⌝ }
 {
-    if i < 64 { barred[i] } else { false }
+    if i < tags::KINDS_LIMIT {
+        barred[i]
+    } else {
+        false
+    }
 }
 
 // The target of an indirection is judged.

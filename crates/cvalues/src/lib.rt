@@ -44,9 +44,9 @@ fn gather(met: Met) -> Met
 pub extern "C" fn haulspar_type(
     octets: &[u8],
     little: bool,
-    places: &mut [u16; 64],
-    starts: &mut [u16; 64],
-    orders: &mut [u8; 64],
+    places: &mut [u16; tags::KINDS_LIMIT],
+    starts: &mut [u16; tags::KINDS_LIMIT],
+    orders: &mut [u8; tags::KINDS_LIMIT],
     numbers: &mut [u64; 2],
 ) -> u32
     ensures { λ r. ⌜ ChecksC (now (octets .entry)) little (now (places .entry)) (now (starts .entry)) (now (orders .entry)) (now (numbers .entry)) r (now (places .exit)) (now (starts .exit)) (now (orders .exit)) (now (numbers .exit)) ⌝ }

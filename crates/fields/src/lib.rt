@@ -96,13 +96,13 @@ pub const NESTING: u8 = 16;
 fn top_only(kind: u64) -> bool
     ensures { λ r. ⌜ r ≡ topOnly kind ⌝ }
 {
-    if kind == 0 {
+    if kind == tags::NULL {
         return true;
     }
-    if kind == 1 {
+    if kind == tags::VOID {
         return true;
     }
-    kind == 22
+    kind == tags::EXCEPTION
 }
 
 // Whether a kind of the top stands below it.
@@ -140,7 +140,7 @@ pub fn entry_of(form: Form, kind: u64, left: u8, count: usize) -> Entry
     if left == 0 {
         return Entry::Barred(Refusal::TooDeep);
     }
-    if met::KINDS_LIMIT <= count {
+    if tags::KINDS_LIMIT <= count {
         return Entry::Barred(Refusal::TooManyKinds);
     }
     Entry::Enters

@@ -20,8 +20,8 @@ pub fn item_of(kind: u64, content: u64) -> Item
         return Item::Signed(signed(content));
     }
     match kind {
-        6 => single_of(content),
-        7 => Item::Double {
+        tags::FLOAT => single_of(content),
+        tags::DOUBLE => Item::Double {
             bits: content,
             value: double(content),
         },
@@ -33,7 +33,7 @@ pub fn item_of(kind: u64, content: u64) -> Item
 pub fn is_signed(kind: u64) -> bool
     ensures { λ r. ⌜ r ≡ signedKind kind ⌝ }
 {
-    kind == 2 || (kind == 3 || kind == 23)
+    kind == tags::SHORT || (kind == tags::LONG || kind == tags::LONG_LONG)
 }
 
 // The single float of the content's last 32 bits.

@@ -14,9 +14,6 @@ use encapsulation::Field;
 mod inside;
 mod parts;
 
-// The kind of an indirection.
-pub const INDIRECTION: u64 = 0xFFFFFFFF;
-
 // What follows a kind.
 pub enum Form {
     Unlisted,
@@ -37,44 +34,47 @@ pub enum Layout {
     Exception,
 }
 
+// The number behind the kinds from null to octet, which have no parameters.
+const PLAIN_END: u64 = tags::OCTET + 1;
+
 // What follows a kind, by its number.
 pub fn form_of(kind: u64) -> Form
     ensures { λ r. ⌜ r ≡ formOf kind ⌝ }
 {
-    if kind < 11 {
+    if kind < PLAIN_END {
         return Form::Plain;
     }
-    if kind == 14 {
+    if kind == tags::OBJREF {
         return Form::Composite(Layout::Objref);
     }
-    if kind == 15 {
+    if kind == tags::STRUCT {
         return Form::Composite(Layout::Struct);
     }
-    if kind == 16 {
+    if kind == tags::UNION {
         return Form::Composite(Layout::Union);
     }
-    if kind == 17 {
+    if kind == tags::ENUM {
         return Form::Composite(Layout::Enum);
     }
-    if kind == 18 {
+    if kind == tags::STRING {
         return Form::Bounded;
     }
-    if kind == 19 {
+    if kind == tags::SEQUENCE {
         return Form::Composite(Layout::Sequence);
     }
-    if kind == 20 {
+    if kind == tags::ARRAY {
         return Form::Composite(Layout::Array);
     }
-    if kind == 21 {
+    if kind == tags::ALIAS {
         return Form::Composite(Layout::Alias);
     }
-    if kind == 22 {
+    if kind == tags::EXCEPTION {
         return Form::Composite(Layout::Exception);
     }
-    if kind == 23 {
+    if kind == tags::LONG_LONG {
         return Form::Plain;
     }
-    if kind == 24 {
+    if kind == tags::UNSIGNED_LONG_LONG {
         return Form::Plain;
     }
     Form::Unlisted
@@ -209,7 +209,7 @@ pub fn spot_at(v: &[u8], start: Place, at: Index, order: Order) -> Spot
     let Field::Value { value: kind, next } = field_in(v, start, at, Size::Four, order) else {
         return Spot::Nowhere;
     };
-    if kind == INDIRECTION {
+    if kind == tags::INDIRECTION {
         return parts::aimed(v, start, next, order);
     }
     match parts::skip_kind(form_of(kind), v, start, next, order) {

@@ -117,28 +117,28 @@ fn number_at(v: &[u8], m: Mode, at: usize, size: Size) -> Read
 pub fn size_of(kind: u64) -> Size
     ensures { λ r. ⌜ r ≡ sizeOf kind ⌝ }
 {
-    if kind == 2 {
+    if kind == tags::SHORT {
         return Size::Two;
     }
-    if kind == 4 {
+    if kind == tags::USHORT {
         return Size::Two;
     }
-    if kind == 3 {
+    if kind == tags::LONG {
         return Size::Four;
     }
-    if kind == 5 {
+    if kind == tags::ULONG {
         return Size::Four;
     }
-    if kind == 6 {
+    if kind == tags::FLOAT {
         return Size::Four;
     }
-    if kind == 7 {
+    if kind == tags::DOUBLE {
         return Size::Eight;
     }
-    if kind == 23 {
+    if kind == tags::LONG_LONG {
         return Size::Eight;
     }
-    if kind == 24 {
+    if kind == tags::UNSIGNED_LONG_LONG {
         return Size::Eight;
     }
     Size::One
@@ -148,7 +148,7 @@ pub fn size_of(kind: u64) -> Size
 pub fn leaf(v: &[u8], m: Mode, table: &mut [u64], kind: u64, c: Cursor) -> Cursor
     ensures { λ r. ⌜ stateOf r (now (table .exit)) ≡ leafAt (sinkOf m) (sourceOf m (now (v .entry))) kind (stateOf c (now (table .entry))) ⌝ }
 {
-    if kind < 2 {
+    if kind < tags::SHORT {
         return c;
     }
     let size = size_of(kind);
@@ -180,7 +180,7 @@ pub fn enumerated(v: &[u8], m: Mode, table: &mut [u64], names: u64, c: Cursor) -
             if names <= value {
                 return c.took(at + 4, value).refused(refusals::NO_SUCH_NAME);
             }
-            rows::put(table, m, 17, at, value, c.took(at + 4, value))
+            rows::put(table, m, tags::ENUM, at, value, c.took(at + 4, value))
         }
         Read::Ends => c.refused(refusals::VALUE_ENDS),
     }
@@ -207,7 +207,7 @@ pub fn count(v: &[u8], m: Mode, table: &mut [u64], bound: u64, c: Cursor) -> Cur
             if texts::over_bound(value as usize, bound as usize) {
                 return c.took(at + 4, value).refused(refusals::OVER_BOUND);
             }
-            rows::put(table, m, 19, at, value, c.took(at + 4, value))
+            rows::put(table, m, tags::SEQUENCE, at, value, c.took(at + 4, value))
         }
         Read::Ends => c.refused(refusals::VALUE_ENDS),
     }

@@ -29,7 +29,7 @@ pub(crate) fn leaf_done(
 ) -> Cursor
     ensures { λ r. ⌜ ((v : List ℕ) → stateOf r (now (table .exit)) ≡ leafDone (sinkOf m) (sourceOf m v) kind place value (stateOf c (now (table .entry)))) ⌝ }
 {
-    if kind == 8 {
+    if kind == tags::BOOLEAN {
         if 1 < value {
             return c.refused(refusals::BAD_BOOLEAN);
         }

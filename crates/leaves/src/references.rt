@@ -27,7 +27,7 @@ pub(crate) fn text_got(
     match texts::read_text(v, at, length as usize, bound as usize) {
         Text::Chars(n) => {
             let next = at + length as usize;
-            rows::put(table, m, 18, at, n as u64, c.passed(next))
+            rows::put(table, m, tags::STRING, at, n as u64, c.passed(next))
         }
         Text::Empty => c.refused(refusals::BAD_VALUE_TEXT),
         Text::Over => c.refused(refusals::OVER_BOUND),
@@ -44,7 +44,14 @@ fn tag(v: &[u8], m: Mode, table: &mut [u64], c: Cursor) -> Cursor
     ensures { λ r. ⌜ stateOf r (now (table .exit)) ≡ tagAt (sinkOf m) (sourceOf m (now (v .entry))) (stateOf c (now (table .entry))) ⌝ }
 {
     match crate::number_at(v, m, c.at, Size::Four) {
-        Read::Number { at, value } => rows::put(table, m, 5, at, value, c.took(at + 4, value)),
+        Read::Number { at, value } => rows::put(
+            table,
+            m,
+            tags::ULONG,
+            at,
+            value,
+            c.took(at + 4, value),
+        ),
         Read::Ends => c.refused(refusals::VALUE_ENDS),
     }
 }
@@ -55,7 +62,7 @@ fn run_got(v: &[u8], m: Mode, table: &mut [u64], count: u64, c: Cursor) -> Curso
 {
     let at = c.at;
     match texts::read_run(v, at, count as usize) {
-        Run::To(end) => rows::put(table, m, 256, at, count, c.passed(end)),
+        Run::To(end) => rows::put(table, m, tags::RUN, at, count, c.passed(end)),
         Run::Past => c.refused(refusals::VALUE_ENDS),
     }
 }

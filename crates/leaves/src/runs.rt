@@ -20,6 +20,9 @@ use cdr::Order;
 use cdr::Read;
 use cdr::Size;
 
+// The most visits that go at once.
+const MOST: u64 = cdr::OCTETS_LIMIT as u64;
+
 // So many visits, one by one.
 pub(crate) fn each(v: &[u8], m: Mode, table: &mut [u64], kind: u64, count: u64, c: Cursor) -> Cursor
     ensures { λ r. ⌜ stateOf r (now (table .exit)) ≡ repeats (leafVisit m (now (v .entry)) kind) count (stateOf c (now (table .entry))) ⌝ }
@@ -41,16 +44,16 @@ pub(crate) fn each(v: &[u8], m: Mode, table: &mut [u64], kind: u64, count: u64, 
 pub(crate) fn is_plain(kind: u64, count: u64, fault: u32) -> bool
     ensures { λ r. ⌜ (r ≡ true → Plain kind count fault) ⌝ }
 {
-    if kind < 2 {
+    if kind < tags::SHORT {
         return false;
     }
-    if kind == 8 {
+    if kind == tags::BOOLEAN {
         return false;
     }
     if count < 4 {
         return false;
     }
-    if 16384 < count {
+    if MOST < count {
         return false;
     }
     fault == 0
@@ -201,10 +204,10 @@ fn filled(
     if lacks_room(true, table.len() / 3, c.items, n) {
         return each(v, m, table, kind, n as u64, c);
     }
-    if kind == 9 {
+    if kind == tags::CHAR {
         return octets_in(v, table, kind, n, c);
     }
-    if kind == 10 {
+    if kind == tags::OCTET {
         return octets_in(v, table, kind, n, c);
     }
     numbers_in(v, m, table, kind, size, n, p, c)

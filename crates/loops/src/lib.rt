@@ -4,13 +4,11 @@ ghost use Prim.Native.Nat.{min, _≤_, _<_};
 ghost use lib.ListN.{length};
 ghost use Rattle.loops.specs.Loops.{loopFound, mostKinds, bitAt, cell, noSteps, rowWith, withStep};
 ghost use Rattle.loops.specs.Inner.{throughRow, RoundDone, Closed, someReturns};
-
-// The most kinds of a graph.
-pub const KINDS: usize = 64;
+use tags::KINDS_LIMIT;
 
 // The steps of a graph: bit j of row i says that there is one from kind i to kind j.
 pub struct Steps {
-    pub rows: [u64; KINDS],
+    pub rows: [u64; KINDS_LIMIT],
 }
 
 impl Steps {
@@ -18,17 +16,19 @@ impl Steps {
     pub fn none() -> Steps
         ensures { λ r. ⌜ r ≡ noSteps ⌝ }
     {
-        Steps { rows: [0; KINDS] }
+        Steps {
+            rows: [0; KINDS_LIMIT],
+        }
     }
 
     // The steps and one from kind i to kind j; the steps as they are where i or j is not below 64.
     pub fn with(self, i: usize, j: usize) -> Steps
         ensures { λ r. ⌜ r ≡ withStep self i j ⌝ }
     {
-        if KINDS <= i {
+        if KINDS_LIMIT <= i {
             return self;
         }
-        if KINDS <= j {
+        if KINDS_LIMIT <= j {
             return self;
         }
         let mut rows = self.rows;
@@ -41,10 +41,10 @@ impl Steps {
 pub fn has_loop(steps: Steps, n: usize) -> bool
     ensures { λ r. ⌜ r ≡ loopFound (min n mostKinds) (cell (steps .rows)) ⌝ }
 {
-    if n < KINDS {
+    if n < KINDS_LIMIT {
         return some_returns(closed(steps, n), n);
     }
-    some_returns(closed(steps, KINDS), KINDS)
+    some_returns(closed(steps, KINDS_LIMIT), KINDS_LIMIT)
 }
 
 // Whether some kind below n has a step to itself.
@@ -78,7 +78,7 @@ fn closed(steps: Steps, n: usize) -> Steps
 }
 
 // The round for kind k: each kind below n that steps to k steps to where k steps.
-fn close_round(rows: &mut [u64; KINDS], n: usize, k: usize)
+fn close_round(rows: &mut [u64; KINDS_LIMIT], n: usize, k: usize)
     requires { ⌜ (n ≤ mostKinds) × (k < n) × (length (now rows) ≡ mostKinds) ⌝ }
     ensures { λ _. ⌜ RoundDone n k (now (rows .entry)) (now (rows .exit)) ⌝ }
 {

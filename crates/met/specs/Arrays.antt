@@ -6,7 +6,7 @@
 --   heldIn       how many kinds the struct stands for: its count, of which its arrays have room for 64
 --   kindsMet     the list that the struct stands for
 --   noKinds      the struct of no kind
---   roomFor      there is room for one more kind, at a place and in an encapsulation that the entries can hold, as every one of a type of at
+--   hasRoom      there is room for one more kind, at a place and in an encapsulation that the entries can hold, as every one of a type of at
 --                most 16,384 octets is
 --   added        the struct with one more kind
 --   gathered     the struct with more kinds, one after the other; from `noKinds` on, its entries past the last are 0
@@ -42,12 +42,12 @@ kindsMet m = kindsFrom m (heldIn m) 0
 abbrev pub noKinds : Met
 noKinds = record { places = replicate 64 0; starts = replicate 64 0; orders = replicate 64 0; count = 0 }
 
-abbrev pub roomFor : Met → Place → Place → Bool
-roomFor m p b = ltb (m .count) 64 && (ltb (p .0) 65536 && ltb (b .0) 65536)
+abbrev pub hasRoom : Met → Place → Place → Bool
+hasRoom m p b = ltb (m .count) 64 && (ltb (p .0) 65536 && ltb (b .0) 65536)
 
 unfoldable pub added : Met → Place → Place → Order → Met
 added m p b order =
-    cond (roomFor m p b)
+    cond (hasRoom m p b)
     (record {
       places = set (m .places) (m .count) (p .0);
       starts = set (m .starts) (m .count) (b .0);

@@ -23,28 +23,28 @@ fn sized(size: Size, limit: u64) -> Labels
 fn leaf_labels(kind: u64) -> Labels
     ensures { λ r. ⌜ r ≡ leafLabels kind ⌝ }
 {
-    if kind == 2 {
+    if kind == tags::SHORT {
         return sized(Size::Two, 0);
     }
-    if kind == 3 {
+    if kind == tags::LONG {
         return sized(Size::Four, 0);
     }
-    if kind == 4 {
+    if kind == tags::USHORT {
         return sized(Size::Two, 0);
     }
-    if kind == 5 {
+    if kind == tags::ULONG {
         return sized(Size::Four, 0);
     }
-    if kind == 8 {
+    if kind == tags::BOOLEAN {
         return sized(Size::One, 2);
     }
-    if kind == 9 {
+    if kind == tags::CHAR {
         return sized(Size::One, 0);
     }
-    if kind == 23 {
+    if kind == tags::LONG_LONG {
         return sized(Size::Eight, 0);
     }
-    if kind == 24 {
+    if kind == tags::UNSIGNED_LONG_LONG {
         return sized(Size::Eight, 0);
     }
     Labels::NoLabels
@@ -93,7 +93,7 @@ pub fn labels_for(v: &[u8], met: Met, place: Place) -> Labels
     ensures { λ r. ⌜ r ≡ labelsFor (now (v .entry)) (kindsMet met) place ⌝ }
 {
     let mut at = place;
-    let mut left: usize = 64;
+    let mut left: usize = tags::KINDS_LIMIT;
     while 0 < left {
         let Position::Is(j) = met.position(at) else {
             return Labels::NoLabels;

@@ -10,28 +10,26 @@ use kinds::Inner;
 use kinds::Kind;
 use kinds::Labels;
 use kinds::Parameters;
+use tags::KINDS_LIMIT;
 
 mod arms;
 mod discriminants;
 
+pub use arms::NO_DEFAULT;
 pub use arms::case_of;
 pub use arms::chosen_of;
 pub use arms::counts;
-pub use arms::NO_DEFAULT;
 pub use discriminants::labels_for;
 pub use discriminants::out_of_kind;
 
 // Of each kind met its place, the start of its encapsulation, and that encapsulation's order octet.
 #[repr(C)]
 pub struct Met {
-    pub places: [u16; 64],
-    pub starts: [u16; 64],
-    pub orders: [u8; 64],
+    pub places: [u16; KINDS_LIMIT],
+    pub starts: [u16; KINDS_LIMIT],
+    pub orders: [u8; KINDS_LIMIT],
     pub count: usize,
 }
-
-// The most kinds that a TypeCode may have.
-pub const KINDS_LIMIT: usize = 64;
 
 // The position of a kind in the list, or that it is not there.
 pub enum Position {
@@ -62,17 +60,17 @@ fn held_in(count: usize) -> usize
 }
 
 // A place of the list, 0 past its end.
-fn entry(list: [u16; 64], i: usize) -> usize
+fn entry(list: [u16; KINDS_LIMIT], i: usize) -> usize
     ensures { λ r. ⌜ r ≡ getD list i 0 ⌝ }
 {
-    if i < 64 { list[i] as usize } else { 0 }
+    if i < KINDS_LIMIT { list[i] as usize } else { 0 }
 }
 
 // An order of the list, big past its end.
-fn order_entry(list: [u8; 64], i: usize) -> Order
+fn order_entry(list: [u8; KINDS_LIMIT], i: usize) -> Order
     ensures { λ r. ⌜ r ≡ orderIn (getD list i 0) ⌝ }
 {
-    if i < 64 {
+    if i < KINDS_LIMIT {
         if list[i] == 1 {
             return Order::Little;
         }
@@ -86,9 +84,9 @@ impl Met {
         ensures { λ r. ⌜ r ≡ noKinds ⌝ }
     {
         Met {
-            places: [0; 64],
-            starts: [0; 64],
-            orders: [0; 64],
+            places: [0; KINDS_LIMIT],
+            starts: [0; KINDS_LIMIT],
+            orders: [0; KINDS_LIMIT],
             count: 0,
         }
     }

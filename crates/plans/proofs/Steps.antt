@@ -132,26 +132,27 @@ module _ (t : Checked) where
   laid-right (suc n) kinds j (y ∷ ys) e h =
       let more = plannable-more n y ys e in
       let kind : ℕ = leafKind (t .look y) in
-      let long = length-set kinds j kind in
-      (leaf-shape (t .look y) (more .0)
-      ∙ ap (λ (i : ℕ). flat (Leaf i)) (sym (laid-before (set kinds j kind) (j + 1) ys j (omega arith) ∙ getD-set-same kinds j kind 0 (omega arith))),
-      laid-right n (set kinds j kind) (j + 1) ys (more .1) (omega arith))
+      let long = length-set kinds j kind in (
+        leaf-shape (t .look y) (more .0)
+            ∙ ap (λ (i : ℕ). flat (Leaf i)) (sym (laid-before (set kinds j kind) (j + 1) ys j (omega arith) ∙ getD-set-same kinds j kind 0 (omega arith))),
+        laid-right n (set kinds j kind) (j + 1) ys (more .1) (omega arith),
+      )
 
   pub plan-fits : (left count : ℕ) (ys : List Inner) → planOf t left count ys .found ≡ true → Fits t left ys (planOf t left count ys)
   unfolding planOf choose
   plan-fits left count ys found =
       by-test (leb count mostMembers && (leb 2 left && plannable t count ys))
       (λ e.
-          let a = and-true (leb count mostMembers) (leb 2 left && plannable t count ys) e in
-          let b = and-true (leb 2 left) (plannable t count ys) (a .1) in
-          let few = leb-true count mostMembers (a .0) in
-          let all = plannable-all count ys (b .1) in
-          let long = length-replicate {A = ℕ} mostMembers 0 in
-          rw e (record {
-            levels = leb-true 2 left (b .0);
-            right = laid-right count (replicate mostMembers 0) 0 ys (b .1) (omega arith);
-            whole = all;
-          }))
+      let a = and-true (leb count mostMembers) (leb 2 left && plannable t count ys) e in
+      let b = and-true (leb 2 left) (plannable t count ys) (a .1) in
+      let few = leb-true count mostMembers (a .0) in
+      let all = plannable-all count ys (b .1) in
+      let long = length-replicate {A = ℕ} mostMembers 0 in
+      rw e (record {
+        levels = leb-true 2 left (b .0);
+        right = laid-right count (replicate mostMembers 0) 0 ys (b .1) (omega arith);
+        whole = all;
+      }))
       (λ e. absurd (false≢true (rw e at found)))
 
 -- ---- a plan in the making, of members that are listed in an encapsulation

@@ -63,6 +63,7 @@ fn no_plan() -> Plan
 fn narrow(kind: u64) -> u8
     ensures { λ r. ⌜ r ≡ cond (ltb kind noLeaf) kind noLeaf ⌝ }
 {
+    // 255 is NO_LEAF, and the number of no kind.
     if kind < 255 { kind as u8 } else { NO_LEAF }
 }
 

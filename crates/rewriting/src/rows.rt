@@ -13,29 +13,23 @@ use cdr::Index;
 use cdr::Order;
 use cdr::Size;
 
-// The kinds of items that are no primitive: an enum, a text, a count and a run.
-const ENUM: u64 = 17;
-
-const TEXT: u64 = 18;
-
-const COUNT: u64 = 19;
-
-const RUN: u64 = 256;
+// The number behind boolean, char and octet.
+const OCTETS_END: u64 = tags::OCTET + 1;
 
 // The size of an item's number.
 fn width_of(kind: u64) -> Size
     ensures { λ r. ⌜ r ≡ widthOf kind ⌝ }
 {
-    if kind == ENUM {
+    if kind == tags::ENUM {
         return Size::Four;
     }
-    if kind == TEXT {
+    if kind == tags::STRING {
         return Size::Four;
     }
-    if kind == COUNT {
+    if kind == tags::SEQUENCE {
         return Size::Four;
     }
-    if kind == RUN {
+    if kind == tags::RUN {
         return Size::Four;
     }
     leaves::size_of(kind)
@@ -45,10 +39,10 @@ fn width_of(kind: u64) -> Size
 fn is_octet(kind: u64) -> bool
     ensures { λ r. ⌜ (r ≡ true → Octet kind) ⌝ }
 {
-    if kind < 8 {
+    if kind < tags::BOOLEAN {
         return false;
     }
-    kind < 11
+    kind < OCTETS_END
 }
 
 // The number that stands for an item.
@@ -56,7 +50,11 @@ fn head_of(kind: u64, content: u64) -> u64
     requires { ⌜ tailOf kind content ≤ octetsLimit ⌝ }
     ensures { λ r. ⌜ r ≡ headOf kind content ⌝ }
 {
-    if kind == TEXT { content + 1 } else { content }
+    if kind == tags::STRING {
+        content + 1
+    } else {
+        content
+    }
 }
 
 // How many octets stand behind an item's number as they are.
@@ -64,10 +62,10 @@ fn tail_of(kind: u64, content: u64) -> usize
     requires { ⌜ tailOf kind content ≤ octetsLimit ⌝ }
     ensures { λ r. ⌜ r ≡ tailOf kind content ⌝ }
 {
-    if kind == TEXT {
+    if kind == tags::STRING {
         return content as usize + 1;
     }
-    if kind == RUN {
+    if kind == tags::RUN {
         return content as usize;
     }
     0

@@ -13,8 +13,8 @@ index-is : (c : tie.After-known-told) →
     let at-start = c .before .before .before .before .before .before .before in
     c .before .index .given .0 .0 .0 ≡ aligned (at-start .args .start .0 % 8 + at-start .args .at) (octets (at-start .args .size))
 index-is c =
-  let index = c .before .index in
-  let at-aligned = c .before .before .before in
+    let index = c .before .index in
+    let at-aligned = c .before .before .before in
     let at-start = at-aligned .before .before .before .before in
     let o = at-start .args in aligned-at (indexOf (o .start .0 % 8 + o .at)) (o .size) (index .given .0 .0) (sym (at-aligned .aligned .ensures) ∙ index .given .1)
 
@@ -58,15 +58,15 @@ octets-requires c κs = search needs
 
 add-if2-2 : tie.Need-add-if2-2
 add-if2-2 c =
-  let a = c .before .before .before .before .before .before .before .before .before .args in
-  let o = a in
+    let a = c .before .before .before .before .before .before .before .before .before .args in
+    let o = a in
     let e = place-is (c .before .before) in
     omega (arith, gap-small (o .size) (o .start .0 + o .at), octets-small (o .size))
 
 returns-3 : tie.Need-returns-3
 returns-3 c =
-  let a = c .before .before .before .before .before .before .before .before .before .before .args in
-  let o = a in
+    let a = c .before .before .before .before .before .before .before .before .before .before .args in
+    let o = a in
     let e = place-is (c .before .before .before) in
     sym (read-ends (o .s .now) (o .start) (o .at) (o .size) (o .order) (omega arith))
 
@@ -75,8 +75,8 @@ number-requires c κs = search needs
 
 returns-4 : tie.Need-returns-4
 returns-4 c =
-  let a = c .before .before .before .before .before .before .before .before .before .before .before .args in
-  let o = a in
+    let a = c .before .before .before .before .before .before .before .before .before .before .before .args in
+    let o = a in
     let e = place-is (c .before .before .before .before) in
     rw (c .number .ensures .value, e) (sym (read-number (o .s .now) (o .start) (o .at) (o .size) (o .order) (omega arith)))
 

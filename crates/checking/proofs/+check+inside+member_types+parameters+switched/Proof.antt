@@ -126,17 +126,17 @@ check-refused-requires t c κs = search needs
 
 check-returns : (t : ℕ) → check-lts.Need-returns (check-of t) (check-at t) check.Post
 check-returns t c =
-  let a = c .before .before .before .before .before .before .args in
-  c .refused .ensures ∙ type-ends (a .v .now) (a .left) (a .s .now) (a .start) (a .order) (a .at) (seen (a .walk)) (sym (c .before .before .before .read-field .ensures) ∙ c .before .enum-told .given .1)
+    let a = c .before .before .before .before .before .before .args in
+    c .refused .ensures ∙ type-ends (a .v .now) (a .left) (a .s .now) (a .start) (a .order) (a .at) (seen (a .walk)) (sym (c .before .before .before .read-field .ensures) ∙ c .before .enum-told .given .1)
 
 check-indirection-requires : (t : ℕ) → check-lts.Need-indirection-requires (check-of t) (check-at t) check.Post
 check-indirection-requires t c κs = search needs
 
 check-returns-2 : (t : ℕ) → check-lts.Need-returns-2 (check-of t) (check-at t) check.Post
 check-returns-2 t c =
-  let a = c .before .before .before .before .before .before .before .before .args in
-  let read-field = c .before .before .before .before .before .read-field in
-  c .indirection .ensures ∙ type-indirection (a .v .now) (a .left) (a .s .now) (a .start) (a .order) (a .at) (seen (a .walk)) _ _ (sym (read-field .ensures) ∙ c .before .before .before .kind .given .1) (c .before .if1 .taken)
+    let a = c .before .before .before .before .before .before .before .before .args in
+    let read-field = c .before .before .before .before .before .read-field in
+    c .indirection .ensures ∙ type-indirection (a .v .now) (a .left) (a .s .now) (a .start) (a .order) (a .at) (seen (a .walk)) _ _ (sym (read-field .ensures) ∙ c .before .before .before .kind .given .1) (c .before .if1 .taken)
 
 check-form-of-requires : (t : ℕ) → check-lts.Need-form-of-requires (check-of t) (check-at t) check.Post
 check-form-of-requires t c κs = search needs
@@ -158,60 +158,60 @@ check-enum-told-2 t c = search needs
 
 check-behind-requires : (t : ℕ) → check-lts.Need-behind-requires (check-of t) (check-at t) check.Post
 check-behind-requires t c κs =
-  let a = c .before .before .before .before .before .before .before .before .before .before .before .before .args in
-  let f = field-facts (a .s .now) (a .at) Four (a .order) _ _ (sym (c .before .before .before .before .before .before .before .before .before .read-field .ensures) ∙ c .before .before .before .before .before .before .before .kind .given .1) in
-  (omega (arith, f .ends), omega (arith, f .fits, f .ends, c .before .before .before .before .before .before .before .before .before .before .before .before .pre .1))
+    let a = c .before .before .before .before .before .before .before .before .before .before .before .before .args in
+    let f = field-facts (a .s .now) (a .at) Four (a .order) _ _ (sym (c .before .before .before .before .before .before .before .before .before .read-field .ensures) ∙ c .before .before .before .before .before .before .before .kind .given .1) in
+    (omega (arith, f .ends), omega (arith, f .fits, f .ends, c .before .before .before .before .before .before .before .before .before .before .before .before .pre .1))
 
 check-enter-requires : (t : ℕ) → check-lts.Need-enter-requires (check-of t) (check-at t) check.Post
 check-enter-requires t c κs =
-  let a = c .before .before .before .before .before .before .before .before .before .before .before .before .before .args in
-  let e = entry-facts (c .before .before .before .before .before .form-of .result) _ (a .left) (c .before .before .before .before .count .result) (sym (c .before .before .before .entry-of .ensures) ∙ c .before .enum-told2 .given .1) in
-  let f = field-facts (a .s .now) (a .at) Four (a .order) _ _ (sym (c .before .before .before .before .before .before .before .before .before .before .read-field .ensures) ∙ c .before .before .before .before .before .before .before .before .kind .given .1) in
-  let place = ap (λ (p : Place). p .0) (c .behind .ensures) in
-  (omega (arith, e .room, c .before .before .before .before .count .ensures), omega (arith, place, f .fits, f .ends, c .before .before .before .before .before .before .before .before .before .before .before .before .before .pre .1), omega (arith, f .fits, f .ends, c .before .before .before .before .before .before .before .before .before .before .before .before .before .pre .1))
+    let a = c .before .before .before .before .before .before .before .before .before .before .before .before .before .args in
+    let e = entry-facts (c .before .before .before .before .before .form-of .result) _ (a .left) (c .before .before .before .before .count .result) (sym (c .before .before .before .entry-of .ensures) ∙ c .before .enum-told2 .given .1) in
+    let f = field-facts (a .s .now) (a .at) Four (a .order) _ _ (sym (c .before .before .before .before .before .before .before .before .before .before .read-field .ensures) ∙ c .before .before .before .before .before .before .before .before .kind .given .1) in
+    let place = ap (λ (p : Place). p .0) (c .behind .ensures) in
+    (omega (arith, e .room, c .before .before .before .before .count .ensures), omega (arith, place, f .fits, f .ends, c .before .before .before .before .before .before .before .before .before .before .before .before .before .pre .1), omega (arith, f .fits, f .ends, c .before .before .before .before .before .before .before .before .before .before .before .before .before .pre .1))
 
 check-sub-inside : (t : ℕ) → check-lts.Need-sub-inside (check-of t) (check-at t) check.Post
 check-sub-inside t c =
-  let form-of = c .before .before .before .before .before .before .form-of in
-  let a = c .before .before .before .before .before .before .before .before .before .before .before .before .before .before .args in
-  let count = c .before .before .before .before .before .count in
-  let entry-of = c .before .before .before .before .entry-of in
-  omega (arith, entry-facts (form-of .result) _ (a .left) (count .result) (sym (entry-of .ensures) ∙ c .before .before .enum-told2 .given .1) .some)
+    let form-of = c .before .before .before .before .before .before .form-of in
+    let a = c .before .before .before .before .before .before .before .before .before .before .before .before .before .before .args in
+    let count = c .before .before .before .before .before .count in
+    let entry-of = c .before .before .before .before .entry-of in
+    omega (arith, entry-facts (form-of .result) _ (a .left) (count .result) (sym (entry-of .ensures) ∙ c .before .before .enum-told2 .given .1) .some)
 
 check-inside-requires : (t : ℕ) → check-lts.Need-inside-requires (check-of t) (check-at t) check.Post
 check-inside-requires t c κs =
-  let form-of = c .before .before .before .before .before .before .form-of in
-  let a = c .before .before .before .before .before .before .before .before .before .before .before .before .before .before .args in
-  let count = c .before .before .before .before .before .count in
-  let entry-of = c .before .before .before .before .entry-of in
-  let enum-told2 = c .before .before .enum-told2 in
-  let pre = c .before .before .before .before .before .before .before .before .before .before .before .before .before .before .pre in
-  (omega (arith, entry-facts (form-of .result) _ (a .left) (count .result) (sym (entry-of .ensures) ∙ enum-told2 .given .1) .some, pre .0), (omega (arith, pre .1), omega (arith, entry-facts (form-of .result) _ (a .left) (count .result) (sym (entry-of .ensures) ∙ enum-told2 .given .1) .room)))
+    let form-of = c .before .before .before .before .before .before .form-of in
+    let a = c .before .before .before .before .before .before .before .before .before .before .before .before .before .before .args in
+    let count = c .before .before .before .before .before .count in
+    let entry-of = c .before .before .before .before .entry-of in
+    let enum-told2 = c .before .before .enum-told2 in
+    let pre = c .before .before .before .before .before .before .before .before .before .before .before .before .before .before .pre in
+    (omega (arith, entry-facts (form-of .result) _ (a .left) (count .result) (sym (entry-of .ensures) ∙ enum-told2 .given .1) .some, pre .0), (omega (arith, pre .1), omega (arith, entry-facts (form-of .result) _ (a .left) (count .result) (sym (entry-of .ensures) ∙ enum-told2 .given .1) .room)))
 
 check-returns-3 : (t : ℕ) → check-lts.Need-returns-3 (check-of t) (check-at t) check.Post
 check-returns-3 t c =
-  let a = c .before .before .before .before .before .before .before .before .before .before .before .before .before .before .args in
-  let read-field = c .before .before .before .before .before .before .before .before .before .before .before .read-field in
-  let kind = c .before .before .before .before .before .before .before .before .before .kind in
-  let if1 = c .before .before .before .before .before .before .before .if1 in
-  let form-of = c .before .before .before .before .before .before .form-of in
-  let count = c .before .before .before .before .before .count in
-  let entry-of = c .before .before .before .before .entry-of in
-  c .refused2 .ensures ∙ type-barred (a .v .now) (a .left) (a .s .now) (a .start) (a .order) (a .at) (seen (a .walk)) _ _ (sym (read-field .ensures) ∙ kind .given .1) (if1 .left) (form-of .result) (form-of .ensures) (count .result) (count .ensures) _ (sym (entry-of .ensures) ∙ c .before .before .refusal .given .1)
+    let a = c .before .before .before .before .before .before .before .before .before .before .before .before .before .before .args in
+    let read-field = c .before .before .before .before .before .before .before .before .before .before .before .read-field in
+    let kind = c .before .before .before .before .before .before .before .before .before .kind in
+    let if1 = c .before .before .before .before .before .before .before .if1 in
+    let form-of = c .before .before .before .before .before .before .form-of in
+    let count = c .before .before .before .before .before .count in
+    let entry-of = c .before .before .before .before .entry-of in
+    c .refused2 .ensures ∙ type-barred (a .v .now) (a .left) (a .s .now) (a .start) (a .order) (a .at) (seen (a .walk)) _ _ (sym (read-field .ensures) ∙ kind .given .1) (if1 .left) (form-of .result) (form-of .ensures) (count .result) (count .ensures) _ (sym (entry-of .ensures) ∙ c .before .before .refusal .given .1)
 
 check-returns-4 : (t : ℕ) → check-lts.Need-returns-4 (check-of t) (check-at t) check.Post
 check-returns-4 t c =
-  let a = c .before .before .before .before .before .before .before .before .before .before .before .before .before .before .before .args in
-  let read-field = c .before .before .before .before .before .before .before .before .before .before .before .before .read-field in
-  let kind = c .before .before .before .before .before .before .before .before .before .before .kind in
-  let if1 = c .before .before .before .before .before .before .before .before .if1 in
-  let form-of = c .before .before .before .before .before .before .before .form-of in
-  let count = c .before .before .before .before .before .before .count in
-  let entry-of = c .before .before .before .before .before .entry-of in
-  let enum-told2 = c .before .before .before .enum-told2 in
-  let enter = c .before .enter in
-  c .inside .ensures ∙ type-enters (a .v .now) (a .left) (a .s .now) (a .start) (a .order) (a .at) (seen (a .walk)) _ _ (sym (read-field .ensures) ∙ kind .given .1) (if1 .left) (form-of .result) (form-of .ensures) (count .result) (count .ensures) (sym (entry-of .ensures) ∙ enum-told2 .given .1) (seen (enter .result))
-  (enter .ensures ∙ ap (λ (p : Place). entered (seen (a .walk)) p (a .start) (a .order) (form-of .result)) (c .before .before .behind .ensures))
+    let a = c .before .before .before .before .before .before .before .before .before .before .before .before .before .before .before .args in
+    let read-field = c .before .before .before .before .before .before .before .before .before .before .before .before .read-field in
+    let kind = c .before .before .before .before .before .before .before .before .before .before .kind in
+    let if1 = c .before .before .before .before .before .before .before .before .if1 in
+    let form-of = c .before .before .before .before .before .before .before .form-of in
+    let count = c .before .before .before .before .before .before .count in
+    let entry-of = c .before .before .before .before .before .entry-of in
+    let enum-told2 = c .before .before .before .enum-told2 in
+    let enter = c .before .enter in
+    c .inside .ensures ∙ type-enters (a .v .now) (a .left) (a .s .now) (a .start) (a .order) (a .at) (seen (a .walk)) _ _ (sym (read-field .ensures) ∙ kind .given .1) (if1 .left) (form-of .result) (form-of .ensures) (count .result) (count .ensures) (sym (entry-of .ensures) ∙ enum-told2 .given .1) (seen (enter .result))
+    (enter .ensures ∙ ap (λ (p : Place). entered (seen (a .walk)) p (a .start) (a .order) (form-of .result)) (c .before .before .behind .ensures))
 
 abbrev inside-of : ℕ → inside-lts.Claims
 inside-of t = (refused-reads.Asked, refused-reads.Learnt, close-reads.Asked, close-reads.Learnt, goes-on-reads.Asked, goes-on-reads.Learnt, bounded-reads.Asked, bounded-reads.Learnt, part-at-reads.Asked, part-at-reads.Learnt, parameters-below t, parameters.Post, ended-reads.Asked, ended-reads.Learnt)
@@ -254,44 +254,44 @@ inside-enum-known-from t c = search needs
 
 inside-add-parameters : (t : ℕ) → inside-lts.Need-add-parameters (inside-of t) (inside-at t) inside.Post
 inside-add-parameters t c =
-  let pre = c .before .before .before .before .before .before .before .before .before .before .pre in
-  let a = c .before .before .before .before .before .before .before .before .before .before .args in
-  let part-at = c .before .before .before .before .part-at in
-  let from2 = c .before .before .from in
-  omega (arith, pre .1 .0, part-facts (a .s .now) (a .at) (a .order) _ _ _ (sym (part-at .ensures) ∙ from2 .given .1) .ends, part-facts (a .s .now) (a .at) (a .order) _ _ _ (sym (part-at .ensures) ∙ from2 .given .1) .some)
+    let pre = c .before .before .before .before .before .before .before .before .before .before .pre in
+    let a = c .before .before .before .before .before .before .before .before .before .before .args in
+    let part-at = c .before .before .before .before .part-at in
+    let from2 = c .before .before .from in
+    omega (arith, pre .1 .0, part-facts (a .s .now) (a .at) (a .order) _ _ _ (sym (part-at .ensures) ∙ from2 .given .1) .ends, part-facts (a .s .now) (a .at) (a .order) _ _ _ (sym (part-at .ensures) ∙ from2 .given .1) .some)
 
 inside-sub-parameters : (t : ℕ) → inside-lts.Need-sub-parameters (inside-of t) (inside-at t) inside.Post
 inside-sub-parameters t c =
-  let a = c .before .before .before .before .before .before .before .before .before .before .args in
-  let part-at = c .before .before .before .before .part-at in
-  omega (arith, part-facts (a .s .now) (a .at) (a .order) _ _ _ (sym (part-at .ensures) ∙ c .before .before .from .given .1) .some)
+    let a = c .before .before .before .before .before .before .before .before .before .before .args in
+    let part-at = c .before .before .before .before .part-at in
+    omega (arith, part-facts (a .s .now) (a .at) (a .order) _ _ _ (sym (part-at .ensures) ∙ c .before .before .from .given .1) .some)
 
 inside-part-parameters-start : (t : ℕ) → inside-lts.Need-part-parameters-start (inside-of t) (inside-at t) inside.Post
 inside-part-parameters-start t c =
-  let a = c .before .before .before .before .before .before .before .before .before .before .args in
-  let part-at = c .before .before .before .before .part-at in
-  omega (arith, part-facts (a .s .now) (a .at) (a .order) _ _ _ (sym (part-at .ensures) ∙ c .before .before .from .given .1) .some)
+    let a = c .before .before .before .before .before .before .before .before .before .before .args in
+    let part-at = c .before .before .before .before .part-at in
+    omega (arith, part-facts (a .s .now) (a .at) (a .order) _ _ _ (sym (part-at .ensures) ∙ c .before .before .from .given .1) .some)
 
 inside-part-parameters-end : (t : ℕ) → inside-lts.Need-part-parameters-end (inside-of t) (inside-at t) inside.Post
 inside-part-parameters-end t c =
-  let a = c .before .before .before .before .before .before .before .before .before .before .args in
-  let part-at = c .before .before .before .before .part-at in
-  omega (arith, part-facts (a .s .now) (a .at) (a .order) _ _ _ (sym (part-at .ensures) ∙ c .before .before .from .given .1) .ends)
+    let a = c .before .before .before .before .before .before .before .before .before .before .args in
+    let part-at = c .before .before .before .before .part-at in
+    omega (arith, part-facts (a .s .now) (a .at) (a .order) _ _ _ (sym (part-at .ensures) ∙ c .before .before .from .given .1) .ends)
 
 inside-parameters-requires : (t : ℕ) → inside-lts.Need-parameters-requires (inside-of t) (inside-at t) inside.Post
 inside-parameters-requires t c κs =
-  let pre = c .before .before .before .before .before .before .before .before .before .before .before .pre in
-  let a = c .before .before .before .before .before .before .before .before .before .before .before .args in
-  let part-at = c .before .before .before .before .before .part-at in
-  let from2 = c .before .before .before .from in
-  (omega (arith, pre .0), omega (arith, pre .1 .0, c .parameters-arg .given, part-facts (a .s .now) (a .at) (a .order) _ _ _ (sym (part-at .ensures) ∙ from2 .given .1) .ends, part-facts (a .s .now) (a .at) (a .order) _ _ _ (sym (part-at .ensures) ∙ from2 .given .1) .some))
+    let pre = c .before .before .before .before .before .before .before .before .before .before .before .pre in
+    let a = c .before .before .before .before .before .before .before .before .before .before .before .args in
+    let part-at = c .before .before .before .before .before .part-at in
+    let from2 = c .before .before .before .from in
+    (omega (arith, pre .0), omega (arith, pre .1 .0, c .parameters-arg .given, part-facts (a .s .now) (a .at) (a .order) _ _ _ (sym (part-at .ensures) ∙ from2 .given .1) .ends, part-facts (a .s .now) (a .at) (a .order) _ _ _ (sym (part-at .ensures) ∙ from2 .given .1) .some))
 
 inside-sub-ended : (t : ℕ) → inside-lts.Need-sub-ended (inside-of t) (inside-at t) inside.Post
 inside-sub-ended t c =
-  let a = c .before .before .before .before .before .before .before .before .before .before .before .before .args in
-  let part-at = c .before .before .before .before .before .before .part-at in
-  let from2 = c .before .before .before .before .from in
-  omega (arith, part-facts (a .s .now) (a .at) (a .order) _ _ _ (sym (part-at .ensures) ∙ from2 .given .1) .some)
+    let a = c .before .before .before .before .before .before .before .before .before .before .before .before .args in
+    let part-at = c .before .before .before .before .before .before .part-at in
+    let from2 = c .before .before .before .before .from in
+    omega (arith, part-facts (a .s .now) (a .at) (a .order) _ _ _ (sym (part-at .ensures) ∙ from2 .given .1) .some)
 
 inside-ended-requires : (t : ℕ) → inside-lts.Need-ended-requires (inside-of t) (inside-at t) inside.Post
 inside-ended-requires t c κs = search needs
@@ -308,17 +308,17 @@ inside-returns-3 t c = rw (c .before .enum-told3 .given .1) (c .bounded .ensures
 inside-returns-4 : (t : ℕ) → inside-lts.Need-returns-4 (inside-of t) (inside-at t) inside.Post
 unfolding compositeAt
 inside-returns-4 t c =
-  let form = c .before .before .before .before .before .before .form in
-  let part-at = c .before .before .before .before .part-at in
-  rw (form .given .1, sym (part-at .ensures) ∙ c .before .before .refusal .given .1) (c .refused2 .ensures)
+    let form = c .before .before .before .before .before .before .form in
+    let part-at = c .before .before .before .before .part-at in
+    rw (form .given .1, sym (part-at .ensures) ∙ c .before .before .refusal .given .1) (c .refused2 .ensures)
 
 inside-returns-5 : (t : ℕ) → inside-lts.Need-returns-5 (inside-of t) (inside-at t) inside.Post
 unfolding compositeAt
 inside-returns-5 t c =
-  let form = c .before .before .before .before .before .before .before .before .before .form in
-  let part-at = c .before .before .before .before .before .before .before .part-at in
-  let from2 = c .before .before .before .before .before .from in
-  rw (form .given .1, sym (part-at .ensures) ∙ from2 .given .1, ← c .before .parameters .ensures) (c .ended .ensures)
+    let form = c .before .before .before .before .before .before .before .before .before .form in
+    let part-at = c .before .before .before .before .before .before .before .part-at in
+    let from2 = c .before .before .before .before .before .from in
+    rw (form .given .1, sym (part-at .ensures) ∙ from2 .given .1, ← c .before .parameters .ensures) (c .ended .ensures)
 
 abbrev member-types-of : ℕ → member-types-lts.Claims
 member-types-of t = (name-after-reads.Asked, name-after-reads.Learnt, refused-reads.Asked, refused-reads.Learnt, check-below t, check.Post, goes-on-reads.Asked, goes-on-reads.Learnt)
@@ -331,9 +331,9 @@ abbrev member-types-μ-loop : member-types-lts.MeasureT-loop
 member-types-μ-loop v labels default s start order first count left w₀ at₀ k₀ w at k = count - k
 
 member-types-loop-holds : (t : ℕ) → member-types-lts.Need-loop-holds (member-types-of t) (member-types-at t) member-types.Post member-types-Inv-loop member-types-μ-loop
-member-types-loop-holds t c = 
-  let a = c .before .before .args in
-  left-none (membersFor (a .v .now) (typeAt (a .v .now) (a .left)) (a .labels) (a .default) (a .s .now) (a .start) (a .order) (a .first)) (a .count) (0, a .first, seen (a .walk))
+member-types-loop-holds t c =
+    let a = c .before .before .args in
+    left-none (membersFor (a .v .now) (typeAt (a .v .now) (a .left)) (a .labels) (a .default) (a .s .now) (a .start) (a .order) (a .first)) (a .count) (0, a .first, seen (a .walk))
 
 member-types-name-after-requires : (t : ℕ) → member-types-lts.Need-name-after-requires (member-types-of t) (member-types-at t) member-types.Post member-types-Inv-loop member-types-μ-loop
 member-types-name-after-requires t c κs = search needs
@@ -345,11 +345,11 @@ member-types-refused-requires : (t : ℕ) → member-types-lts.Need-refused-requ
 member-types-refused-requires t c κs = search needs
 
 member-types-returns : (t : ℕ) → member-types-lts.Need-returns (member-types-of t) (member-types-at t) member-types.Post member-types-Inv-loop member-types-μ-loop
-member-types-returns t c = 
-  let a = c .before .before .before .before .before .before .before .before .before .args in
-  let loop = c .before .before .before .before .before .before .loop in
-  c .refused .ensures ∙ left-here (membersFor (a .v .now) (typeAt (a .v .now) (a .left)) (a .labels) (a .default) (a .s .now) (a .start) (a .order) (a .first)) (a .count) (0, a .first, seen (a .walk)) (loop .inv) (c .before .before .before .before .before .loop-test .taken) _
-  (members-refused (a .v .now) (typeAt (a .v .now) (a .left)) (a .labels) (a .default) (a .s .now) (a .start) (a .order) (a .first) (loop .k) (loop .at) (seen (loop .w)) _ (sym (c .before .before .before .before .name-after .ensures) ∙ c .before .before .name .given .1))
+member-types-returns t c =
+    let a = c .before .before .before .before .before .before .before .before .before .args in
+    let loop = c .before .before .before .before .before .before .loop in
+    c .refused .ensures ∙ left-here (membersFor (a .v .now) (typeAt (a .v .now) (a .left)) (a .labels) (a .default) (a .s .now) (a .start) (a .order) (a .first)) (a .count) (0, a .first, seen (a .walk)) (loop .inv) (c .before .before .before .before .before .loop-test .taken) _
+    (members-refused (a .v .now) (typeAt (a .v .now) (a .left)) (a .labels) (a .default) (a .s .now) (a .start) (a .order) (a .first) (loop .k) (loop .at) (seen (loop .w)) _ (sym (c .before .before .before .before .name-after .ensures) ∙ c .before .before .name .given .1))
 
 member-types-enum-known-name-2 : (t : ℕ) → member-types-lts.Need-enum-known-name-2 (member-types-of t) (member-types-at t) member-types.Post member-types-Inv-loop member-types-μ-loop
 member-types-enum-known-name-2 t c = search needs
@@ -364,11 +364,11 @@ member-types-refused-requires-2 : (t : ℕ) → member-types-lts.Need-refused-re
 member-types-refused-requires-2 t c κs = search needs
 
 member-types-returns-2 : (t : ℕ) → member-types-lts.Need-returns-2 (member-types-of t) (member-types-at t) member-types.Post member-types-Inv-loop member-types-μ-loop
-member-types-returns-2 t c = 
-  let a = c .before .before .before .before .before .before .before .before .before .before .before .before .before .before .args in
-  let loop = c .before .before .before .before .before .before .before .before .before .before .before .loop in
-  c .refused2 .ensures ∙ left-here (membersFor (a .v .now) (typeAt (a .v .now) (a .left)) (a .labels) (a .default) (a .s .now) (a .start) (a .order) (a .first)) (a .count) (0, a .first, seen (a .walk)) (loop .inv) (c .before .before .before .before .before .before .before .before .before .before .loop-test .taken) _
-  (members-cut (a .v .now) (typeAt (a .v .now) (a .left)) (a .labels) (a .default) (a .s .now) (a .start) (a .order) (a .first) (loop .k) (loop .at) (seen (loop .w)) _ (sym (c .before .before .before .before .before .before .before .before .before .name-after .ensures) ∙ c .before .before .before .before .before .before .before .name2 .given .1) (seenAs (c .before .before .before .before .before .check .result)) (c .before .before .before .before .before .check .ensures) _ (c .before .before .step .given .1))
+member-types-returns-2 t c =
+    let a = c .before .before .before .before .before .before .before .before .before .before .before .before .before .before .args in
+    let loop = c .before .before .before .before .before .before .before .before .before .before .before .loop in
+    c .refused2 .ensures ∙ left-here (membersFor (a .v .now) (typeAt (a .v .now) (a .left)) (a .labels) (a .default) (a .s .now) (a .start) (a .order) (a .first)) (a .count) (0, a .first, seen (a .walk)) (loop .inv) (c .before .before .before .before .before .before .before .before .before .before .loop-test .taken) _
+    (members-cut (a .v .now) (typeAt (a .v .now) (a .left)) (a .labels) (a .default) (a .s .now) (a .start) (a .order) (a .first) (loop .k) (loop .at) (seen (loop .w)) _ (sym (c .before .before .before .before .before .before .before .before .before .name-after .ensures) ∙ c .before .before .before .before .before .before .before .name2 .given .1) (seenAs (c .before .before .before .before .before .check .result)) (c .before .before .before .before .before .check .ensures) _ (c .before .before .step .given .1))
 
 member-types-enum-known-step-2 : (t : ℕ) → member-types-lts.Need-enum-known-step-2 (member-types-of t) (member-types-at t) member-types.Post member-types-Inv-loop member-types-μ-loop
 member-types-enum-known-step-2 t c = search needs
@@ -380,21 +380,21 @@ member-types-loop-less : (t : ℕ) → member-types-lts.Need-loop-less (member-t
 member-types-loop-less t c = search needs
 
 member-types-loop-again : (t : ℕ) → member-types-lts.Need-loop-again (member-types-of t) (member-types-at t) member-types.Post member-types-Inv-loop member-types-μ-loop
-member-types-loop-again t c = 
-  let a = c .before .before .before .before .before .before .before .before .before .before .before .before .before .args in
-  let loop = c .before .before .before .before .before .before .before .before .before .before .loop in
-  left-more (membersFor (a .v .now) (typeAt (a .v .now) (a .left)) (a .labels) (a .default) (a .s .now) (a .start) (a .order) (a .first)) (a .count) (0, a .first, seen (a .walk)) (loop .inv) (c .before .before .before .before .before .before .before .before .before .loop-test .taken) _
-  (members-on (a .v .now) (typeAt (a .v .now) (a .left)) (a .labels) (a .default) (a .s .now) (a .start) (a .order) (a .first) (loop .k) (loop .at) (seen (loop .w)) _ (sym (c .before .before .before .before .before .before .before .before .name-after .ensures) ∙ c .before .before .before .before .before .before .name2 .given .1) (seenAs (c .before .before .before .before .check .result)) (c .before .before .before .before .check .ensures) _ (c .before .step2 .given .1))
+member-types-loop-again t c =
+    let a = c .before .before .before .before .before .before .before .before .before .before .before .before .before .args in
+    let loop = c .before .before .before .before .before .before .before .before .before .before .loop in
+    left-more (membersFor (a .v .now) (typeAt (a .v .now) (a .left)) (a .labels) (a .default) (a .s .now) (a .start) (a .order) (a .first)) (a .count) (0, a .first, seen (a .walk)) (loop .inv) (c .before .before .before .before .before .before .before .before .before .loop-test .taken) _
+    (members-on (a .v .now) (typeAt (a .v .now) (a .left)) (a .labels) (a .default) (a .s .now) (a .start) (a .order) (a .first) (loop .k) (loop .at) (seen (loop .w)) _ (sym (c .before .before .before .before .before .before .before .before .name-after .ensures) ∙ c .before .before .before .before .before .before .name2 .given .1) (seenAs (c .before .before .before .before .check .result)) (c .before .before .before .before .check .ensures) _ (c .before .step2 .given .1))
 
 member-types-goes-on-requires : (t : ℕ) → member-types-lts.Need-goes-on-requires (member-types-of t) (member-types-at t) member-types.Post member-types-Inv-loop member-types-μ-loop
 member-types-goes-on-requires t c κs = search needs
 
 member-types-returns-3 : (t : ℕ) → member-types-lts.Need-returns-3 (member-types-of t) (member-types-at t) member-types.Post member-types-Inv-loop member-types-μ-loop
 unfolding membersAt
-member-types-returns-3 t c = 
-  let a = c .before .before .before .before .before .args in
-  let loop = c .before .before .loop in
-  c .goes-on .ensures ∙ left-end (membersFor (a .v .now) (typeAt (a .v .now) (a .left)) (a .labels) (a .default) (a .s .now) (a .start) (a .order) (a .first)) (a .count) (0, a .first, seen (a .walk)) (loop .inv) (c .before .loop-test .left)
+member-types-returns-3 t c =
+    let a = c .before .before .before .before .before .args in
+    let loop = c .before .before .loop in
+    c .goes-on .ensures ∙ left-end (membersFor (a .v .now) (typeAt (a .v .now) (a .left)) (a .labels) (a .default) (a .s .now) (a .start) (a .order) (a .first)) (a .count) (0, a .first, seen (a .walk)) (loop .inv) (c .before .loop-test .left)
 
 abbrev parameters-of : ℕ → parameters-lts.Claims
 parameters-of t = (names-step-reads.Asked, names-step-reads.Learnt, on-reads.Asked, on-reads.Learnt, enum-step-reads.Asked, enum-step-reads.Learnt, head-step-reads.Asked, head-step-reads.Learnt, refused-reads.Asked, refused-reads.Learnt, member-types-below t, member-types.Post, exception-step-reads.Asked, exception-step-reads.Learnt, check-below t, check.Post, then-number-reads.Asked, then-number-reads.Learnt, then-length-reads.Asked, then-length-reads.Learnt, switched-below t, switched.Post)
@@ -515,27 +515,27 @@ parameters-returns-2 t c = rw (c .before .before .enum-told2 .given .1, ← c .b
 
 parameters-returns-3 : (t : ℕ) → parameters-lts.Need-returns-3 (parameters-of t) (parameters-at t) parameters.Post
 parameters-returns-3 t c =
-  let enum-told3 = c .before .before .before .before .before .enum-told3 in
-  let head-step = c .before .before .before .before .head-step in
-  rw (enum-told3 .given .1, sym (head-step .ensures) ∙ c .before .before .refusal .given .1) (c .refused .ensures)
+    let enum-told3 = c .before .before .before .before .before .enum-told3 in
+    let head-step = c .before .before .before .before .head-step in
+    rw (enum-told3 .given .1, sym (head-step .ensures) ∙ c .before .before .refusal .given .1) (c .refused .ensures)
 
 parameters-returns-4 : (t : ℕ) → parameters-lts.Need-returns-4 (parameters-of t) (parameters-at t) parameters.Post
 parameters-returns-4 t c =
-  let enum-told3 = c .before .before .before .before .before .enum-told3 in
-  let head-step = c .before .before .before .before .head-step in
-  rw (enum-told3 .given .1, sym (head-step .ensures) ∙ c .before .before .count .given .1) (c .member-types .ensures)
+    let enum-told3 = c .before .before .before .before .before .enum-told3 in
+    let head-step = c .before .before .before .before .head-step in
+    rw (enum-told3 .given .1, sym (head-step .ensures) ∙ c .before .before .count .given .1) (c .member-types .ensures)
 
 parameters-returns-5 : (t : ℕ) → parameters-lts.Need-returns-5 (parameters-of t) (parameters-at t) parameters.Post
 parameters-returns-5 t c =
-  let enum-told4 = c .before .before .before .before .before .enum-told4 in
-  let exception-step = c .before .before .before .before .exception-step in
-  rw (enum-told4 .given .1, sym (exception-step .ensures) ∙ c .before .before .refusal2 .given .1) (c .refused2 .ensures)
+    let enum-told4 = c .before .before .before .before .before .enum-told4 in
+    let exception-step = c .before .before .before .before .exception-step in
+    rw (enum-told4 .given .1, sym (exception-step .ensures) ∙ c .before .before .refusal2 .given .1) (c .refused2 .ensures)
 
 parameters-returns-6 : (t : ℕ) → parameters-lts.Need-returns-6 (parameters-of t) (parameters-at t) parameters.Post
 parameters-returns-6 t c =
-  let enum-told4 = c .before .before .before .before .before .enum-told4 in
-  let exception-step = c .before .before .before .before .exception-step in
-  rw (enum-told4 .given .1, sym (exception-step .ensures) ∙ c .before .before .count2 .given .1) (c .member-types2 .ensures)
+    let enum-told4 = c .before .before .before .before .before .enum-told4 in
+    let exception-step = c .before .before .before .before .exception-step in
+    rw (enum-told4 .given .1, sym (exception-step .ensures) ∙ c .before .before .count2 .given .1) (c .member-types2 .ensures)
 
 parameters-returns-7 : (t : ℕ) → parameters-lts.Need-returns-7 (parameters-of t) (parameters-at t) parameters.Post
 parameters-returns-7 t c = rw (c .before .before .enum-told5 .given .1, ← c .before .check .ensures) (c .then-number .ensures)
@@ -545,27 +545,27 @@ parameters-returns-8 t c = rw (c .before .before .enum-told6 .given .1, ← c .b
 
 parameters-returns-9 : (t : ℕ) → parameters-lts.Need-returns-9 (parameters-of t) (parameters-at t) parameters.Post
 parameters-returns-9 t c =
-  let enum-told7 = c .before .before .before .before .before .enum-told7 in
-  let names-step2 = c .before .before .before .before .names-step2 in
-  rw (enum-told7 .given .1, sym (names-step2 .ensures) ∙ c .before .before .refusal3 .given .1) (c .refused3 .ensures)
+    let enum-told7 = c .before .before .before .before .before .enum-told7 in
+    let names-step2 = c .before .before .before .before .names-step2 in
+    rw (enum-told7 .given .1, sym (names-step2 .ensures) ∙ c .before .before .refusal3 .given .1) (c .refused3 .ensures)
 
 parameters-returns-10 : (t : ℕ) → parameters-lts.Need-returns-10 (parameters-of t) (parameters-at t) parameters.Post
 parameters-returns-10 t c =
-  let enum-told7 = c .before .before .before .before .before .enum-told7 in
-  let names-step2 = c .before .before .before .before .names-step2 in
-  rw (enum-told7 .given .1, sym (names-step2 .ensures) ∙ c .before .before .i .given .1) (c .check3 .ensures)
+    let enum-told7 = c .before .before .before .before .before .enum-told7 in
+    let names-step2 = c .before .before .before .before .names-step2 in
+    rw (enum-told7 .given .1, sym (names-step2 .ensures) ∙ c .before .before .i .given .1) (c .check3 .ensures)
 
 parameters-returns-11 : (t : ℕ) → parameters-lts.Need-returns-11 (parameters-of t) (parameters-at t) parameters.Post
 parameters-returns-11 t c =
-  let enum-told8 = c .before .before .before .before .before .enum-told8 in
-  let names-step3 = c .before .before .before .before .names-step3 in
-  rw (enum-told8 .given .1, sym (names-step3 .ensures) ∙ c .before .before .refusal4 .given .1) (c .refused4 .ensures)
+    let enum-told8 = c .before .before .before .before .before .enum-told8 in
+    let names-step3 = c .before .before .before .before .names-step3 in
+    rw (enum-told8 .given .1, sym (names-step3 .ensures) ∙ c .before .before .refusal4 .given .1) (c .refused4 .ensures)
 
 parameters-returns-12 : (t : ℕ) → parameters-lts.Need-returns-12 (parameters-of t) (parameters-at t) parameters.Post
 parameters-returns-12 t c =
-  let enum-told8 = c .before .before .before .before .before .enum-told8 in
-  let names-step3 = c .before .before .before .before .names-step3 in
-  rw (enum-told8 .given .1, sym (names-step3 .ensures) ∙ c .before .before .i2 .given .1) (c .switched .ensures)
+    let enum-told8 = c .before .before .before .before .before .enum-told8 in
+    let names-step3 = c .before .before .before .before .names-step3 in
+    rw (enum-told8 .given .1, sym (names-step3 .ensures) ∙ c .before .before .i2 .given .1) (c .switched .ensures)
 
 abbrev switched-of : ℕ → switched-lts.Claims
 switched-of t = (check-below t, check.Post, refused-reads.Asked, refused-reads.Learnt, labels-at-reads.Asked, labels-at-reads.Learnt, switch-head-reads.Asked, switch-head-reads.Learnt, member-types-below t, member-types.Post)
@@ -602,27 +602,27 @@ switched-member-types-requires t c κs = search needs
 
 switched-returns : (t : ℕ) → switched-lts.Need-returns (switched-of t) (switched-at t) switched.Post
 switched-returns t c =
-  let a = c .before .before .before .before .before .before .before .before .before .args in
-  let check = c .before .before .before .before .before .before .check in
-  c .refused .ensures ∙ switched-refused (a .v .now) (typeAt (a .v .now) (a .left)) (a .s .now) (a .start) (a .order) (a .at) (seen (a .walk)) (seenAs (check .result)) (check .ensures) _ (c .before .before .step .given .1)
+    let a = c .before .before .before .before .before .before .before .before .before .args in
+    let check = c .before .before .before .before .before .before .check in
+    c .refused .ensures ∙ switched-refused (a .v .now) (typeAt (a .v .now) (a .left)) (a .s .now) (a .start) (a .order) (a .at) (seen (a .walk)) (seenAs (check .result)) (check .ensures) _ (c .before .before .step .given .1)
 
 switched-returns-2 : (t : ℕ) → switched-lts.Need-returns-2 (switched-of t) (switched-at t) switched.Post
 switched-returns-2 t c =
-  let a = c .before .before .before .before .before .before .before .before .before .before .before .before .before .before .args in
-  let check = c .before .before .before .before .before .before .before .before .before .before .before .check in
-  let step2 = c .before .before .before .before .before .before .before .step2 in
-  let labels-at = c .before .before .before .before .before .labels-at in
-  let switch-head = c .before .before .before .before .switch-head in
-  c .refused2 .ensures ∙ switched-wrong (a .v .now) (typeAt (a .v .now) (a .left)) (a .s .now) (a .start) (a .order) (a .at) (seen (a .walk)) (seenAs (check .result)) (check .ensures) _ (step2 .given .1) (labels-at .result) (labels-at .ensures) _ (sym (switch-head .ensures) ∙ c .before .before .refusal .given .1)
+    let a = c .before .before .before .before .before .before .before .before .before .before .before .before .before .before .args in
+    let check = c .before .before .before .before .before .before .before .before .before .before .before .check in
+    let step2 = c .before .before .before .before .before .before .before .step2 in
+    let labels-at = c .before .before .before .before .before .labels-at in
+    let switch-head = c .before .before .before .before .switch-head in
+    c .refused2 .ensures ∙ switched-wrong (a .v .now) (typeAt (a .v .now) (a .left)) (a .s .now) (a .start) (a .order) (a .at) (seen (a .walk)) (seenAs (check .result)) (check .ensures) _ (step2 .given .1) (labels-at .result) (labels-at .ensures) _ (sym (switch-head .ensures) ∙ c .before .before .refusal .given .1)
 
 switched-returns-3 : (t : ℕ) → switched-lts.Need-returns-3 (switched-of t) (switched-at t) switched.Post
 switched-returns-3 t c =
-  let a = c .before .before .before .before .before .before .before .before .before .before .before .before .before .before .args in
-  let check = c .before .before .before .before .before .before .before .before .before .before .before .check in
-  let step2 = c .before .before .before .before .before .before .before .step2 in
-  let labels-at = c .before .before .before .before .before .labels-at in
-  let switch-head = c .before .before .before .before .switch-head in
-  c .member-types .ensures ∙ switched-on (a .v .now) (typeAt (a .v .now) (a .left)) (a .s .now) (a .start) (a .order) (a .at) (seen (a .walk)) (seenAs (check .result)) (check .ensures) _ (step2 .given .1) (labels-at .result) (labels-at .ensures) _ _ _ (sym (switch-head .ensures) ∙ c .before .before .default .given .1)
+    let a = c .before .before .before .before .before .before .before .before .before .before .before .before .before .before .args in
+    let check = c .before .before .before .before .before .before .before .before .before .before .before .check in
+    let step2 = c .before .before .before .before .before .before .before .step2 in
+    let labels-at = c .before .before .before .before .before .labels-at in
+    let switch-head = c .before .before .before .before .switch-head in
+    c .member-types .ensures ∙ switched-on (a .v .now) (typeAt (a .v .now) (a .left)) (a .s .now) (a .start) (a .order) (a .at) (seen (a .walk)) (seenAs (check .result)) (check .ensures) _ (step2 .given .1) (labels-at .result) (labels-at .ensures) _ _ _ (sym (switch-head .ensures) ∙ c .before .before .default .given .1)
 
 pub +check+inside+member-types+parameters+switched-spec : {M : Type 1} → statement M
 +check+inside+member-types+parameters+switched-spec =

@@ -18,8 +18,8 @@ same-length c = search needs
 
 returns : tie.Need-returns
 returns c =
-  let decode = c .before .before .before .before .before .decode in
-  decodes-c _ _ _ _ _ _ _ (decode .ensures) (c .number .ensures) (c .before .decoded-count .ensures)
+    let decode = c .before .before .before .before .before .decode in
+    decodes-c _ _ _ _ _ _ _ (decode .ensures) (c .number .ensures) (c .before .decoded-count .ensures)
 
 pub haulspar-decode-spec : {M : Type 1} → statement M
 haulspar-decode-spec = tie.close (tie.spec decode-requires decoded-count-requires number-requires same-length returns)

@@ -18,8 +18,8 @@ same-length c = search needs
 
 returns : tie.Need-returns
 returns c =
-  let encode = c .before .before .before .before .before .encode in
-  encodes-c _ _ _ _ _ _ _ (encode .ensures) (c .number .ensures) (c .before .encoded-count .ensures)
+    let encode = c .before .before .before .before .before .encode in
+    encodes-c _ _ _ _ _ _ _ (encode .ensures) (c .number .ensures) (c .before .encoded-count .ensures)
 
 pub haulspar-encode-spec : {M : Type 1} → statement M
 haulspar-encode-spec = tie.close (tie.spec encode-requires encoded-count-requires number-requires same-length returns)

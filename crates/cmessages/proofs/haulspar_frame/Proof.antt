@@ -21,14 +21,14 @@ number-requires c κs = search needs
 
 returns : tie.Need-returns
 returns c =
-  let h = c .before .before .h in
-  let at-judge = c .before .before .before .before in
+    let h = c .before .before .h in
+    let at-judge = c .before .before .before .before in
     judges-c _ _ _ _ _ (at-judge .judge .ensures) (rw (h .given .1)) (rw (h .given .1) (c .numbers .ensures))
 
 returns-2 : tie.Need-returns-2
 returns-2 c =
-  let row = c .before .before .row in
-  let at-judge = c .before .before .before .before in
+    let row = c .before .before .row in
+    let at-judge = c .before .before .before .before in
     judges-c _ _ _ _ _ (at-judge .judge .ensures) (rw (row .given .1) (c .number .ensures)) (rw (row .given .1))
 
 pub haulspar-frame-spec : {M : Type 1} → statement M

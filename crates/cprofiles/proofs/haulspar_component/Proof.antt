@@ -22,13 +22,13 @@ number-requires c κs = search needs
 
 returns : tie.Need-returns
 returns c =
-  let component = c .before .before .before .before .component in
-  finds-c _ _ _ _ _ _ (sym (component .ensures) ∙ c .before .before .tag .given .1) refl (c .component-row .ensures)
+    let component = c .before .before .before .before .component in
+    finds-c _ _ _ _ _ _ (sym (component .ensures) ∙ c .before .before .tag .given .1) refl (c .component-row .ensures)
 
 returns-2 : tie.Need-returns-2
 returns-2 c =
-  let component = c .before .before .before .before .component in
-  finds-c _ _ _ _ _ _ (sym (component .ensures) ∙ c .before .before .refusal .given .1) (c .number .ensures) refl
+    let component = c .before .before .before .before .component in
+    finds-c _ _ _ _ _ _ (sym (component .ensures) ∙ c .before .before .refusal .given .1) (c .number .ensures) refl
 
 pub haulspar-component-spec : {M : Type 1} → statement M
 haulspar-component-spec =

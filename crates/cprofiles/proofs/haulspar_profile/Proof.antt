@@ -22,13 +22,13 @@ number-requires c κs = search needs
 
 returns : tie.Need-returns
 returns c =
-  let read = c .before .before .before .before .read in
-  reads-c _ _ _ _ _ (sym (read .ensures) ∙ c .before .before .p .given .1) refl (c .profile-row .ensures)
+    let read = c .before .before .before .before .read in
+    reads-c _ _ _ _ _ (sym (read .ensures) ∙ c .before .before .p .given .1) refl (c .profile-row .ensures)
 
 returns-2 : tie.Need-returns-2
 returns-2 c =
-  let read = c .before .before .before .before .read in
-  reads-c _ _ _ _ _ (sym (read .ensures) ∙ c .before .before .refusal .given .1) (c .number .ensures) refl
+    let read = c .before .before .before .before .read in
+    reads-c _ _ _ _ _ (sym (read .ensures) ∙ c .before .before .refusal .given .1) (c .number .ensures) refl
 
 pub haulspar-profile-spec : {M : Type 1} → statement M
 haulspar-profile-spec =

@@ -39,17 +39,17 @@ loop-less c = search needs
 
 loop-again : tie.Need-loop-again Inv-loop μ-loop
 loop-again c =
-  let loop = c .before .before .before .loop in
-  let held = c .before .before .before .before .before .held in
-  let taken = c .before .before .loop-test .taken in
-  let met = c .before .before .before .before .before .before .args .met in
-  (search needs, gathered-more (kindsMet met) (loop .i) (loop .all) (omega (arith, taken, held .ensures)) _ (c .before .entry-at .ensures) _ (c .add .ensures) ∙ loop .inv .1)
+    let loop = c .before .before .before .loop in
+    let held = c .before .before .before .before .before .held in
+    let taken = c .before .before .loop-test .taken in
+    let met = c .before .before .before .before .before .before .args .met in
+    (search needs, gathered-more (kindsMet met) (loop .i) (loop .all) (omega (arith, taken, held .ensures)) _ (c .before .entry-at .ensures) _ (c .add .ensures) ∙ loop .inv .1)
 
 returns : tie.Need-returns Inv-loop μ-loop
 returns c =
-  let loop = c .before .loop in
-  let met = c .before .before .before .before .args .met in
-  sym (gathered-all (kindsMet met) (loop .i) (loop .all) (omega (arith, c .loop-test .left, c .before .before .before .held .ensures))) ∙ loop .inv .1
+    let loop = c .before .loop in
+    let met = c .before .before .before .before .args .met in
+    sym (gathered-all (kindsMet met) (loop .i) (loop .all) (omega (arith, c .loop-test .left, c .before .before .before .held .ensures))) ∙ loop .inv .1
 
 pub gather-spec : {M : Type 1} → statement M
 gather-spec =

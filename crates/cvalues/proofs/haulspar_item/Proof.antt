@@ -27,19 +27,19 @@ enum-known-answer-2 c = search needs
 
 returns : tie.Need-returns
 returns c =
-  let a = c .before .before .before .before .before .before .before .before .before .before .before .args in
-  let order-is = c .before .before .before .before .before .before .before .before .order-is in
-  let order-is2 = c .before .before .before .before .before .before .before .order-is2 in
-  let read-item = c .before .before .before .before .before .before .read-item in
-  let answer = c .before .before .before .before .answer in
-  picks-given (a .t .now) (a .little) (a .v .now) (a .order) (a .start) _ _ (order-is .ensures) (order-is2 .ensures) (a .number) (a .given .now) _ (read-item .ensures) _ _ _ (answer .given .1) (c .before .before .case .ensures) (c .before .bits .ensures)
+    let a = c .before .before .before .before .before .before .before .before .before .before .before .args in
+    let order-is = c .before .before .before .before .before .before .before .before .order-is in
+    let order-is2 = c .before .before .before .before .before .before .before .order-is2 in
+    let read-item = c .before .before .before .before .before .before .read-item in
+    let answer = c .before .before .before .before .answer in
+    picks-given (a .t .now) (a .little) (a .v .now) (a .order) (a .start) _ _ (order-is .ensures) (order-is2 .ensures) (a .number) (a .given .now) _ (read-item .ensures) _ _ _ (answer .given .1) (c .before .before .case .ensures) (c .before .bits .ensures)
 
 returns-2 : tie.Need-returns-2
 returns-2 c =
-  let a = c .before .before .before .before .before .before .before .before .args in
-  let order-is = c .before .before .before .before .before .order-is in
-  let order-is2 = c .before .before .before .before .order-is2 in
-  picks-refused (a .t .now) (a .little) (a .v .now) (a .order) (a .start) _ _ (order-is .ensures) (order-is2 .ensures) (a .number) (a .given .now) _ (c .before .before .before .read-item .ensures) _ (c .before .answer2 .given .1)
+    let a = c .before .before .before .before .before .before .before .before .args in
+    let order-is = c .before .before .before .before .before .order-is in
+    let order-is2 = c .before .before .before .before .order-is2 in
+    picks-refused (a .t .now) (a .little) (a .v .now) (a .order) (a .start) _ _ (order-is .ensures) (order-is2 .ensures) (a .number) (a .given .now) _ (c .before .before .before .read-item .ensures) _ (c .before .answer2 .given .1)
 
 pub haulspar-item-spec : {M : Type 1} → statement M
 haulspar-item-spec =

@@ -32,12 +32,12 @@ same-length c = search needs
 
 returns : tie.Need-returns
 returns c =
-  let a = c .before .before .before .before .before .before .before .before .before .before .before .before .before .args in
-  let order-is = c .before .before .before .before .before .before .before .before .before .order-is in
-  let order-is3 = c .before .before .before .before .before .before .before .order-is3 in
-  let order-is2 = c .before .before .before .before .before .before .before .before .order-is2 in
-  let rewrite = c .before .before .before .before .before .rewrite in
-  rewrites-as (a .t .now) (a .little) (a .v .now) (a .order) (a .start) _ _ (order-is .ensures) (order-is3 .ensures) _ (target (orderIs (a .to)) (indexOf (a .index))) (ap (λ (o : Order). target o (indexOf (a .index))) (order-is2 .ensures)) (a .out .now) (a .count .now) _ _ (rewrite .ensures) _ _ (c .before .rewritten-count .ensures) (c .rewritten-number .ensures)
+    let a = c .before .before .before .before .before .before .before .before .before .before .before .before .before .args in
+    let order-is = c .before .before .before .before .before .before .before .before .before .order-is in
+    let order-is3 = c .before .before .before .before .before .before .before .order-is3 in
+    let order-is2 = c .before .before .before .before .before .before .before .before .order-is2 in
+    let rewrite = c .before .before .before .before .before .rewrite in
+    rewrites-as (a .t .now) (a .little) (a .v .now) (a .order) (a .start) _ _ (order-is .ensures) (order-is3 .ensures) _ (target (orderIs (a .to)) (indexOf (a .index))) (ap (λ (o : Order). target o (indexOf (a .index))) (order-is2 .ensures)) (a .out .now) (a .count .now) _ _ (rewrite .ensures) _ _ (c .before .rewritten-count .ensures) (c .rewritten-number .ensures)
 
 pub haulspar-rewrite-spec : {M : Type 1} → statement M
 haulspar-rewrite-spec =

@@ -27,11 +27,11 @@ same-length c = search needs
 
 returns : tie.Need-returns
 returns c =
-  let a = c .before .before .before .before .before .before .before .before .before .before .before .before .args in
-  let order-is = c .before .before .before .before .before .before .before .before .order-is in
-  let order-is2 = c .before .before .before .before .before .before .before .order-is2 in
-  let rewrite-unnamed = c .before .before .before .before .before .rewrite-unnamed in
-  rewrites-as (a .t .now) (a .little) (a .v .now) (a .order) (a .start) _ _ (order-is .ensures) (order-is2 .ensures) _ (target unnamedOrder (indexOf (a .index))) refl (a .out .now) (a .count .now) _ _ (rewrite-unnamed .ensures) _ _ (c .before .rewritten-count .ensures) (c .rewritten-number .ensures)
+    let a = c .before .before .before .before .before .before .before .before .before .before .before .before .args in
+    let order-is = c .before .before .before .before .before .before .before .before .order-is in
+    let order-is2 = c .before .before .before .before .before .before .before .order-is2 in
+    let rewrite-unnamed = c .before .before .before .before .before .rewrite-unnamed in
+    rewrites-as (a .t .now) (a .little) (a .v .now) (a .order) (a .start) _ _ (order-is .ensures) (order-is2 .ensures) _ (target unnamedOrder (indexOf (a .index))) refl (a .out .now) (a .count .now) _ _ (rewrite-unnamed .ensures) _ _ (c .before .rewritten-count .ensures) (c .rewritten-number .ensures)
 
 pub haulspar-rewrite-unnamed-spec : {M : Type 1} → statement M
 haulspar-rewrite-unnamed-spec =

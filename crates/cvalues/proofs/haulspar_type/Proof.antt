@@ -30,25 +30,25 @@ enum-told c = search needs
 
 returns : tie.Need-returns
 returns c =
-  let a = c .before .before .before .before .before .before .before .before .before .before .before .args in
-  let check-type = c .before .before .before .before .before .before .before .before .check-type in
-  let gather = c .before .before .before .before .before .before .before .gather in
-  let order-is = c .before .before .before .before .before .before .before .before .before .order-is in
-  checks-accepted (a .octets .now) (a .little) _ _ _ _ (toldBy (check-type .result)) (check-type .ensures ∙ ap (checkedType (a .octets .now)) (order-is .ensures)) (gather .result) (gather .ensures) _ _ (c .before .before .answer .given .1)
+    let a = c .before .before .before .before .before .before .before .before .before .before .before .args in
+    let check-type = c .before .before .before .before .before .before .before .before .check-type in
+    let gather = c .before .before .before .before .before .before .before .gather in
+    let order-is = c .before .before .before .before .before .before .before .before .before .order-is in
+    checks-accepted (a .octets .now) (a .little) _ _ _ _ (toldBy (check-type .result)) (check-type .ensures ∙ ap (checkedType (a .octets .now)) (order-is .ensures)) (gather .result) (gather .ensures) _ _ (c .before .before .answer .given .1)
 
 returns-2 : tie.Need-returns-2
 returns-2 c =
-  let a = c .before .before .before .before .before .before .before .before .before .before .before .args in
-  let check-type = c .before .before .before .before .before .before .before .before .check-type in
-  let order-is = c .before .before .before .before .before .before .before .before .before .order-is in
-  checks-refused (a .octets .now) (a .little) _ _ _ _ (toldBy (check-type .result)) (check-type .ensures ∙ ap (checkedType (a .octets .now)) (order-is .ensures)) _ (c .before .before .answer2 .given .1) _ (c .number .ensures)
+    let a = c .before .before .before .before .before .before .before .before .before .before .before .args in
+    let check-type = c .before .before .before .before .before .before .before .before .check-type in
+    let order-is = c .before .before .before .before .before .before .before .before .before .order-is in
+    checks-refused (a .octets .now) (a .little) _ _ _ _ (toldBy (check-type .result)) (check-type .ensures ∙ ap (checkedType (a .octets .now)) (order-is .ensures)) _ (c .before .before .answer2 .given .1) _ (c .number .ensures)
 
 returns-3 : tie.Need-returns-3
 returns-3 c =
-  let a = c .before .before .before .before .before .before .before .before .before .args in
-  let check-type = c .before .before .before .before .before .before .check-type in
-  let order-is = c .before .before .before .before .before .before .before .order-is in
-  checks-loop (a .octets .now) (a .little) _ _ _ _ (toldBy (check-type .result)) (check-type .ensures ∙ ap (checkedType (a .octets .now)) (order-is .ensures)) (c .enum-told .given .1)
+    let a = c .before .before .before .before .before .before .before .before .before .args in
+    let check-type = c .before .before .before .before .before .before .check-type in
+    let order-is = c .before .before .before .before .before .before .before .order-is in
+    checks-loop (a .octets .now) (a .little) _ _ _ _ (toldBy (check-type .result)) (check-type .ensures ∙ ap (checkedType (a .octets .now)) (order-is .ensures)) (c .enum-told .given .1)
 
 pub haulspar-type-spec : {M : Type 1} → statement M
 haulspar-type-spec =

@@ -24,22 +24,22 @@ same-length c = search needs
 
 returns : tie.Need-returns
 returns c =
-  let a = c .before .before .before .before .before .before .before .before .before .before .before .before .before .args in
-  let order-is = c .before .before .before .before .before .before .before .before .before .order-is in
-  let order-is2 = c .before .before .before .before .before .before .before .before .order-is2 in
-  let read-value = c .before .before .before .before .before .before .read-value in
-  reads-as (a .t .now) (a .little) (a .v .now) (a .order) (a .start) _ _ (order-is .ensures) (order-is2 .ensures) (a .table .now) (a .numbers .now) _ _ (read-value .ensures) _ (c .before .before .answer .given .1)
+    let a = c .before .before .before .before .before .before .before .before .before .before .before .before .before .args in
+    let order-is = c .before .before .before .before .before .before .before .before .before .order-is in
+    let order-is2 = c .before .before .before .before .before .before .before .before .order-is2 in
+    let read-value = c .before .before .before .before .before .before .read-value in
+    reads-as (a .t .now) (a .little) (a .v .now) (a .order) (a .start) _ _ (order-is .ensures) (order-is2 .ensures) (a .table .now) (a .numbers .now) _ _ (read-value .ensures) _ (c .before .before .answer .given .1)
 
 same-length-2 : tie.Need-same-length-2
 same-length-2 c = search needs
 
 returns-2 : tie.Need-returns-2
 returns-2 c =
-  let a = c .before .before .before .before .before .before .before .before .before .before .before .before .args in
-  let order-is = c .before .before .before .before .before .before .before .before .order-is in
-  let order-is2 = c .before .before .before .before .before .before .before .order-is2 in
-  let read-value = c .before .before .before .before .before .read-value in
-  reads-as (a .t .now) (a .little) (a .v .now) (a .order) (a .start) _ _ (order-is .ensures) (order-is2 .ensures) (a .table .now) (a .numbers .now) _ _ (read-value .ensures) _ (c .before .answer2 .given .1)
+    let a = c .before .before .before .before .before .before .before .before .before .before .before .before .args in
+    let order-is = c .before .before .before .before .before .before .before .before .order-is in
+    let order-is2 = c .before .before .before .before .before .before .before .order-is2 in
+    let read-value = c .before .before .before .before .before .read-value in
+    reads-as (a .t .now) (a .little) (a .v .now) (a .order) (a .start) _ _ (order-is .ensures) (order-is2 .ensures) (a .table .now) (a .numbers .now) _ _ (read-value .ensures) _ (c .before .answer2 .given .1)
 
 pub haulspar-value-spec : {M : Type 1} → statement M
 haulspar-value-spec =

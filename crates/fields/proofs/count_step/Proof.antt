@@ -22,14 +22,14 @@ returns c = rw (sym (c .before .before .read-field .ensures) ∙ c .enum-told .g
 returns-2 : tie.Need-returns-2
 unfolding countStep
 returns-2 c =
-  let read-field = c .before .before .before .before .read-field in
-  rw (sym (read-field .ensures) ∙ c .before .before .count .given .1, eq-eqb _ _ (c .if1 .taken))
+    let read-field = c .before .before .before .before .read-field in
+    rw (sym (read-field .ensures) ∙ c .before .before .count .given .1, eq-eqb _ _ (c .if1 .taken))
 
 returns-3 : tie.Need-returns-3
 unfolding countStep
 returns-3 c =
-  let read-field = c .before .before .before .before .read-field in
-  rw (sym (read-field .ensures) ∙ c .before .before .count .given .1, ne-eqb _ _ (c .if1 .left))
+    let read-field = c .before .before .before .before .read-field in
+    rw (sym (read-field .ensures) ∙ c .before .before .count .given .1, ne-eqb _ _ (c .if1 .left))
 
 pub count-step-spec : {M : Type 1} → statement M
 count-step-spec =

@@ -24,22 +24,22 @@ returns-2 c = rw (ap not (sym (c .before .before .before .is-listed .ensures)) �
 returns-3 : tie.Need-returns-3
 unfolding entryOf
 returns-3 c =
-  let is-listed = c .before .before .before .before .is-listed in
-  rw (ap not (sym (is-listed .ensures)) ∙ c .before .before .before .if1 .left, sym (c .before .before .below-top .ensures) ∙ c .before .if2 .left, eq-eqb _ _ (c .if3 .taken))
+    let is-listed = c .before .before .before .before .is-listed in
+    rw (ap not (sym (is-listed .ensures)) ∙ c .before .before .before .if1 .left, sym (c .before .before .below-top .ensures) ∙ c .before .if2 .left, eq-eqb _ _ (c .if3 .taken))
 
 returns-4 : tie.Need-returns-4
 unfolding entryOf
 returns-4 c =
-  let is-listed = c .before .before .before .before .before .is-listed in
-  let if1 = c .before .before .before .before .if1 in
-  rw (ap not (sym (is-listed .ensures)) ∙ if1 .left, sym (c .before .before .before .below-top .ensures) ∙ c .before .before .if2 .left, ne-eqb _ _ (c .before .if3 .left), le-leb _ _ (c .if4 .taken))
+    let is-listed = c .before .before .before .before .before .is-listed in
+    let if1 = c .before .before .before .before .if1 in
+    rw (ap not (sym (is-listed .ensures)) ∙ if1 .left, sym (c .before .before .before .below-top .ensures) ∙ c .before .before .if2 .left, ne-eqb _ _ (c .before .if3 .left), le-leb _ _ (c .if4 .taken))
 
 returns-5 : tie.Need-returns-5
 unfolding entryOf
 returns-5 c =
-  let is-listed = c .before .before .before .before .before .is-listed in
-  let if1 = c .before .before .before .before .if1 in
-  rw (ap not (sym (is-listed .ensures)) ∙ if1 .left, sym (c .before .before .before .below-top .ensures) ∙ c .before .before .if2 .left, ne-eqb _ _ (c .before .if3 .left), lt-leb _ _ (c .if4 .left))
+    let is-listed = c .before .before .before .before .before .is-listed in
+    let if1 = c .before .before .before .before .if1 in
+    rw (ap not (sym (is-listed .ensures)) ∙ if1 .left, sym (c .before .before .before .below-top .ensures) ∙ c .before .before .if2 .left, ne-eqb _ _ (c .before .if3 .left), lt-leb _ _ (c .if4 .left))
 
 pub entry-of-spec : {M : Type 1} → statement M
 entry-of-spec =

@@ -24,8 +24,8 @@ returns c = rw (sym (c .before .before .before .head-step .ensures) ∙ c .befor
 returns-2 : tie.Need-returns-2
 unfolding enumStep
 returns-2 c =
-  let head-step = c .before .before .before .before .head-step in
-  rw (sym (head-step .ensures) ∙ c .before .before .count .given .1) (c .texts-step .ensures)
+    let head-step = c .before .before .before .before .head-step in
+    rw (sym (head-step .ensures) ∙ c .before .before .count .given .1) (c .texts-step .ensures)
 
 pub enum-step-spec : {M : Type 1} → statement M
 enum-step-spec =

@@ -24,8 +24,8 @@ returns c = rw (sym (c .before .before .before .names-step .ensures) ∙ c .befo
 returns-2 : tie.Need-returns-2
 unfolding exceptionStep
 returns-2 c =
-  let names-step = c .before .before .before .before .names-step in
-  rw (sym (names-step .ensures) ∙ c .before .before .i .given .1) (c .any-count .ensures)
+    let names-step = c .before .before .before .before .names-step in
+    rw (sym (names-step .ensures) ∙ c .before .before .i .given .1) (c .any-count .ensures)
 
 pub exception-step-spec : {M : Type 1} → statement M
 exception-step-spec =

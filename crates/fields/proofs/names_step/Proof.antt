@@ -24,8 +24,8 @@ returns c = rw (sym (c .before .before .before .text-step .ensures) ∙ c .befor
 returns-2 : tie.Need-returns-2
 unfolding namesStep
 returns-2 c =
-  let text-step = c .before .before .before .before .text-step in
-  rw (sym (text-step .ensures) ∙ c .before .before .i .given .1) (c .text-step2 .ensures)
+    let text-step = c .before .before .before .before .text-step in
+    rw (sym (text-step .ensures) ∙ c .before .before .i .given .1) (c .text-step2 .ensures)
 
 pub names-step-spec : {M : Type 1} → statement M
 names-step-spec =

@@ -25,20 +25,20 @@ returns c = rw (sym (c .before .before .read-field .ensures) ∙ c .enum-told .g
 returns-2 : tie.Need-returns-2
 unfolding partOf
 returns-2 c =
-  let read-field = c .before .before .before .before .read-field in
-  rw (sym (read-field .ensures) ∙ c .before .before .length .given .1, eq-eqb _ _ (c .if1 .taken))
+    let read-field = c .before .before .before .before .read-field in
+    rw (sym (read-field .ensures) ∙ c .before .before .length .given .1, eq-eqb _ _ (c .if1 .taken))
 
 sub-if2 : tie.Need-sub-if2
 sub-if2 c =
-  let a = c .before .before .before .before .before .before .args in
-  let read-field = c .before .before .before .before .read-field in
-  omega (arith, field-facts (a .s .now) (a .at) Four (a .order) _ _ (sym (read-field .ensures) ∙ c .before .before .length .given .1) .fits)
+    let a = c .before .before .before .before .before .before .args in
+    let read-field = c .before .before .before .before .read-field in
+    omega (arith, field-facts (a .s .now) (a .at) Four (a .order) _ _ (sym (read-field .ensures) ∙ c .before .before .length .given .1) .fits)
 
 returns-3 : tie.Need-returns-3
 unfolding partOf
 returns-3 c =
-  let read-field = c .before .before .before .before .before .read-field in
-  rw (sym (read-field .ensures) ∙ c .before .before .before .length .given .1, ne-eqb _ _ (c .before .if1 .left), lt-ltb _ _ (c .if2 .taken))
+    let read-field = c .before .before .before .before .before .read-field in
+    rw (sym (read-field .ensures) ∙ c .before .before .before .length .given .1, ne-eqb _ _ (c .before .if1 .left), lt-ltb _ _ (c .if2 .taken))
 
 add-end : tie.Need-add-end
 add-end c = search needs
@@ -58,20 +58,20 @@ enum-told-2 c = search needs
 returns-4 : tie.Need-returns-4
 unfolding partOf
 returns-4 c =
-  let read-field = c .before .before .before .before .before .before .before .before .before .before .read-field in
-  let length = c .before .before .before .before .before .before .before .before .length in
-  let if1 = c .before .before .before .before .before .before .if1 in
-  let if2 = c .before .before .before .before .before .if2 in
-  rw (sym (read-field .ensures) ∙ length .given .1, ne-eqb _ _ (if1 .left), le-ltb _ _ (if2 .left), sym (c .before .before .before .named .ensures) ∙ c .before .order .given .1)
+    let read-field = c .before .before .before .before .before .before .before .before .before .before .read-field in
+    let length = c .before .before .before .before .before .before .before .before .length in
+    let if1 = c .before .before .before .before .before .before .if1 in
+    let if2 = c .before .before .before .before .before .if2 in
+    rw (sym (read-field .ensures) ∙ length .given .1, ne-eqb _ _ (if1 .left), le-ltb _ _ (if2 .left), sym (c .before .before .before .named .ensures) ∙ c .before .order .given .1)
 
 returns-5 : tie.Need-returns-5
 unfolding partOf
 returns-5 c =
-  let read-field = c .before .before .before .before .before .before .before .before .before .read-field in
-  let length = c .before .before .before .before .before .before .before .length in
-  let if1 = c .before .before .before .before .before .if1 in
-  let if2 = c .before .before .before .before .if2 in
-  rw (sym (read-field .ensures) ∙ length .given .1, ne-eqb _ _ (if1 .left), le-ltb _ _ (if2 .left), sym (c .before .before .named .ensures) ∙ c .enum-told2 .given .1)
+    let read-field = c .before .before .before .before .before .before .before .before .before .read-field in
+    let length = c .before .before .before .before .before .before .before .length in
+    let if1 = c .before .before .before .before .before .if1 in
+    let if2 = c .before .before .before .before .if2 in
+    rw (sym (read-field .ensures) ∙ length .given .1, ne-eqb _ _ (if1 .left), le-ltb _ _ (if2 .left), sym (c .before .before .named .ensures) ∙ c .enum-told2 .given .1)
 
 pub part-at-spec : {M : Type 1} → statement M
 part-at-spec =

@@ -33,25 +33,25 @@ bad-default-requires c κs = search needs
 returns-2 : tie.Need-returns-2
 unfolding switchStep
 returns-2 c =
-  let read-field = c .before .before .before .before .before .before .before .before .before .read-field in
-  let default = c .before .before .before .before .before .before .before .default in
-  let count-step = c .before .before .before .before .before .count-step in
-  rw (sym (read-field .ensures) ∙ default .given .1, sym (count-step .ensures) ∙ c .before .before .before .count .given .1, sym (c .before .bad-default .ensures) ∙ c .if1 .taken)
+    let read-field = c .before .before .before .before .before .before .before .before .before .read-field in
+    let default = c .before .before .before .before .before .before .before .default in
+    let count-step = c .before .before .before .before .before .count-step in
+    rw (sym (read-field .ensures) ∙ default .given .1, sym (count-step .ensures) ∙ c .before .before .before .count .given .1, sym (c .before .bad-default .ensures) ∙ c .if1 .taken)
 
 returns-3 : tie.Need-returns-3
 unfolding switchStep
 returns-3 c =
-  let read-field = c .before .before .before .before .before .before .before .read-field in
-  let default = c .before .before .before .before .before .default in
-  rw (sym (read-field .ensures) ∙ default .given .1, sym (c .before .before .before .count-step .ensures) ∙ c .before .refusal .given .1)
+    let read-field = c .before .before .before .before .before .before .before .read-field in
+    let default = c .before .before .before .before .before .default in
+    rw (sym (read-field .ensures) ∙ default .given .1, sym (c .before .before .before .count-step .ensures) ∙ c .before .refusal .given .1)
 
 returns-4 : tie.Need-returns-4
 unfolding switchStep
 returns-4 c =
-  let read-field = c .before .before .before .before .before .before .before .before .before .read-field in
-  let default = c .before .before .before .before .before .before .before .default in
-  let count-step = c .before .before .before .before .before .count-step in
-  rw (sym (read-field .ensures) ∙ default .given .1, sym (count-step .ensures) ∙ c .before .before .before .count .given .1, sym (c .before .bad-default .ensures) ∙ c .if1 .left)
+    let read-field = c .before .before .before .before .before .before .before .before .before .read-field in
+    let default = c .before .before .before .before .before .before .before .default in
+    let count-step = c .before .before .before .before .before .count-step in
+    rw (sym (read-field .ensures) ∙ default .given .1, sym (count-step .ensures) ∙ c .before .before .before .count .given .1, sym (c .before .bad-default .ensures) ∙ c .if1 .left)
 
 pub switch-step-spec : {M : Type 1} → statement M
 switch-step-spec =

@@ -17,8 +17,8 @@ abbrev μ-loop : tie.MeasureT-loop
 
 loop-holds : tie.Need-loop-holds Inv-loop μ-loop
 loop-holds c =
-  let a = c .before .args in
-  (omega arith, ap (λ (x : ℕ). textsStep (a .s .now) (a .order) x (a .at)) (sub-zero (a .count)))
+    let a = c .before .args in
+    (omega arith, ap (λ (x : ℕ). textsStep (a .s .now) (a .order) x (a .at)) (sub-zero (a .count)))
 
 text-step-requires : tie.Need-text-step-requires Inv-loop μ-loop
 text-step-requires c κs = search needs
@@ -28,10 +28,10 @@ enum-known-refusal c = search needs
 
 returns : tie.Need-returns Inv-loop μ-loop
 returns c =
-  let a = c .before .before .before .before .before .before .before .args in
-  let loop = c .before .before .before .before .before .loop in
-  let loop-test = c .before .before .before .before .loop-test in
-  sym (texts-refused (a .s .now) (a .order) (a .count) (loop .k) (loop .next) (loop-test .taken) _ (sym (c .before .before .before .text-step .ensures) ∙ c .before .refusal .given .1)) ∙ loop .inv .1
+    let a = c .before .before .before .before .before .before .before .args in
+    let loop = c .before .before .before .before .before .loop in
+    let loop-test = c .before .before .before .before .loop-test in
+    sym (texts-refused (a .s .now) (a .order) (a .count) (loop .k) (loop .next) (loop-test .taken) _ (sym (c .before .before .before .text-step .ensures) ∙ c .before .refusal .given .1)) ∙ loop .inv .1
 
 enum-known-i : tie.Need-enum-known-i Inv-loop μ-loop
 enum-known-i c = search needs
@@ -44,16 +44,16 @@ loop-less c = search needs
 
 loop-again : tie.Need-loop-again Inv-loop μ-loop
 loop-again c =
-  let loop-test = c .before .before .before .before .loop-test in
-  let a = c .before .before .before .before .before .before .before .args in
-  let loop = c .before .before .before .before .before .loop in
-  (omega (arith, loop-test .taken), sym (texts-next (a .s .now) (a .order) (a .count) (loop .k) (loop .next) (loop-test .taken) _ (sym (c .before .before .before .text-step .ensures) ∙ c .before .i .given .1)) ∙ loop .inv .1)
+    let loop-test = c .before .before .before .before .loop-test in
+    let a = c .before .before .before .before .before .before .before .args in
+    let loop = c .before .before .before .before .before .loop in
+    (omega (arith, loop-test .taken), sym (texts-next (a .s .now) (a .order) (a .count) (loop .k) (loop .next) (loop-test .taken) _ (sym (c .before .before .before .text-step .ensures) ∙ c .before .i .given .1)) ∙ loop .inv .1)
 
 returns-2 : tie.Need-returns-2 Inv-loop μ-loop
 returns-2 c =
-  let a = c .before .before .before .args in
-  let loop = c .before .loop in
-  sym (texts-end (a .s .now) (a .order) (a .count) (loop .k) (loop .next) (c .loop-test .left)) ∙ loop .inv .1
+    let a = c .before .before .before .args in
+    let loop = c .before .loop in
+    sym (texts-end (a .s .now) (a .order) (a .count) (loop .k) (loop .next) (c .loop-test .left)) ∙ loop .inv .1
 
 pub texts-step-spec : {M : Type 1} → statement M
 texts-step-spec =

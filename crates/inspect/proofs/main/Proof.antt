@@ -29,18 +29,18 @@ returns c = search needs
 
 slice-aggregate-end-line : tie.Need-slice-aggregate-end-line
 slice-aggregate-end-line c =
-  let read-all = c .before .before .before .before .before .before .before .read-all in
-  sym (read-all .kept .1 .0 ∙ length-replicate {A = ℕ} 131073 0)
+    let read-all = c .before .before .before .before .before .before .before .read-all in
+    sym (read-all .kept .1 .0 ∙ length-replicate {A = ℕ} 131073 0)
 
 slice-aggregate-end-line-2 : tie.Need-slice-aggregate-end-line-2
 slice-aggregate-end-line-2 c =
-  let read-all = c .before .before .before .before .before .before .before .before .read-all in
-  sym (read-all .kept .1 .1 .0 ∙ length-replicate {A = ℕ} 1097794 0)
+    let read-all = c .before .before .before .before .before .before .before .before .read-all in
+    sym (read-all .kept .1 .1 .0 ∙ length-replicate {A = ℕ} 1097794 0)
 
 slice-aggregate-end-line-3 : tie.Need-slice-aggregate-end-line-3
 slice-aggregate-end-line-3 c =
-  let read-all = c .before .before .before .before .before .before .before .before .before .read-all in
-  sym (read-all .kept .1 .1 .1 .0 ∙ length-replicate {A = ℕ} 49152 0)
+    let read-all = c .before .before .before .before .before .before .before .before .before .read-all in
+    sym (read-all .kept .1 .1 .1 .0 ∙ length-replicate {A = ℕ} 49152 0)
 
 end-line-requires : tie.Need-end-line-requires
 end-line-requires c κs = search needs

@@ -28,14 +28,14 @@ double-requires c κs = search needs
 
 returns-2 : tie.Need-returns-2
 returns-2 c =
-  let a = c .before .before .before .before .args in
-  let o = a in
+    let a = c .before .before .before .before .args in
+    let o = a in
     c .single-of .ensures ∙ sym (item-single (o .kind) (o .content) (c .before .match .keys1))
 
 returns-3 : tie.Need-returns-3
 returns-3 c =
-  let a = c .before .before .before .before .args in
-  let o = a in
+    let a = c .before .before .before .before .args in
+    let o = a in
     ap (Double (o .content)) (c .double .ensures) ∙ sym (item-double (o .kind) (o .content) (c .before .match .keys2))
 
 returns-4 : tie.Need-returns-4

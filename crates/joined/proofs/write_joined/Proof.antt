@@ -13,15 +13,15 @@ use Rattle.joined.proofs.write_joined.Tie as tie
 -- where the body ends, which fits
 end-told : (c : tie.After-write-octets2) → c .write-octets2 .result ≡ Upto (length (c .before .before .before .before .before .before .before .before .before .before .before .args .held .now) + length (c .before .before .before .before .before .before .before .before .before .before .before .args .body .now))
 end-told c =
-  let a = c .before .before .before .before .before .before .before .before .before .before .before .args in
-  let if2 = c .before .before .before .before .before .before .if2 in
-  let write-octets = c .before .before .before .before .write-octets in
-  second-end (a .held .now) (a .body .now) (a .out .now) _ _ _ _ (if2 .left) (write-octets .ensures) (c .write-octets2 .ensures)
+    let a = c .before .before .before .before .before .before .before .before .before .before .before .args in
+    let if2 = c .before .before .before .before .before .before .if2 in
+    let write-octets = c .before .before .before .before .write-octets in
+    second-end (a .held .now) (a .body .now) (a .out .now) _ _ _ _ (if2 .left) (write-octets .ensures) (c .write-octets2 .ensures)
 
 end-is : (c : tie.After-end) → c .end .given .0 .0 ≡ length (c .before .before .before .before .before .before .before .before .before .before .before .before .before .before .before .args .held .now) + length (c .before .before .before .before .before .before .before .before .before .before .before .before .before .before .before .args .body .now)
 end-is c =
-  let a = c .before .before .before .before .before .before .before .before .before .before .before .before .before .before .before .args in
-  let e : Upto (c .end .given .0 .0) ≡ Upto (length (a .held .now) + length (a .body .now)) = sym (c .end .given .1) ∙ end-told (c .before .before .before .before) in
+    let a = c .before .before .before .before .before .before .before .before .before .before .before .before .before .before .before .args in
+    let e : Upto (c .end .given .0 .0) ≡ Upto (length (a .held .now) + length (a .body .now)) = sym (c .end .given .1) ∙ end-told (c .before .before .before .before) in
     cc
 
 add-total : tie.Need-add-total
@@ -29,13 +29,13 @@ add-total c = search needs
 
 returns : tie.Need-returns
 returns c =
-  let a = c .before .before .before .before .args in
-  no-header (a .held .now) (a .body .now) (a .out .now) (c .if1 .taken)
+    let a = c .before .before .before .before .args in
+    no-header (a .held .now) (a .body .now) (a .out .now) (c .if1 .taken)
 
 returns-2 : tie.Need-returns-2
 returns-2 c =
-  let a = c .before .before .before .before .before .args in
-  no-room (a .held .now) (a .body .now) (a .out .now) (c .before .if1 .left) (c .if2 .taken)
+    let a = c .before .before .before .before .before .args in
+    no-room (a .held .now) (a .body .now) (a .out .now) (c .before .if1 .left) (c .if2 .taken)
 
 write-octets-requires : tie.Need-write-octets-requires
 write-octets-requires c κs = search needs
@@ -55,27 +55,27 @@ same-length c = search needs
 -- never: the body fits
 returns-3 : tie.Need-returns-3
 returns-3 c =
-  let a = c .before .before .before .before .before .before .before .before .before .before .before .before .before .before .before .args in
-  let e : NoRoom ≡ Upto (length (a .held .now) + length (a .body .now)) = sym (c .enum-told .given .1) ∙ end-told (c .before .before .before .before) in
+    let a = c .before .before .before .before .before .before .before .before .before .before .before .before .before .before .before .args in
+    let e : NoRoom ≡ Upto (length (a .held .now) + length (a .body .now)) = sym (c .enum-told .given .1) ∙ end-told (c .before .before .before .before) in
     clash cc
 
 correct-requires : tie.Need-correct-requires
 correct-requires c κs =
-  let if1 = c .before .before .before .before .before .before .before .before .before .before .before .before .before .if1 in
-  let if2 = c .before .before .before .before .before .before .before .before .before .before .before .before .if2 in
-  let e = end-is (c .before .before) in let h = if1 .left in let k = if2 .left in (omega arith, omega arith)
+    let if1 = c .before .before .before .before .before .before .before .before .before .before .before .before .before .if1 in
+    let if2 = c .before .before .before .before .before .before .before .before .before .before .before .before .if2 in
+    let e = end-is (c .before .before) in let h = if1 .left in let k = if2 .left in (omega arith, omega arith)
 
 same-length-2 : tie.Need-same-length-2
 same-length-2 c = search needs
 
 returns-4 : tie.Need-returns-4
 returns-4 c =
-  let a = c .before .before .before .before .before .before .before .before .before .before .before .before .before .before .before .before .before .before .before .before .args in
-  let if1 = c .before .before .before .before .before .before .before .before .before .before .before .before .before .before .before .before .if1 in
-  let if2 = c .before .before .before .before .before .before .before .before .before .before .before .before .before .before .before .if2 in
-  let write-octets = c .before .before .before .before .before .before .before .before .before .before .before .before .before .write-octets in
-  let write-octets2 = c .before .before .before .before .before .before .before .before .before .write-octets2 in
-  let held = a .held .now in
+    let a = c .before .before .before .before .before .before .before .before .before .before .before .before .before .before .before .before .before .before .before .before .args in
+    let if1 = c .before .before .before .before .before .before .before .before .before .before .before .before .before .before .before .before .if1 in
+    let if2 = c .before .before .before .before .before .before .before .before .before .before .before .before .before .before .before .if2 in
+    let write-octets = c .before .before .before .before .before .before .before .before .before .before .before .before .before .write-octets in
+    let write-octets2 = c .before .before .before .before .before .before .before .before .before .write-octets2 in
+    let held = a .held .now in
     let body = a .body .now in
     let out = a .out .now in
     rw (end-is (c .before .before .before .before .before))

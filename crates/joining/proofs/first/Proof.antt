@@ -24,8 +24,8 @@ refused-requires c κs = search needs
 
 returns : tie.Need-returns
 returns c =
-  let a = c .before .before .before .before .before .before .args in
-  λ out.
+    let a = c .before .before .before .before .before .before .args in
+    λ out.
     refuses (a .octets .now) (a .before) (a .places .now) out _ FourOpen _
     (no-place (a .before) (a .id) _ (c .before .before .before .lowest-free .ensures) (c .before .enum-told .given .1))
     (c .refused .ensures)
@@ -33,8 +33,8 @@ returns c =
 -- the place is one of the four
 place : (c : tie.After-i) → c .i .given .0 .0 < placesCount
 place c =
-  let a = c .before .before .before .before .before .args in
-  free-place (a .before) _ _ (c .before .before .lowest-free .ensures) (c .i .given .1)
+    let a = c .before .before .before .before .before .args in
+    free-place (a .before) _ _ (c .before .before .lowest-free .ensures) (c .i .given .1)
 
 mul-write-octets : tie.Need-mul-write-octets
 mul-write-octets c = record { fits = let p = place (c .before .before) in omega arith }
@@ -50,11 +50,11 @@ same-length c = search needs
 
 returns-2 : tie.Need-returns-2
 returns-2 c =
-  let a = c .before .before .before .before .before .before .before .before .before .before .before .args in
-  let i2 = c .before .before .before .before .before .before .i in
-  let pre = c .before .before .before .before .before .before .before .before .before .before .before .pre in
-  let lowest-free = c .before .before .before .before .before .before .before .before .lowest-free in
-  λ out.
+    let a = c .before .before .before .before .before .before .before .before .before .before .before .args in
+    let i2 = c .before .before .before .before .before .before .i in
+    let pre = c .before .before .before .before .before .before .before .before .before .before .before .pre in
+    let lowest-free = c .before .before .before .before .before .before .before .before .lowest-free in
+    λ out.
     let octets = a .octets .now in
     let r = a .before in
     let places = a .places .now in

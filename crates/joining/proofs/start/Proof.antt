@@ -22,8 +22,8 @@ refused-requires c κs = search needs
 
 returns : tie.Need-returns
 returns c =
-  let a = c .before .before .before .before .before .before .before .args in
-  let o = a in
+    let a = c .before .before .before .before .before .before .before .args in
+    let o = a in
     refuses (o .octets .now) (o .before) (o .places .now) (o .out .now) _ IdOpen _
     (id-open (o .before) (length (o .out .now)) (length (o .octets .now)) (o .h) (o .id) (o .found) (sym (c .before .before .before .is-at .ensures) ∙ c .before .if1 .taken))
     (c .refused .ensures)
@@ -33,9 +33,9 @@ refused-requires-2 c κs = search needs
 
 returns-2 : tie.Need-returns-2
 returns-2 c =
-  let a = c .before .before .before .before .before .before .before .before .args in
-  let is-at = c .before .before .before .before .is-at in
-  let o = a in
+    let a = c .before .before .before .before .before .before .before .before .args in
+    let is-at = c .before .before .before .before .is-at in
+    let o = a in
     refuses (o .octets .now) (o .before) (o .places .now) (o .out .now) _ FourOpen _
     (lacks-refused (o .before) (length (o .out .now)) (length (o .octets .now)) (o .h) (o .id) (o .found) (sym (is-at .ensures) ∙ c .before .before .if1 .left) (sym (c .before .before .before .lacks-place .ensures) ∙ c .before .if2 .taken))
     (c .refused2 .ensures)
@@ -48,11 +48,11 @@ same-length c = search needs
 
 returns-3 : tie.Need-returns-3
 returns-3 c =
-  let a = c .before .before .before .before .before .before .before .before .before .before .before .before .before .args in
-  let is-at = c .before .before .before .before .before .before .before .before .before .is-at in
-  let if1 = c .before .before .before .before .before .before .before .if1 in
-  let if3 = c .before .before .before .before .if3 in
-  let o = a in
+    let a = c .before .before .before .before .before .before .before .before .before .before .before .before .before .args in
+    let is-at = c .before .before .before .before .before .before .before .before .before .is-at in
+    let if1 = c .before .before .before .before .before .before .before .if1 in
+    let if3 = c .before .before .before .before .if3 in
+    let o = a in
     let places = o .places .now in
     by-step (o .octets .now) (o .before) places (o .out .now) _ (written (length (o .out .now)) (length (o .octets .now)) Passes) _ places _
     (starts-whole (o .before) (length (o .out .now)) (length (o .octets .now)) (o .h) (o .id) (o .found) (sym (is-at .ensures) ∙ if1 .left) (not-true (o .h .more) (if3 .taken)))
@@ -60,20 +60,20 @@ returns-3 c =
 
 first-requires : tie.Need-first-requires
 first-requires c κs =
-  let a = c .before .before .before .before .before .before .before .before .before .before .args in
-  let pre = c .before .before .before .before .before .before .before .before .before .before .pre in
-  let o = a in opening (o .octets .now) (o .h) (o .before) (o .places .now) pre
+    let a = c .before .before .before .before .before .before .before .before .before .before .args in
+    let pre = c .before .before .before .before .before .before .before .before .before .before .pre in
+    let o = a in opening (o .octets .now) (o .h) (o .before) (o .places .now) pre
 
 same-length-2 : tie.Need-same-length-2
 same-length-2 c = search needs
 
 returns-4 : tie.Need-returns-4
 returns-4 c =
-  let a = c .before .before .before .before .before .before .before .before .before .before .before .before .before .args in
-  let is-at = c .before .before .before .before .before .before .before .before .before .is-at in
-  let if1 = c .before .before .before .before .before .before .before .if1 in
-  let if3 = c .before .before .before .before .if3 in
-  let o = a in
+    let a = c .before .before .before .before .before .before .before .before .before .before .before .before .before .args in
+    let is-at = c .before .before .before .before .before .before .before .before .before .is-at in
+    let if1 = c .before .before .before .before .before .before .before .if1 in
+    let if3 = c .before .before .before .before .if3 in
+    let o = a in
     let out = o .out .now in
     by-step (o .octets .now) (o .before) (o .places .now) out _ (firstOf (o .id) (lowestFree (o .before))) _ _ out
     (starts-first (o .before) (length out) (length (o .octets .now)) (o .h) (o .id) (o .found) (sym (is-at .ensures) ∙ if1 .left) (not-false (o .h .more) (if3 .left)))

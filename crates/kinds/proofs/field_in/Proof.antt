@@ -9,8 +9,8 @@ use Rattle.kinds.proofs.Reading.{rest, field-beyond}
 returns : tie.Need-returns
 unfolding fieldIn
 returns c =
-  let a = c .before .before .args in
-  sym (field-beyond (a .v .now) (a .start) (a .at) (a .size) (a .order) (c .if1 .taken))
+    let a = c .before .before .args in
+    sym (field-beyond (a .v .now) (a .start) (a .at) (a .size) (a .order) (c .if1 .taken))
 
 sub-read-field : tie.Need-sub-read-field
 sub-read-field c = search needs
@@ -27,8 +27,8 @@ read-field-requires c κs = search needs
 returns-2 : tie.Need-returns-2
 unfolding fieldIn
 returns-2 c =
-  let a = c .before .before .before .before .args in
-  rw (← rest (a .v .now) (a .start .0)) (c .read-field .ensures)
+    let a = c .before .before .before .before .args in
+    rw (← rest (a .v .now) (a .start .0)) (c .read-field .ensures)
 
 pub field-in-spec : {M : Type 1} → statement M
 field-in-spec =

@@ -24,13 +24,13 @@ enum-told-2 c = search needs
 
 returns-2 : tie.Need-returns-2
 returns-2 c =
-  let labels = c .before .before .before .before .before .labels in
-  rw (labels .given .1, sym (c .before .before .before .field-in .ensures) ∙ c .before .value .given .1)
+    let labels = c .before .before .before .before .before .labels in
+    rw (labels .given .1, sym (c .before .before .before .field-in .ensures) ∙ c .before .value .given .1)
 
 returns-3 : tie.Need-returns-3
 returns-3 c =
-  let labels = c .before .before .before .before .labels in
-  rw (labels .given .1, sym (c .before .before .field-in .ensures) ∙ c .enum-told2 .given .1)
+    let labels = c .before .before .before .before .labels in
+    rw (labels .given .1, sym (c .before .before .field-in .ensures) ∙ c .enum-told2 .given .1)
 
 pub label-at-spec : {M : Type 1} → statement M
 label-at-spec =

@@ -30,9 +30,9 @@ enum-told-2 c = search needs
 returns-2 : tie.Need-returns-2
 unfolding memberAt
 returns-2 c =
-  let lead-in = c .before .before .before .before .before .before .lead-in in
-  let name = c .before .before .before .before .name in
-  rw (sym (lead-in .ensures) ∙ name .given .1, sym (c .before .before .skip-counted .ensures) ∙ c .enum-told2 .given .1)
+    let lead-in = c .before .before .before .before .before .before .lead-in in
+    let name = c .before .before .before .before .name in
+    rw (sym (lead-in .ensures) ∙ name .given .1, sym (c .before .before .skip-counted .ensures) ∙ c .enum-told2 .given .1)
 
 spot-at-requires : tie.Need-spot-at-requires
 spot-at-requires c κs = search needs
@@ -40,10 +40,10 @@ spot-at-requires c κs = search needs
 returns-3 : tie.Need-returns-3
 unfolding memberAt
 returns-3 c =
-  let lead-in = c .before .before .before .before .before .before .before .before .lead-in in
-  let name = c .before .before .before .before .before .before .name in
-  let skip-counted = c .before .before .before .before .skip-counted in
-  rw (sym (lead-in .ensures) ∙ name .given .1, sym (skip-counted .ensures) ∙ c .before .before .i .given .1) (c .spot-at .ensures)
+    let lead-in = c .before .before .before .before .before .before .before .before .lead-in in
+    let name = c .before .before .before .before .before .before .name in
+    let skip-counted = c .before .before .before .before .skip-counted in
+    rw (sym (lead-in .ensures) ∙ name .given .1, sym (skip-counted .ensures) ∙ c .before .before .i .given .1) (c .spot-at .ensures)
 
 pub member-at-spec : {M : Type 1} → statement M
 member-at-spec =

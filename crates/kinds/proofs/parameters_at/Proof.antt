@@ -26,9 +26,9 @@ enum-told c = search needs
 returns : tie.Need-returns
 unfolding parametersAt
 returns c =
-  let since = c .before .before .before .before .before .before .since in
-  let field-in = c .before .before .before .before .before .field-in in
-  rw (← since .ensures, sym (field-in .ensures) ∙ c .before .before .before .value .given .1, ← c .before .form-of .ensures) (c .parameters-after .ensures)
+    let since = c .before .before .before .before .before .before .since in
+    let field-in = c .before .before .before .before .before .field-in in
+    rw (← since .ensures, sym (field-in .ensures) ∙ c .before .before .before .value .given .1, ← c .before .form-of .ensures) (c .parameters-after .ensures)
 
 returns-2 : tie.Need-returns-2
 unfolding parametersAt

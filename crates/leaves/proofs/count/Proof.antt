@@ -23,9 +23,9 @@ over-bound-requires c κs = search needs
 
 add-took : tie.Need-add-took
 add-took c =
-  let a = c .before .before .before .before .before .before .before .before .args in
-  let number-at = c .before .before .before .before .before .number-at in
-  omega (arith, read-facts (a .v .now) (a .m .start) (a .c .at) Four (a .m .order) _ _ (sym (number-at .ensures) ∙ c .before .before .before .at .given .1) .fits)
+    let a = c .before .before .before .before .before .before .before .before .args in
+    let number-at = c .before .before .before .before .before .number-at in
+    omega (arith, read-facts (a .v .now) (a .m .start) (a .c .at) Four (a .m .order) _ _ (sym (number-at .ensures) ∙ c .before .before .before .at .given .1) .fits)
 
 took-requires : tie.Need-took-requires
 took-requires c κs = search needs
@@ -36,17 +36,17 @@ refused-requires c κs = search needs
 returns : tie.Need-returns
 unfolding countAt
 returns c =
-  let a = c .before .before .before .before .before .before .before .before .before .before .args in
-  let number-at = c .before .before .before .before .before .before .before .number-at in
-  let at2 = c .before .before .before .before .before .at in
-  c .refused .ensures (a .table .now) ∙ ap (failed 54) (c .before .took .ensures (a .m) (a .table .now) _ _ 4) ∙ sym ((way.number-some (sinkOf (a .m)) (sourceOf (a .m) (a .v .now)) Four (countDone (sinkOf (a .m)) (sourceOf (a .m) (a .v .now)) (a .bound)) (stateOf (a .c) (a .table .now)) _ _ (sym (number-at .ensures) ∙ at2 .given .1)) ∙ way.count-over (sinkOf (a .m)) (sourceOf (a .m) (a .v .now)) (a .bound) _ _ _ (sym (c .before .before .before .over-bound .ensures) ∙ c .before .before .if1 .taken))
+    let a = c .before .before .before .before .before .before .before .before .before .before .args in
+    let number-at = c .before .before .before .before .before .before .before .number-at in
+    let at2 = c .before .before .before .before .before .at in
+    c .refused .ensures (a .table .now) ∙ ap (failed 54) (c .before .took .ensures (a .m) (a .table .now) _ _ 4) ∙ sym ((way.number-some (sinkOf (a .m)) (sourceOf (a .m) (a .v .now)) Four (countDone (sinkOf (a .m)) (sourceOf (a .m) (a .v .now)) (a .bound)) (stateOf (a .c) (a .table .now)) _ _ (sym (number-at .ensures) ∙ at2 .given .1)) ∙ way.count-over (sinkOf (a .m)) (sourceOf (a .m) (a .v .now)) (a .bound) _ _ _ (sym (c .before .before .before .over-bound .ensures) ∙ c .before .before .if1 .taken))
 
 add-took-2 : tie.Need-add-took-2
 add-took-2 c =
-  let a = c .before .before .before .before .before .before .before .before .before .args in
-  let number-at = c .before .before .before .before .before .before .number-at in
-  let at2 = c .before .before .before .before .at in
-  omega (arith, read-facts (a .v .now) (a .m .start) (a .c .at) Four (a .m .order) _ _ (sym (number-at .ensures) ∙ at2 .given .1) .fits)
+    let a = c .before .before .before .before .before .before .before .before .before .args in
+    let number-at = c .before .before .before .before .before .before .number-at in
+    let at2 = c .before .before .before .before .at in
+    omega (arith, read-facts (a .v .now) (a .m .start) (a .c .at) Four (a .m .order) _ _ (sym (number-at .ensures) ∙ at2 .given .1) .fits)
 
 took-requires-2 : tie.Need-took-requires-2
 took-requires-2 c κs = search needs
@@ -66,18 +66,18 @@ same-length c = search needs
 returns-2 : tie.Need-returns-2
 unfolding countAt
 returns-2 c =
-  let a = c .before .before .before .before .before .before .before .before .before .before .before .before .before .args in
-  let number-at = c .before .before .before .before .before .before .before .before .before .before .number-at in
-  let at2 = c .before .before .before .before .before .before .before .before .at in
-  let over-bound = c .before .before .before .before .before .before .over-bound in
-  let if1 = c .before .before .before .before .before .if1 in
-  c .before .before .put .ensures ∙ ap (done (sinkOf (a .m)) (item 19 _ _)) (c .before .before .before .took2 .ensures (a .m) (a .table .now) _ _ 4) ∙ sym ((way.number-some (sinkOf (a .m)) (sourceOf (a .m) (a .v .now)) Four (countDone (sinkOf (a .m)) (sourceOf (a .m) (a .v .now)) (a .bound)) (stateOf (a .c) (a .table .now)) _ _ (sym (number-at .ensures) ∙ at2 .given .1)) ∙ way.count-under (sinkOf (a .m)) (sourceOf (a .m) (a .v .now)) (a .bound) _ _ _ (sym (over-bound .ensures) ∙ if1 .left))
+    let a = c .before .before .before .before .before .before .before .before .before .before .before .before .before .args in
+    let number-at = c .before .before .before .before .before .before .before .before .before .before .number-at in
+    let at2 = c .before .before .before .before .before .before .before .before .at in
+    let over-bound = c .before .before .before .before .before .before .over-bound in
+    let if1 = c .before .before .before .before .before .if1 in
+    c .before .before .put .ensures ∙ ap (done (sinkOf (a .m)) (item 19 _ _)) (c .before .before .before .took2 .ensures (a .m) (a .table .now) _ _ 4) ∙ sym ((way.number-some (sinkOf (a .m)) (sourceOf (a .m) (a .v .now)) Four (countDone (sinkOf (a .m)) (sourceOf (a .m) (a .v .now)) (a .bound)) (stateOf (a .c) (a .table .now)) _ _ (sym (number-at .ensures) ∙ at2 .given .1)) ∙ way.count-under (sinkOf (a .m)) (sourceOf (a .m) (a .v .now)) (a .bound) _ _ _ (sym (over-bound .ensures) ∙ if1 .left))
 
 returns-3 : tie.Need-returns-3
 unfolding countAt
 returns-3 c =
-  let a = c .before .before .before .before .before .before .args in
-  c .refused2 .ensures (a .table .now) ∙ sym (way.number-none (sinkOf (a .m)) (sourceOf (a .m) (a .v .now)) Four (countDone (sinkOf (a .m)) (sourceOf (a .m) (a .v .now)) (a .bound)) (stateOf (a .c) (a .table .now)) (sym (c .before .before .before .number-at .ensures) ∙ c .before .enum-told .given .1))
+    let a = c .before .before .before .before .before .before .args in
+    c .refused2 .ensures (a .table .now) ∙ sym (way.number-none (sinkOf (a .m)) (sourceOf (a .m) (a .v .now)) Four (countDone (sinkOf (a .m)) (sourceOf (a .m) (a .v .now)) (a .bound)) (stateOf (a .c) (a .table .now)) (sym (c .before .before .before .number-at .ensures) ∙ c .before .enum-told .given .1))
 
 pub count-spec : {M : Type 1} → statement M
 count-spec =

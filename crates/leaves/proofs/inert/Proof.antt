@@ -34,8 +34,8 @@ same-length c = search needs
 returns : tie.Need-returns
 unfolding inertAt
 returns c =
-  let inert = c .before .before .before .before .before .inert in
-  rw (inert .given .1) (c .before .before .leaf .ensures)
+    let inert = c .before .before .before .before .before .inert in
+    rw (inert .given .1) (c .before .before .leaf .ensures)
 
 same-length-2 : tie.Need-same-length-2
 same-length-2 c = search needs
@@ -43,8 +43,8 @@ same-length-2 c = search needs
 returns-2 : tie.Need-returns-2
 unfolding inertAt
 returns-2 c =
-  let inert2 = c .before .before .before .before .before .inert2 in
-  rw (inert2 .given .1) (c .before .before .text .ensures)
+    let inert2 = c .before .before .before .before .before .inert2 in
+    rw (inert2 .given .1) (c .before .before .text .ensures)
 
 same-length-3 : tie.Need-same-length-3
 same-length-3 c = search needs
@@ -52,8 +52,8 @@ same-length-3 c = search needs
 returns-3 : tie.Need-returns-3
 unfolding inertAt
 returns-3 c =
-  let enum-told = c .before .before .before .before .enum-told in
-  rw (enum-told .given .1) (c .before .before .reference .ensures)
+    let enum-told = c .before .before .before .before .enum-told in
+    rw (enum-told .given .1) (c .before .before .reference .ensures)
 
 same-length-4 : tie.Need-same-length-4
 same-length-4 c = search needs
@@ -61,8 +61,8 @@ same-length-4 c = search needs
 returns-4 : tie.Need-returns-4
 unfolding inertAt
 returns-4 c =
-  let inert3 = c .before .before .before .before .before .inert3 in
-  rw (inert3 .given .1) (c .before .before .enumerated .ensures)
+    let inert3 = c .before .before .before .before .before .inert3 in
+    rw (inert3 .given .1) (c .before .before .enumerated .ensures)
 
 pub inert-spec : {M : Type 1} → statement M
 inert-spec =

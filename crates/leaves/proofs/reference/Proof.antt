@@ -18,9 +18,9 @@ same-length c = search needs
 returns : tie.Need-returns
 unfolding objrefAt
 returns c =
-  let a = c .before .before .before .before .before .before .before .before .args in
-  let text = c .before .before .before .before .text in
-  sym (way.stops (profilesAt (sinkOf (a .m)) (sourceOf (a .m) (a .v .now))) _ _ (text .ensures) (c .if1 .taken))
+    let a = c .before .before .before .before .before .before .before .before .args in
+    let text = c .before .before .before .before .text in
+    sym (way.stops (profilesAt (sinkOf (a .m)) (sourceOf (a .m) (a .v .now))) _ _ (text .ensures) (c .if1 .taken))
 
 profiles-requires : tie.Need-profiles-requires
 profiles-requires c κs = search needs
@@ -31,10 +31,10 @@ same-length-2 c = search needs
 returns-2 : tie.Need-returns-2
 unfolding objrefAt
 returns-2 c =
-  let a = c .before .before .before .before .before .before .before .before .before .before .before .before .args in
-  let text = c .before .before .before .before .before .before .before .before .text in
-  let if1 = c .before .before .before .before .if1 in
-  c .before .before .profiles .ensures ∙ sym (way.goes-on (profilesAt (sinkOf (a .m)) (sourceOf (a .m) (a .v .now))) _ _ (text .ensures) (if1 .left))
+    let a = c .before .before .before .before .before .before .before .before .before .before .before .before .args in
+    let text = c .before .before .before .before .before .before .before .before .text in
+    let if1 = c .before .before .before .before .if1 in
+    c .before .before .profiles .ensures ∙ sym (way.goes-on (profilesAt (sinkOf (a .m)) (sourceOf (a .m) (a .v .now))) _ _ (text .ensures) (if1 .left))
 
 pub reference-spec : {M : Type 1} → statement M
 reference-spec =

@@ -16,8 +16,8 @@ stops : (c : tie.After-find-lf) →
     let at-start = at-least .before .before .before in
     (at-least .least .result ≤ c .find-lf .result) × (c .find-lf .result ≤ length (at-start .args .block .now))
 stops c =
-  let least = c .before .before .least in
-  let at-start = c .before .before .before .before .before in
+    let least = c .before .before .least in
+    let at-start = c .before .before .before .before .before in
     let s = least .ensures in
     let w = up-within (least .result) (at-start .args .block .now) (omega arith) in
     let e = c .find-lf .ensures in

@@ -11,8 +11,8 @@ add-if1 c = search needs
 
 returns : tie.Need-returns
 returns c =
-  let a = c .before .before .before .before .args in
-  let o = a in
+    let a = c .before .before .before .before .args in
+    let o = a in
     end-full (o .line .now) (o .places .now) (o .out .now) (o .state) (c .if1 .taken)
 
 least-requires : tie.Need-least-requires

@@ -35,8 +35,8 @@ loop-again c =
 
 returns : tie.Need-returns Inv-loop μ-loop
 returns c =
-  let loop = c .before .loop in
-  closed-all _ _ _ _ (loop .inv .0) (c .loop-test .left) (loop .inv .2)
+    let loop = c .before .loop in
+    closed-all _ _ _ _ (loop .inv .0) (c .loop-test .left) (loop .inv .2)
 
 pub closed-spec : {M : Type 1} → statement M
 closed-spec =

@@ -42,8 +42,8 @@ loop-again c =
 
 returns-2 : tie.Need-returns-2 Inv-loop μ-loop
 returns-2 c =
-  let loop = c .before .loop in
-  none-at-all _ _ _ (loop .inv .0) (c .loop-test .left) (loop .inv .1)
+    let loop = c .before .loop in
+    none-at-all _ _ _ (loop .inv .0) (c .loop-test .left) (loop .inv .1)
 
 pub some-returns-spec : {M : Type 1} → statement M
 some-returns-spec =

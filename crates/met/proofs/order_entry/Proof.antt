@@ -17,8 +17,8 @@ returns-2 c = rw (ne-eqb _ _ (c .if2 .left))
 
 returns-3 : tie.Need-returns-3
 returns-3 c =
-  let a = c .before .args in
-  rw (List·getD-eq-default (a .t1) 0 {n = a .i} (omega (arith, c .if1 .left)))
+    let a = c .before .args in
+    rw (List·getD-eq-default (a .t1) 0 {n = a .i} (omega (arith, c .if1 .left)))
 
 pub order-entry-spec : {M : Type 1} → statement M
 order-entry-spec = tie.close (tie.spec array-read-if2 returns returns-2 returns-3)

@@ -15,15 +15,15 @@ enum-known-from c = search needs
 
 add-t8 : tie.Need-add-t8
 add-t8 c =
-  let a = c .before .before .before .before .before .before .args in
-  let read-string = c .before .before .before .before .read-string in
-  let f = string-facts (a .s .now) (a .at) (a .order) _ _ (sym (read-string .ensures) ∙ c .before .before .from .given .1) .1 in omega (arith, f)
+    let a = c .before .before .before .before .before .before .args in
+    let read-string = c .before .before .before .before .read-string in
+    let f = string-facts (a .s .now) (a .at) (a .order) _ _ (sym (read-string .ensures) ∙ c .before .before .from .given .1) .1 in omega (arith, f)
 
 add-t9 : tie.Need-add-t9
 add-t9 c =
-  let a = c .before .before .before .before .before .before .args in
-  let read-string = c .before .before .before .before .read-string in
-  let f = string-facts (a .s .now) (a .at) (a .order) _ _ (sym (read-string .ensures) ∙ c .before .before .from .given .1) .1 in omega (arith, f)
+    let a = c .before .before .before .before .before .before .args in
+    let read-string = c .before .before .before .before .read-string in
+    let f = string-facts (a .s .now) (a .at) (a .order) _ _ (sym (read-string .ensures) ∙ c .before .before .from .given .1) .1 in omega (arith, f)
 
 enum-told : tie.Need-enum-told
 enum-told c = search needs
@@ -33,19 +33,19 @@ enum-told-2 c = search needs
 
 returns : tie.Need-returns
 returns c =
-  let a = c .before .before .before .before .before .before .args in
-  let read-string = c .before .before .before .before .read-string in
-  sym (host-is (a .s .now) (a .at) (a .order) _ (sym (read-string .ensures) ∙ c .before .before .from .given .1))
+    let a = c .before .before .before .before .before .before .args in
+    let read-string = c .before .before .before .before .read-string in
+    sym (host-is (a .s .now) (a .at) (a .order) _ (sym (read-string .ensures) ∙ c .before .before .from .given .1))
 
 returns-2 : tie.Need-returns-2
 returns-2 c =
-  let a = c .before .before .before .before .args in
-  sym (host-is (a .s .now) (a .at) (a .order) _ (sym (c .before .before .read-string .ensures) ∙ c .enum-told .given .1))
+    let a = c .before .before .before .before .args in
+    sym (host-is (a .s .now) (a .at) (a .order) _ (sym (c .before .before .read-string .ensures) ∙ c .enum-told .given .1))
 
 returns-3 : tie.Need-returns-3
 returns-3 c =
-  let a = c .before .before .before .before .args in
-  sym (host-is (a .s .now) (a .at) (a .order) _ (sym (c .before .before .read-string .ensures) ∙ c .enum-told2 .given .1))
+    let a = c .before .before .before .before .args in
+    sym (host-is (a .s .now) (a .at) (a .order) _ (sym (c .before .before .read-string .ensures) ∙ c .enum-told2 .given .1))
 
 pub host-at-spec : {M : Type 1} → statement M
 host-at-spec =

@@ -15,23 +15,23 @@ enum-known-from c = search needs
 
 add-t8 : tie.Need-add-t8
 add-t8 c =
-  let a = c .before .before .before .before .before .before .args in
-  let read-counted = c .before .before .before .before .read-counted in
-  let f = counted-facts (a .s .now) (a .at) (a .order) _ _ (sym (read-counted .ensures) ∙ c .before .before .from .given .1) .1 in omega (arith, f)
+    let a = c .before .before .before .before .before .before .args in
+    let read-counted = c .before .before .before .before .read-counted in
+    let f = counted-facts (a .s .now) (a .at) (a .order) _ _ (sym (read-counted .ensures) ∙ c .before .before .from .given .1) .1 in omega (arith, f)
 
 enum-told : tie.Need-enum-told
 enum-told c = search needs
 
 returns : tie.Need-returns
 returns c =
-  let a = c .before .before .before .before .before .before .args in
-  let read-counted = c .before .before .before .before .read-counted in
-  sym (key-is (a .s .now) (a .at) (a .order) _ (sym (read-counted .ensures) ∙ c .before .before .from .given .1))
+    let a = c .before .before .before .before .before .before .args in
+    let read-counted = c .before .before .before .before .read-counted in
+    sym (key-is (a .s .now) (a .at) (a .order) _ (sym (read-counted .ensures) ∙ c .before .before .from .given .1))
 
 returns-2 : tie.Need-returns-2
 returns-2 c =
-  let a = c .before .before .before .before .args in
-  sym (key-is (a .s .now) (a .at) (a .order) _ (sym (c .before .before .read-counted .ensures) ∙ c .enum-told .given .1))
+    let a = c .before .before .before .before .args in
+    sym (key-is (a .s .now) (a .at) (a .order) _ (sym (c .before .before .read-counted .ensures) ∙ c .enum-told .given .1))
 
 pub key-at-spec : {M : Type 1} → statement M
 key-at-spec =

@@ -16,13 +16,13 @@ enum-told c = search needs
 
 returns : tie.Need-returns
 returns c =
-  let a = c .before .before .before .before .before .args in
-  sym (number-is (a .s .now) (a .at) (a .order) (a .size) _ (sym (c .before .before .before .read-field .ensures) ∙ c .before .value .given .1))
+    let a = c .before .before .before .before .before .args in
+    sym (number-is (a .s .now) (a .at) (a .order) (a .size) _ (sym (c .before .before .before .read-field .ensures) ∙ c .before .value .given .1))
 
 returns-2 : tie.Need-returns-2
 returns-2 c =
-  let a = c .before .before .before .before .args in
-  sym (number-is (a .s .now) (a .at) (a .order) (a .size) _ (sym (c .before .before .read-field .ensures) ∙ c .enum-told .given .1))
+    let a = c .before .before .before .before .args in
+    sym (number-is (a .s .now) (a .at) (a .order) (a .size) _ (sym (c .before .before .read-field .ensures) ∙ c .enum-told .given .1))
 
 pub number-at-spec : {M : Type 1} → statement M
 number-at-spec =

@@ -18,38 +18,38 @@ enum-told-2 c = search needs
 
 returns : tie.Need-returns
 returns c =
-  let a = c .before .before .before .before .args in
-  sym (version-none (a .s .now) (a .at) (sym (c .before .before .read-run .ensures) ∙ c .enum-told2 .given .1))
+    let a = c .before .before .before .before .args in
+    sym (version-none (a .s .now) (a .at) (sym (c .before .before .read-run .ensures) ∙ c .enum-told2 .given .1))
 
 shared-slice-read-major : tie.Need-shared-slice-read-major
 shared-slice-read-major c =
-  let a = c .before .before .before .before .before .args in
-  omega (arith, run-facts (a .s .now) (a .at .0) _ _ (sym (c .before .before .before .read-run .ensures) ∙ c .before .enum-told .given .1) .1)
+    let a = c .before .before .before .before .before .args in
+    omega (arith, run-facts (a .s .now) (a .at .0) _ _ (sym (c .before .before .before .read-run .ensures) ∙ c .before .enum-told .given .1) .1)
 
 major-exists-requires : tie.Need-major-exists-requires
 major-exists-requires c κs = search needs
 
 add-t11 : tie.Need-add-t11
 add-t11 c =
-  let a = c .before .before .before .before .before .before .before .args in
-  let read-run = c .before .before .before .before .before .read-run in
-  let f = run-facts (a .s .now) (a .at .0) _ _ (sym (read-run .ensures) ∙ c .before .before .before .enum-told .given .1) .1 in omega (arith, f)
+    let a = c .before .before .before .before .before .before .before .args in
+    let read-run = c .before .before .before .before .before .read-run in
+    let f = run-facts (a .s .now) (a .at .0) _ _ (sym (read-run .ensures) ∙ c .before .before .before .enum-told .given .1) .1 in omega (arith, f)
 
 minor-at-requires : tie.Need-minor-at-requires
 minor-at-requires c κs = search needs
 
 returns-2 : tie.Need-returns-2
 returns-2 c =
-  let a = c .before .before .before .before .before .before .before .before .args in
-  let read-run = c .before .before .before .before .before .before .read-run in
-  let enum-told = c .before .before .before .before .enum-told in
-  c .minor-at .ensures ∙ sym (version-is (a .s .now) (a .at) _ (sym (read-run .ensures) ∙ enum-told .given .1) _ (sym (c .before .before .major-exists .ensures) ∙ c .before .if1 .taken))
+    let a = c .before .before .before .before .before .before .before .before .args in
+    let read-run = c .before .before .before .before .before .before .read-run in
+    let enum-told = c .before .before .before .before .enum-told in
+    c .minor-at .ensures ∙ sym (version-is (a .s .now) (a .at) _ (sym (read-run .ensures) ∙ enum-told .given .1) _ (sym (c .before .before .major-exists .ensures) ∙ c .before .if1 .taken))
 
 returns-3 : tie.Need-returns-3
 returns-3 c =
-  let a = c .before .before .before .before .before .before .before .args in
-  let read-run = c .before .before .before .before .before .read-run in
-  sym (version-is (a .s .now) (a .at) _ (sym (read-run .ensures) ∙ c .before .before .before .enum-told .given .1) _ (sym (c .before .major-exists .ensures) ∙ c .if1 .left))
+    let a = c .before .before .before .before .before .before .before .args in
+    let read-run = c .before .before .before .before .before .read-run in
+    sym (version-is (a .s .now) (a .at) _ (sym (read-run .ensures) ∙ c .before .before .before .enum-told .given .1) _ (sym (c .before .major-exists .ensures) ∙ c .if1 .left))
 
 pub version-at-spec : {M : Type 1} → statement M
 version-at-spec =

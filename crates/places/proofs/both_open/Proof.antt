@@ -11,8 +11,8 @@ element-copy-out-if1 c = search needs
 returns : tie.Need-returns
 unfolding bothOpen
 returns c =
-  let a = c .before .before .args in
-  rw (not-true (isOpen (a .t1) (a .i)) (c .if1 .taken))
+    let a = c .before .before .args in
+    rw (not-true (isOpen (a .t1) (a .i)) (c .if1 .taken))
 
 element-copy-out-if2 : tie.Need-element-copy-out-if2
 element-copy-out-if2 c = search needs

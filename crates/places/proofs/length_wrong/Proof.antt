@@ -11,8 +11,8 @@ element-copy-out-if1 c = search needs
 returns : tie.Need-returns
 unfolding lengthWrong
 returns c =
-  let a = c .before .before .args in
-  rw (not-true (isOpen (a .t1) (a .i)) (c .if1 .taken))
+    let a = c .before .before .args in
+    rw (not-true (isOpen (a .t1) (a .i)) (c .if1 .taken))
 
 mul-if2 : tie.Need-mul-if2
 mul-if2 c = search needs

@@ -18,8 +18,8 @@ abbrev μ-loop : tie.MeasureT-loop
 
 loop-holds : tie.Need-loop-holds Inv-loop μ-loop
 loop-holds c =
-  let a = c .before .before .before .args in
-  stepping-none (sinkOf (a .m)) (sourceOf (a .m) (a .v .now)) (a .plan .kinds)
+    let a = c .before .before .before .args in
+    stepping-none (sinkOf (a .m)) (sourceOf (a .m) (a .v .now)) (a .plan .kinds)
 
 kind-at-requires : tie.Need-kind-at-requires Inv-loop μ-loop
 kind-at-requires c κs = search needs
@@ -32,23 +32,23 @@ leaf-requires c κs = search needs
 
 same-length : tie.Need-same-length Inv-loop μ-loop
 same-length c =
-  let leaf = c .before .before .before .before .leaf in
-  let loop = c .before .before .before .before .before .before .before .before .before .loop in
-  leaf .kept .1 .1 .0 ∙ loop .inv .same
+    let leaf = c .before .before .before .before .leaf in
+    let loop = c .before .before .before .before .before .before .before .before .before .loop in
+    leaf .kept .1 .1 .0 ∙ loop .inv .same
 
 returns : tie.Need-returns Inv-loop μ-loop
 returns c =
-  let a = c .before .before .before .before .before .before .before .before .before .before .before .before .before .args in
-  let loop = c .before .before .before .before .before .before .before .before .before .loop in
-  let loop-test = c .before .before .before .before .before .before .before .before .loop-test in
-  let leaf = c .before .before .before .before .leaf in
-  let kind-at = c .before .before .before .before .before .before .kind-at in
-  let visit = c .before .before .before .before .before .visit in
-  let k = sinkOf (a .m) in
-  let x = sourceOf (a .m) (a .v .now) in
-  let step = leaf .ensures ∙ ap (leafAt k x (kind-at .result)) (visit .ensures (a .m) (loop .table))
-  ∙ ap (λ (i : ℕ). leafAt k x i (begun k (stateOf (loop .d) (loop .table)))) (kind-at .ensures) in
-  stepping-stop k x (a .plan .kinds) (loop .inv) (loop-test .taken) step (c .if1 .taken)
+    let a = c .before .before .before .before .before .before .before .before .before .before .before .before .before .args in
+    let loop = c .before .before .before .before .before .before .before .before .before .loop in
+    let loop-test = c .before .before .before .before .before .before .before .before .loop-test in
+    let leaf = c .before .before .before .before .leaf in
+    let kind-at = c .before .before .before .before .before .before .kind-at in
+    let visit = c .before .before .before .before .before .visit in
+    let k = sinkOf (a .m) in
+    let x = sourceOf (a .m) (a .v .now) in
+    let step = leaf .ensures ∙ ap (leafAt k x (kind-at .result)) (visit .ensures (a .m) (loop .table))
+    ∙ ap (λ (i : ℕ). leafAt k x i (begun k (stateOf (loop .d) (loop .table)))) (kind-at .ensures) in
+    stepping-stop k x (a .plan .kinds) (loop .inv) (loop-test .taken) step (c .if1 .taken)
 
 add-k : tie.Need-add-k Inv-loop μ-loop
 add-k c = search (needs, c .before .before .before .before .before .before .before .before .before .before .before .before .before .good .1 .1 .1 .0)
@@ -58,25 +58,25 @@ loop-less c = omega arith
 
 loop-again : tie.Need-loop-again Inv-loop μ-loop
 loop-again c =
-  let a = c .before .before .before .before .before .before .before .before .before .before .before .before .before .args in
-  let loop = c .before .before .before .before .before .before .before .before .before .loop in
-  let loop-test = c .before .before .before .before .before .before .before .before .loop-test in
-  let leaf = c .before .before .before .before .leaf in
-  let kind-at = c .before .before .before .before .before .before .kind-at in
-  let visit = c .before .before .before .before .before .visit in
-  let k = sinkOf (a .m) in
-  let x = sourceOf (a .m) (a .v .now) in
-  let step = leaf .ensures ∙ ap (leafAt k x (kind-at .result)) (visit .ensures (a .m) (loop .table))
-  ∙ ap (λ (i : ℕ). leafAt k x i (begun k (stateOf (loop .d) (loop .table)))) (kind-at .ensures) in
-  stepping-more k x (a .plan .kinds) (loop .inv) (loop-test .taken) step (leaf .kept .1 .1 .0) (c .if1 .left)
+    let a = c .before .before .before .before .before .before .before .before .before .before .before .before .before .args in
+    let loop = c .before .before .before .before .before .before .before .before .before .loop in
+    let loop-test = c .before .before .before .before .before .before .before .before .loop-test in
+    let leaf = c .before .before .before .before .leaf in
+    let kind-at = c .before .before .before .before .before .before .kind-at in
+    let visit = c .before .before .before .before .before .visit in
+    let k = sinkOf (a .m) in
+    let x = sourceOf (a .m) (a .v .now) in
+    let step = leaf .ensures ∙ ap (leafAt k x (kind-at .result)) (visit .ensures (a .m) (loop .table))
+    ∙ ap (λ (i : ℕ). leafAt k x i (begun k (stateOf (loop .d) (loop .table)))) (kind-at .ensures) in
+    stepping-more k x (a .plan .kinds) (loop .inv) (loop-test .taken) step (leaf .kept .1 .1 .0) (c .if1 .left)
 
 same-length-2 : tie.Need-same-length-2 Inv-loop μ-loop
 same-length-2 c = c .before .loop .inv .same
 
 returns-2 : tie.Need-returns-2 Inv-loop μ-loop
 returns-2 c =
-  let a = c .before .before .before .before .before .args in
-  stepping-all (sinkOf (a .m)) (sourceOf (a .m) (a .v .now)) (a .plan .kinds) (c .before .loop .inv) (c .loop-test .left)
+    let a = c .before .before .before .before .before .args in
+    stepping-all (sinkOf (a .m)) (sourceOf (a .m) (a .v .now)) (a .plan .kinds) (c .before .loop .inv) (c .loop-test .left)
 
 pub plan-members-spec : {M : Type 1} → statement M
 plan-members-spec =

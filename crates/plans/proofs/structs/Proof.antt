@@ -26,18 +26,18 @@ plan-members-requires c κs = search needs
 
 same-length : tie.Need-same-length Inv-loop μ-loop
 same-length c =
-  let plan-members = c .before .before .before .before .plan-members in
-  let loop = c .before .before .before .before .before .before .before .before .loop in
-  plan-members .kept .1 .1 .0 ∙ loop .inv .same
+    let plan-members = c .before .before .before .before .plan-members in
+    let loop = c .before .before .before .before .before .before .before .before .loop in
+    plan-members .kept .1 .1 .0 ∙ loop .inv .same
 
 returns : tie.Need-returns Inv-loop μ-loop
 returns c =
-  let loop = c .before .before .before .before .before .before .before .before .loop in
-  let loop-test = c .before .before .before .before .before .before .before .loop-test in
-  let plan-members = c .before .before .before .before .plan-members in
-  let a = c .before .before .before .before .before .before .before .before .before .before .before .args in
-  let visit = c .before .before .before .before .before .visit in
-  going-stop (loop .inv) (loop-test .taken) (plan-members .ensures ∙ ap (planSteps (sinkOf (a .m)) (sourceOf (a .m) (a .v .now)) (a .plan .kinds) 0 (a .plan .count)) (visit .ensures (a .m) (loop .table))) (c .if1 .taken)
+    let loop = c .before .before .before .before .before .before .before .before .loop in
+    let loop-test = c .before .before .before .before .before .before .before .loop-test in
+    let plan-members = c .before .before .before .before .plan-members in
+    let a = c .before .before .before .before .before .before .before .before .before .before .before .args in
+    let visit = c .before .before .before .before .before .visit in
+    going-stop (loop .inv) (loop-test .taken) (plan-members .ensures ∙ ap (planSteps (sinkOf (a .m)) (sourceOf (a .m) (a .v .now)) (a .plan .kinds) 0 (a .plan .count)) (visit .ensures (a .m) (loop .table))) (c .if1 .taken)
 
 add-k : tie.Need-add-k Inv-loop μ-loop
 add-k c = search needs
@@ -47,12 +47,12 @@ loop-less c = omega arith
 
 loop-again : tie.Need-loop-again Inv-loop μ-loop
 loop-again c =
-  let loop = c .before .before .before .before .before .before .before .before .loop in
-  let loop-test = c .before .before .before .before .before .before .before .loop-test in
-  let plan-members = c .before .before .before .before .plan-members in
-  let a = c .before .before .before .before .before .before .before .before .before .before .before .args in
-  let visit = c .before .before .before .before .before .visit in
-  going-more (loop .inv) (loop-test .taken) (plan-members .ensures ∙ ap (planSteps (sinkOf (a .m)) (sourceOf (a .m) (a .v .now)) (a .plan .kinds) 0 (a .plan .count)) (visit .ensures (a .m) (loop .table))) (plan-members .kept .1 .1 .0) (c .if1 .left)
+    let loop = c .before .before .before .before .before .before .before .before .loop in
+    let loop-test = c .before .before .before .before .before .before .before .loop-test in
+    let plan-members = c .before .before .before .before .plan-members in
+    let a = c .before .before .before .before .before .before .before .before .before .before .before .args in
+    let visit = c .before .before .before .before .before .visit in
+    going-more (loop .inv) (loop-test .taken) (plan-members .ensures ∙ ap (planSteps (sinkOf (a .m)) (sourceOf (a .m) (a .v .now)) (a .plan .kinds) 0 (a .plan .count)) (visit .ensures (a .m) (loop .table))) (plan-members .kept .1 .1 .0) (c .if1 .left)
 
 same-length-2 : tie.Need-same-length-2 Inv-loop μ-loop
 same-length-2 c = c .before .loop .inv .same

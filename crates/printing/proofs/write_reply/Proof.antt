@@ -23,15 +23,15 @@ enum-told c = search needs
 
 array-share-prefix-head : tie.Need-array-share-prefix-head
 array-share-prefix-head c =
-  let put = c .before .before .before .before .put in
-  let a = c .before .before .before .before .before .before .before .before .before .args in
-  omega (arith, put .kept .0, head-end (a .reply) _ refl _ _ (put .ensures))
+    let put = c .before .before .before .before .put in
+    let a = c .before .before .before .before .before .before .before .before .before .args in
+    omega (arith, put .kept .0, head-end (a .reply) _ refl _ _ (put .ensures))
 
 slice-aggregate-write : tie.Need-slice-aggregate-write
 slice-aggregate-write c =
-  let put = c .before .before .before .before .before .put in
-  let a = c .before .before .before .before .before .before .before .before .before .before .args in
-  sym (length-take-le _ _ (omega (arith, put .kept .0, head-end (a .reply) _ refl _ _ (put .ensures))))
+    let put = c .before .before .before .before .before .put in
+    let a = c .before .before .before .before .before .before .before .before .before .before .args in
+    sym (length-take-le _ _ (omega (arith, put .kept .0, head-end (a .reply) _ refl _ _ (put .ensures))))
 
 write-requires : tie.Need-write-requires
 write-requires c κs = search needs
@@ -41,15 +41,15 @@ enum-told-2 c = search needs
 
 array-share-prefix-head-2 : tie.Need-array-share-prefix-head-2
 array-share-prefix-head-2 c =
-  let put = c .before .before .before .before .put in
-  let a = c .before .before .before .before .before .before .before .before .before .args in
-  omega (arith, put .kept .0, head-end (a .reply) _ refl _ _ (put .ensures))
+    let put = c .before .before .before .before .put in
+    let a = c .before .before .before .before .before .before .before .before .before .args in
+    omega (arith, put .kept .0, head-end (a .reply) _ refl _ _ (put .ensures))
 
 slice-aggregate-write-2 : tie.Need-slice-aggregate-write-2
 slice-aggregate-write-2 c =
-  let put = c .before .before .before .before .before .put in
-  let a = c .before .before .before .before .before .before .before .before .before .before .args in
-  sym (length-take-le _ _ (omega (arith, put .kept .0, head-end (a .reply) _ refl _ _ (put .ensures))))
+    let put = c .before .before .before .before .before .put in
+    let a = c .before .before .before .before .before .before .before .before .before .before .args in
+    sym (length-take-le _ _ (omega (arith, put .kept .0, head-end (a .reply) _ refl _ _ (put .ensures))))
 
 write-requires-2 : tie.Need-write-requires-2
 write-requires-2 c κs = search needs
@@ -59,15 +59,15 @@ enum-known-reply c = search needs
 
 array-share-prefix-head-3 : tie.Need-array-share-prefix-head-3
 array-share-prefix-head-3 c =
-  let put = c .before .before .before .before .before .put in
-  let a = c .before .before .before .before .before .before .before .before .before .before .args in
-  omega (arith, put .kept .0, head-end (a .reply) _ refl _ _ (put .ensures))
+    let put = c .before .before .before .before .before .put in
+    let a = c .before .before .before .before .before .before .before .before .before .before .args in
+    omega (arith, put .kept .0, head-end (a .reply) _ refl _ _ (put .ensures))
 
 slice-aggregate-write-3 : tie.Need-slice-aggregate-write-3
 slice-aggregate-write-3 c =
-  let put = c .before .before .before .before .before .before .put in
-  let a = c .before .before .before .before .before .before .before .before .before .before .before .args in
-  sym (length-take-le _ _ (omega (arith, put .kept .0, head-end (a .reply) _ refl _ _ (put .ensures))))
+    let put = c .before .before .before .before .before .before .put in
+    let a = c .before .before .before .before .before .before .before .before .before .before .before .args in
+    sym (length-take-le _ _ (omega (arith, put .kept .0, head-end (a .reply) _ refl _ _ (put .ensures))))
 
 write-requires-3 : tie.Need-write-requires-3
 write-requires-3 c κs = search needs
@@ -77,15 +77,15 @@ enum-known-reply-2 c = search needs
 
 array-share-prefix-head-4 : tie.Need-array-share-prefix-head-4
 array-share-prefix-head-4 c =
-  let put = c .before .before .before .before .before .put in
-  let a = c .before .before .before .before .before .before .before .before .before .before .args in
-  omega (arith, put .kept .0, head-end (a .reply) _ refl _ _ (put .ensures))
+    let put = c .before .before .before .before .before .put in
+    let a = c .before .before .before .before .before .before .before .before .before .before .args in
+    omega (arith, put .kept .0, head-end (a .reply) _ refl _ _ (put .ensures))
 
 slice-aggregate-write-4 : tie.Need-slice-aggregate-write-4
 slice-aggregate-write-4 c =
-  let put = c .before .before .before .before .before .before .put in
-  let a = c .before .before .before .before .before .before .before .before .before .before .before .args in
-  sym (length-take-le _ _ (omega (arith, put .kept .0, head-end (a .reply) _ refl _ _ (put .ensures))))
+    let put = c .before .before .before .before .before .before .put in
+    let a = c .before .before .before .before .before .before .before .before .before .before .before .args in
+    sym (length-take-le _ _ (omega (arith, put .kept .0, head-end (a .reply) _ refl _ _ (put .ensures))))
 
 octets-in-requires : tie.Need-octets-in-requires
 octets-in-requires c κs = search needs
@@ -95,15 +95,15 @@ write-requires-4 c κs = search needs
 
 array-share-prefix-head-5 : tie.Need-array-share-prefix-head-5
 array-share-prefix-head-5 c =
-  let put = c .before .before .before .put in
-  let a = c .before .before .before .before .before .before .before .before .args in
-  omega (arith, put .kept .0, head-end (a .reply) _ refl _ _ (put .ensures))
+    let put = c .before .before .before .put in
+    let a = c .before .before .before .before .before .before .before .before .args in
+    omega (arith, put .kept .0, head-end (a .reply) _ refl _ _ (put .ensures))
 
 slice-aggregate-write-octets : tie.Need-slice-aggregate-write-octets
 slice-aggregate-write-octets c =
-  let put = c .before .before .before .before .put in
-  let a = c .before .before .before .before .before .before .before .before .before .args in
-  sym (length-take-le _ _ (omega (arith, put .kept .0, head-end (a .reply) _ refl _ _ (put .ensures))))
+    let put = c .before .before .before .before .put in
+    let a = c .before .before .before .before .before .before .before .before .before .args in
+    sym (length-take-le _ _ (omega (arith, put .kept .0, head-end (a .reply) _ refl _ _ (put .ensures))))
 
 write-octets-requires : tie.Need-write-octets-requires
 write-octets-requires c κs = search needs
@@ -113,11 +113,11 @@ same-length c = search needs
 
 returns : tie.Need-returns
 returns c =
-  let a = c .before .before .before .before .before .before .before .before .before .before .before .before .before .args in
-  let write = c .before .before .write in
-  let put = c .before .before .before .before .before .before .before .before .put in
-  let match = c .before .before .before .before .before .before .match in
-  subst (λ (xs : List ℕ). Stored (a .out .now) (a .at) xs (write .result) (write .last .0))
+    let a = c .before .before .before .before .before .before .before .before .before .before .before .before .before .args in
+    let write = c .before .before .write in
+    let put = c .before .before .before .before .before .before .before .before .put in
+    let match = c .before .before .before .before .before .before .match in
+    subst (λ (xs : List ℕ). Stored (a .out .now) (a .at) xs (write .result) (write .last .0))
     (ap (λ (xs : List ℕ). xs ++ itemsText (itemsOf (a .items .now))) (head-is (a .reply) _ refl _ _ (put .ensures)) ∙ read-text (a .reply) (itemsOf (a .items .now)) (a .octets .now) (match .keys1))
     (write .ensures)
 
@@ -126,11 +126,11 @@ same-length-2 c = search needs
 
 returns-2 : tie.Need-returns-2
 returns-2 c =
-  let a = c .before .before .before .before .before .before .before .before .before .before .before .before .before .args in
-  let write2 = c .before .before .write2 in
-  let put = c .before .before .before .before .before .before .before .before .put in
-  let match = c .before .before .before .before .before .before .match in
-  subst (λ (xs : List ℕ). Stored (a .out .now) (a .at) xs (write2 .result) (write2 .last .0))
+    let a = c .before .before .before .before .before .before .before .before .before .before .before .before .before .args in
+    let write2 = c .before .before .write2 in
+    let put = c .before .before .before .before .before .before .before .before .put in
+    let match = c .before .before .before .before .before .before .match in
+    subst (λ (xs : List ℕ). Stored (a .out .now) (a .at) xs (write2 .result) (write2 .last .0))
     (ap (λ (xs : List ℕ). xs ++ octetsText (a .octets .now) lf) (head-is (a .reply) _ refl _ _ (put .ensures)) ∙ rewritten-text (a .reply) (itemsOf (a .items .now)) (a .octets .now) (match .keys2))
     (write2 .ensures)
 
@@ -139,11 +139,11 @@ same-length-3 c = search needs
 
 returns-3 : tie.Need-returns-3
 returns-3 c =
-  let a = c .before .before .before .before .before .before .before .before .before .before .before .before .before .before .args in
-  let write3 = c .before .before .write3 in
-  let reply = c .before .before .before .before .before .before .reply in
-  let put = c .before .before .before .before .before .before .before .before .before .put in
-  subst (λ (xs : List ℕ). Stored (a .out .now) (a .at) xs (write3 .result) (write3 .last .0))
+    let a = c .before .before .before .before .before .before .before .before .before .before .before .before .before .before .args in
+    let write3 = c .before .before .write3 in
+    let reply = c .before .before .before .before .before .before .reply in
+    let put = c .before .before .before .before .before .before .before .before .before .put in
+    subst (λ (xs : List ℕ). Stored (a .out .now) (a .at) xs (write3 .result) (write3 .last .0))
     (ap (λ (xs : List ℕ). xs ++ saidText (reply .given .0 .0) (a .octets .now)) (head-is (a .reply) _ refl _ _ (put .ensures)) ∙ profiled-text (a .reply) (itemsOf (a .items .now)) (a .octets .now) _ _ (reply .given .1))
     (write3 .ensures)
 
@@ -152,12 +152,12 @@ same-length-4 c = search needs
 
 returns-4 : tie.Need-returns-4
 returns-4 c =
-  let a = c .before .before .before .before .before .before .before .before .before .before .before .before .before .before .before .args in
-  let write4 = c .before .before .write4 in
-  let octets-in = c .before .before .before .octets-in in
-  let put = c .before .before .before .before .before .before .before .before .before .before .put in
-  let reply2 = c .before .before .before .before .before .before .before .reply2 in
-  subst (λ (xs : List ℕ). Stored (a .out .now) (a .at) xs (write4 .result) (write4 .last .0))
+    let a = c .before .before .before .before .before .before .before .before .before .before .before .before .before .before .before .args in
+    let write4 = c .before .before .write4 in
+    let octets-in = c .before .before .before .octets-in in
+    let put = c .before .before .before .before .before .before .before .before .before .before .put in
+    let reply2 = c .before .before .before .before .before .before .before .reply2 in
+    subst (λ (xs : List ℕ). Stored (a .out .now) (a .at) xs (write4 .result) (write4 .last .0))
     (ap (λ (xs : List ℕ). xs ++ octetsText (octets-in .result .now) lf) (head-is (a .reply) _ refl _ _ (put .ensures)) ∙ ap (λ (ys : List ℕ). headText (a .reply) ++ octetsText ys lf) (octets-in .ensures) ∙ component-text (a .reply) (itemsOf (a .items .now)) (a .octets .now) _ _ _ (reply2 .given .1))
     (write4 .ensures)
 
@@ -166,11 +166,11 @@ same-length-5 c = search needs
 
 returns-5 : tie.Need-returns-5
 returns-5 c =
-  let a = c .before .before .before .before .before .before .before .before .before .before .before .before .args in
-  let write-octets = c .before .before .write-octets in
-  let put = c .before .before .before .before .before .before .before .put in
-  let match = c .before .before .before .before .before .match in
-  subst (λ (xs : List ℕ). Stored (a .out .now) (a .at) xs (write-octets .result) (write-octets .last .0))
+    let a = c .before .before .before .before .before .before .before .before .before .before .before .before .args in
+    let write-octets = c .before .before .write-octets in
+    let put = c .before .before .before .before .before .before .before .put in
+    let match = c .before .before .before .before .before .match in
+    subst (λ (xs : List ℕ). Stored (a .out .now) (a .at) xs (write-octets .result) (write-octets .last .0))
     (head-is (a .reply) _ refl _ _ (put .ensures) ∙ other-text (a .reply) (itemsOf (a .items .now)) (a .octets .now) (match .keys5))
     (write-octets .ensures)
 

@@ -19,14 +19,14 @@ enum-known-refusal c = search needs
 
 returns : tie.Need-returns
 returns c =
-  let a = c .before .before .before .before .before .before .args in
-  let read = c .before .before .before .before .read in
-  c .component-then .ensures ∙ sym (component-is (a .s .now) (a .number) _ (sym (read .ensures) ∙ c .before .before .profile .given .1))
+    let a = c .before .before .before .before .before .before .args in
+    let read = c .before .before .before .before .read in
+    c .component-then .ensures ∙ sym (component-is (a .s .now) (a .number) _ (sym (read .ensures) ∙ c .before .before .profile .given .1))
 
 returns-2 : tie.Need-returns-2
 returns-2 c =
-  let a = c .before .before .before .before .before .args in
-  sym (component-is (a .s .now) (a .number) _ (sym (c .before .before .before .read .ensures) ∙ c .before .refusal .given .1))
+    let a = c .before .before .before .before .before .args in
+    sym (component-is (a .s .now) (a .number) _ (sym (c .before .before .before .read .ensures) ∙ c .before .refusal .given .1))
 
 pub component-spec : {M : Type 1} → statement M
 component-spec =

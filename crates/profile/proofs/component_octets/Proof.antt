@@ -28,14 +28,14 @@ part-result-end c = search needs
 
 returns : tie.Need-returns
 returns c =
-  let a = c .before .before .before .before .before .before .args in
-  let component = c .before .before .before .before .component in
-  c .octets-in .ensures ∙ sym (component-octets-are (a .s .now) (a .number) _ (sym (component .ensures) ∙ c .before .before .octets .given .1))
+    let a = c .before .before .before .before .before .before .args in
+    let component = c .before .before .before .before .component in
+    c .octets-in .ensures ∙ sym (component-octets-are (a .s .now) (a .number) _ (sym (component .ensures) ∙ c .before .before .octets .given .1))
 
 returns-2 : tie.Need-returns-2
 returns-2 c =
-  let a = c .before .before .before .before .before .args in
-  sym (component-octets-are (a .s .now) (a .number) _ (sym (c .before .before .before .component .ensures) ∙ c .before .enum-told .given .1))
+    let a = c .before .before .before .before .before .args in
+    sym (component-octets-are (a .s .now) (a .number) _ (sym (c .before .before .before .component .ensures) ∙ c .before .enum-told .given .1))
 
 pub component-octets-spec : {M : Type 1} → statement M
 component-octets-spec =

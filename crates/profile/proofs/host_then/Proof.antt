@@ -19,14 +19,14 @@ enum-known-refusal c = search needs
 
 returns : tie.Need-returns
 returns c =
-  let a = c .before .before .before .before .before .before .args in
-  let host-at = c .before .before .before .before .host-at in
-  c .port-then .ensures ∙ sym (host-then-is (a .s .now) (a .head) (a .at) _ (sym (host-at .ensures) ∙ c .before .before .from .given .1))
+    let a = c .before .before .before .before .before .before .args in
+    let host-at = c .before .before .before .before .host-at in
+    c .port-then .ensures ∙ sym (host-then-is (a .s .now) (a .head) (a .at) _ (sym (host-at .ensures) ∙ c .before .before .from .given .1))
 
 returns-2 : tie.Need-returns-2
 returns-2 c =
-  let a = c .before .before .before .before .before .args in
-  sym (host-then-is (a .s .now) (a .head) (a .at) _ (sym (c .before .before .before .host-at .ensures) ∙ c .before .refusal .given .1))
+    let a = c .before .before .before .before .before .args in
+    sym (host-then-is (a .s .now) (a .head) (a .at) _ (sym (c .before .before .before .host-at .ensures) ∙ c .before .refusal .given .1))
 
 pub host-then-spec : {M : Type 1} → statement M
 host-then-spec =

@@ -28,14 +28,14 @@ part-result-end c = search needs
 
 returns : tie.Need-returns
 returns c =
-  let a = c .before .before .before .before .before .before .args in
-  let read = c .before .before .before .before .read in
-  c .octets-in .ensures ∙ sym (key-octets-are (a .s .now) _ (sym (read .ensures) ∙ c .before .before .profile .given .1))
+    let a = c .before .before .before .before .before .before .args in
+    let read = c .before .before .before .before .read in
+    c .octets-in .ensures ∙ sym (key-octets-are (a .s .now) _ (sym (read .ensures) ∙ c .before .before .profile .given .1))
 
 returns-2 : tie.Need-returns-2
 returns-2 c =
-  let a = c .before .before .before .before .before .args in
-  sym (key-octets-are (a .s .now) _ (sym (c .before .before .before .read .ensures) ∙ c .before .enum-told .given .1))
+    let a = c .before .before .before .before .before .args in
+    sym (key-octets-are (a .s .now) _ (sym (c .before .before .before .read .ensures) ∙ c .before .enum-told .given .1))
 
 pub key-spec : {M : Type 1} → statement M
 key-spec =

@@ -19,14 +19,14 @@ enum-known-refusal c = search needs
 
 returns : tie.Need-returns
 returns c =
-  let a = c .before .before .before .before .before .before .args in
-  let key-at = c .before .before .before .before .key-at in
-  c .list-then .ensures ∙ sym (key-then-is (a .s .now) (a .head) (a .host) (a .port) (a .at) _ (sym (key-at .ensures) ∙ c .before .before .from .given .1))
+    let a = c .before .before .before .before .before .before .args in
+    let key-at = c .before .before .before .before .key-at in
+    c .list-then .ensures ∙ sym (key-then-is (a .s .now) (a .head) (a .host) (a .port) (a .at) _ (sym (key-at .ensures) ∙ c .before .before .from .given .1))
 
 returns-2 : tie.Need-returns-2
 returns-2 c =
-  let a = c .before .before .before .before .before .args in
-  sym (key-then-is (a .s .now) (a .head) (a .host) (a .port) (a .at) _ (sym (c .before .before .before .key-at .ensures) ∙ c .before .refusal .given .1))
+    let a = c .before .before .before .before .before .args in
+    sym (key-then-is (a .s .now) (a .head) (a .host) (a .port) (a .at) _ (sym (c .before .before .before .key-at .ensures) ∙ c .before .refusal .given .1))
 
 pub key-then-spec : {M : Type 1} → statement M
 key-then-spec =

@@ -16,13 +16,13 @@ enum-known-refusal c = search needs
 
 returns : tie.Need-returns
 returns c =
-  let a = c .before .before .before .before .before .args in
-  sym (list-then-is (a .s .now) (a .head) (a .host) (a .port) (a .key) (a .at) _ (sym (c .before .before .before .list-at .ensures) ∙ c .before .count .given .1))
+    let a = c .before .before .before .before .before .args in
+    sym (list-then-is (a .s .now) (a .head) (a .host) (a .port) (a .key) (a .at) _ (sym (c .before .before .before .list-at .ensures) ∙ c .before .count .given .1))
 
 returns-2 : tie.Need-returns-2
 returns-2 c =
-  let a = c .before .before .before .before .before .args in
-  sym (list-then-is (a .s .now) (a .head) (a .host) (a .port) (a .key) (a .at) _ (sym (c .before .before .before .list-at .ensures) ∙ c .before .refusal .given .1))
+    let a = c .before .before .before .before .before .args in
+    sym (list-then-is (a .s .now) (a .head) (a .host) (a .port) (a .key) (a .at) _ (sym (c .before .before .before .list-at .ensures) ∙ c .before .refusal .given .1))
 
 pub list-then-spec : {M : Type 1} → statement M
 list-then-spec =

@@ -17,8 +17,8 @@ part-result-end c = search needs
 
 returns : tie.Need-returns
 returns c =
-  let a = c .before .before .args in
-  let h = c .before .if1 .taken in sym (octets-none (a .s .now) (a .part) (omega (arith, h)))
+    let a = c .before .before .args in
+    let h = c .before .if1 .taken in sym (octets-none (a .s .now) (a .part) (omega (arith, h)))
 
 sub-if2 : tie.Need-sub-if2
 sub-if2 c = search needs
@@ -34,8 +34,8 @@ part-result-end-2 c = search needs
 
 returns-2 : tie.Need-returns-2
 returns-2 c =
-  let a = c .before .before .before .args in
-  sym (octets-rest (a .s .now) (a .part) (c .before .if2 .taken))
+    let a = c .before .before .before .args in
+    sym (octets-rest (a .s .now) (a .part) (c .before .if2 .taken))
 
 add-result : tie.Need-add-result
 add-result c = search needs
@@ -51,8 +51,8 @@ part-result-end-3 c = search needs
 
 returns-3 : tie.Need-returns-3
 returns-3 c =
-  let a = c .before .before .before .args in
-  sym (octets-all (a .s .now) (a .part))
+    let a = c .before .before .before .args in
+    sym (octets-all (a .s .now) (a .part))
 
 pub octets-in-spec : {M : Type 1} → statement M
 octets-in-spec =

@@ -19,14 +19,14 @@ enum-known-refusal c = search needs
 
 returns : tie.Need-returns
 returns c =
-  let a = c .before .before .before .before .before .before .args in
-  let port-at = c .before .before .before .before .port-at in
-  c .key-then .ensures ∙ sym (port-then-is (a .s .now) (a .head) (a .host) (a .at) _ (sym (port-at .ensures) ∙ c .before .before .value .given .1))
+    let a = c .before .before .before .before .before .before .args in
+    let port-at = c .before .before .before .before .port-at in
+    c .key-then .ensures ∙ sym (port-then-is (a .s .now) (a .head) (a .host) (a .at) _ (sym (port-at .ensures) ∙ c .before .before .value .given .1))
 
 returns-2 : tie.Need-returns-2
 returns-2 c =
-  let a = c .before .before .before .before .before .args in
-  sym (port-then-is (a .s .now) (a .head) (a .host) (a .at) _ (sym (c .before .before .before .port-at .ensures) ∙ c .before .refusal .given .1))
+    let a = c .before .before .before .before .before .args in
+    sym (port-then-is (a .s .now) (a .head) (a .host) (a .at) _ (sym (c .before .before .before .port-at .ensures) ∙ c .before .refusal .given .1))
 
 pub port-then-spec : {M : Type 1} → statement M
 port-then-spec =

@@ -22,16 +22,16 @@ enum-known-refusal c = search needs
 
 returns-2 : tie.Need-returns-2
 returns-2 c =
-  let a = c .before .before .before .before .before .before .before .args in
-  let if1 = c .before .before .before .before .before .if1 in
-  let order-at = c .before .before .before .before .order-at in
-  c .version-then .ensures ∙ sym (profile-is (a .s .now) (if1 .left) _ (sym (order-at .ensures) ∙ c .before .before .order .given .1))
+    let a = c .before .before .before .before .before .before .before .args in
+    let if1 = c .before .before .before .before .before .if1 in
+    let order-at = c .before .before .before .before .order-at in
+    c .version-then .ensures ∙ sym (profile-is (a .s .now) (if1 .left) _ (sym (order-at .ensures) ∙ c .before .before .order .given .1))
 
 returns-3 : tie.Need-returns-3
 returns-3 c =
-  let a = c .before .before .before .before .before .before .args in
-  let if1 = c .before .before .before .before .if1 in
-  sym (profile-is (a .s .now) (if1 .left) _ (sym (c .before .before .before .order-at .ensures) ∙ c .before .refusal .given .1))
+    let a = c .before .before .before .before .before .before .args in
+    let if1 = c .before .before .before .before .if1 in
+    sym (profile-is (a .s .now) (if1 .left) _ (sym (c .before .before .before .order-at .ensures) ∙ c .before .refusal .given .1))
 
 pub read-spec : {M : Type 1} → statement M
 read-spec =

@@ -19,14 +19,14 @@ enum-known-refusal c = search needs
 
 returns : tie.Need-returns
 returns c =
-  let a = c .before .before .before .before .before .before .args in
-  let version-at = c .before .before .before .before .version-at in
-  c .host-then .ensures ∙ sym (version-then-is (a .s .now) (a .order) (a .at) _ (sym (version-at .ensures) ∙ c .before .before .major .given .1))
+    let a = c .before .before .before .before .before .before .args in
+    let version-at = c .before .before .before .before .version-at in
+    c .host-then .ensures ∙ sym (version-then-is (a .s .now) (a .order) (a .at) _ (sym (version-at .ensures) ∙ c .before .before .major .given .1))
 
 returns-2 : tie.Need-returns-2
 returns-2 c =
-  let a = c .before .before .before .before .before .args in
-  sym (version-then-is (a .s .now) (a .order) (a .at) _ (sym (c .before .before .before .version-at .ensures) ∙ c .before .refusal .given .1))
+    let a = c .before .before .before .before .before .args in
+    sym (version-then-is (a .s .now) (a .order) (a .at) _ (sym (c .before .before .before .version-at .ensures) ∙ c .before .refusal .given .1))
 
 pub version-then-spec : {M : Type 1} → statement M
 version-then-spec =

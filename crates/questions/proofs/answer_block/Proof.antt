@@ -27,23 +27,23 @@ goes-on-requires c κs = search needs
 
 turn-requires : tie.Need-turn-requires Inv-loop μ-loop
 turn-requires c κs =
-  let goes-on = c .before .before .before .before .goes-on in
-  goes-on .ensures .0 (c .before .before .before .if1 .taken)
+    let goes-on = c .before .before .before .before .goes-on in
+    goes-on .ensures .0 (c .before .before .before .if1 .taken)
 
 loop-less : tie.Need-loop-less Inv-loop μ-loop
 loop-less c =
-  let turn = c .before .before .before .before .before .before .turn in
-  let goes-on = c .before .before .before .before .before .before .before .before .before .before .before .goes-on in
-  let if1 = c .before .before .before .before .before .before .before .before .before .before .if1 in
-  omega (arith, turn .ensures .on, goes-on .ensures .0 (if1 .taken) .more)
+    let turn = c .before .before .before .before .before .before .turn in
+    let goes-on = c .before .before .before .before .before .before .before .before .before .before .before .goes-on in
+    let if1 = c .before .before .before .before .before .before .before .before .before .before .if1 in
+    omega (arith, turn .ensures .on, goes-on .ensures .0 (if1 .taken) .more)
 
 loop-again : tie.Need-loop-again Inv-loop μ-loop
 loop-again c =
-  let loop = c .before .before .before .before .before .before .before .before .before .before .before .before .loop in
-  let turn = c .before .before .before .before .before .before .turn in
-  let goes-on = c .before .before .before .before .before .before .before .before .before .before .before .goes-on in
-  let if1 = c .before .before .before .before .before .before .before .before .before .before .if1 in
-  going-turn (loop .inv) (goes-on .ensures .0 (if1 .taken)) (turn .ensures) (turn .kept .1 .1 .1 .0)
+    let loop = c .before .before .before .before .before .before .before .before .before .before .before .before .loop in
+    let turn = c .before .before .before .before .before .before .turn in
+    let goes-on = c .before .before .before .before .before .before .before .before .before .before .before .goes-on in
+    let if1 = c .before .before .before .before .before .before .before .before .before .before .if1 in
+    going-turn (loop .inv) (goes-on .ensures .0 (if1 .taken)) (turn .ensures) (turn .kept .1 .1 .1 .0)
 
 same-length : tie.Need-same-length Inv-loop μ-loop
 same-length c = c .before .before .loop .inv .onto .lined
@@ -56,9 +56,9 @@ same-length-3 c = c .before .before .loop .inv .tabled
 
 returns : tie.Need-returns Inv-loop μ-loop
 returns c =
-  let a = c .before .before .before .before .before .before .before .before .args in
-  let loop = c .before .before .loop in
-  let o = a in
+    let a = c .before .before .before .before .before .before .before .before .args in
+    let loop = c .before .before .loop in
+    let o = a in
     block-answered (o .block .now) (o .from) (o .line .now) (o .out .now) (o .table .now) (o .kept) _ _ _ _ _
     (ap (λ (n : ℕ). record { kept = o .kept; next = n; filled = 0 }) (c .before .before .before .least .ensures)) (loop .inv)
     (c .before .goes-on .ensures .1 (c .if1 .left))

@@ -31,18 +31,18 @@ slice-reshare-prefix-write-reply c = search needs
 
 slice-aggregate-write-reply : tie.Need-slice-aggregate-write-reply
 slice-aggregate-write-reply c =
-  let reply-to = c .before .before .before .before .before .before .before .reply-to in
-  sym (length-take-le _ _ (omega (arith, c .before .before .before .numbers-of .ensures, reply-to .ensures .0 .within)))
+    let reply-to = c .before .before .before .before .before .before .before .reply-to in
+    sym (length-take-le _ _ (omega (arith, c .before .before .before .numbers-of .ensures, reply-to .ensures .0 .within)))
 
 array-share-prefix-memory : tie.Need-array-share-prefix-memory
 array-share-prefix-memory c =
-  let reply-to = c .before .before .before .before .before .before .before .reply-to in
-  omega (arith, c .before .before .octets-of .ensures, reply-to .ensures .1 .within)
+    let reply-to = c .before .before .before .before .before .before .before .reply-to in
+    omega (arith, c .before .before .octets-of .ensures, reply-to .ensures .1 .within)
 
 slice-aggregate-write-reply-2 : tie.Need-slice-aggregate-write-reply-2
 slice-aggregate-write-reply-2 c =
-  let reply-to = c .before .before .before .before .before .before .before .before .reply-to in
-  sym (length-take-le _ _ (omega (arith, c .before .before .before .octets-of .ensures, reply-to .ensures .1 .within)))
+    let reply-to = c .before .before .before .before .before .before .before .before .reply-to in
+    sym (length-take-le _ _ (omega (arith, c .before .before .before .octets-of .ensures, reply-to .ensures .1 .within)))
 
 write-reply-requires : tie.Need-write-reply-requires
 write-reply-requires c κs = search needs
@@ -55,17 +55,18 @@ same-length-2 c = search needs
 
 returns : tie.Need-returns
 returns c =
-  let a = c .before .before .before .before .before .before .before .before .before .before .before .before .before .before .before .before .before .args in
-  let write-reply = c .before .before .write-reply in
-  let reply-to = c .before .before .before .before .before .before .before .before .before .before .before .reply-to in
-  let octets-of = c .before .before .before .before .before .before .octets-of in
-  let numbers-of = c .before .before .before .before .before .before .before .numbers-of in
-  (subst (λ (xs : List ℕ). Stored (a .out .now) (a .at) xs (write-reply .result) (write-reply .last .0))
-    (ap (λ (k : ℕ). replyText (reply-to .result) (itemsOf (take k (reply-to .last .1 .0))) (take (octets-of .result) (reply-to .last .1 .1 .0))) (numbers-of .ensures)
-    ∙ ap (λ (k : ℕ). replyText (reply-to .result) (itemsOf (take (numbersOf (reply-to .result)) (reply-to .last .1 .0))) (take k (reply-to .last .1 .1 .0))) (octets-of .ensures)
-    ∙ replied-text (a .line .now) _ _ _ _ (reply-to .ensures .0) (reply-to .ensures .1))
-    (write-reply .ensures),
-    reply-to .ensures .0 .filled)
+    let a = c .before .before .before .before .before .before .before .before .before .before .before .before .before .before .before .before .before .args in
+    let write-reply = c .before .before .write-reply in
+    let reply-to = c .before .before .before .before .before .before .before .before .before .before .before .reply-to in
+    let octets-of = c .before .before .before .before .before .before .octets-of in
+    let numbers-of = c .before .before .before .before .before .before .before .numbers-of in (
+      subst (λ (xs : List ℕ). Stored (a .out .now) (a .at) xs (write-reply .result) (write-reply .last .0))
+          (ap (λ (k : ℕ). replyText (reply-to .result) (itemsOf (take k (reply-to .last .1 .0))) (take (octets-of .result) (reply-to .last .1 .1 .0))) (numbers-of .ensures)
+          ∙ ap (λ (k : ℕ). replyText (reply-to .result) (itemsOf (take (numbersOf (reply-to .result)) (reply-to .last .1 .0))) (take k (reply-to .last .1 .1 .0))) (octets-of .ensures)
+          ∙ replied-text (a .line .now) _ _ _ _ (reply-to .ensures .0) (reply-to .ensures .1))
+          (write-reply .ensures),
+      reply-to .ensures .0 .filled,
+    )
 
 pub answer-line-spec : {M : Type 1} → statement M
 answer-line-spec =

@@ -9,16 +9,16 @@ use Rattle.questions.proofs.reply_to.Tie as tie
 
 returns : tie.Need-returns
 returns c =
-  let a = c .before .before .before .before .args in
-  line-over (a .line .now) _ _ _ (c .if1 .taken) refl
+    let a = c .before .before .before .before .args in
+    line-over (a .line .now) _ _ _ (c .if1 .taken) refl
 
 first-end-requires : tie.Need-first-end-requires
 first-end-requires c κs = search needs
 
 returns-2 : tie.Need-returns-2
 returns-2 c =
-  let a = c .before .before .before .before .before .before .args in
-  line-alone (a .line .now) _ _ _ (c .before .before .if1 .left) _ (c .before .first-end .ensures) (omega (arith, c .if2 .taken)) refl
+    let a = c .before .before .before .before .before .before .args in
+    line-alone (a .line .now) _ _ _ (c .before .before .if1 .left) _ (c .before .first-end .ensures) (omega (arith, c .if2 .taken)) refl
 
 slice-aggregate-reply-words : tie.Need-slice-aggregate-reply-words
 slice-aggregate-reply-words c = sym (length-take-le _ _ (omega (arith, c .before .before .first-end .ensures .within)))
@@ -46,12 +46,12 @@ same-length-2 c = search needs
 
 returns-3 : tie.Need-returns-3
 returns-3 c =
-  let a = c .before .before .before .before .before .before .before .before .before .before .before .before .before .before .before .args in
-  let if1 = c .before .before .before .before .before .before .before .before .before .before .before .if1 in
-  let first-end = c .before .before .before .before .before .before .before .before .before .before .first-end in
-  let if2 = c .before .before .before .before .before .before .before .before .before .if2 in
-  let reply-words = c .before .before .before .before .reply-words in
-  line-words (a .line .now) _ _ _ (if1 .left) _ (first-end .ensures) (omega (arith, if2 .left, first-end .ensures .within)) _ (reply-words .ensures)
+    let a = c .before .before .before .before .before .before .before .before .before .before .before .before .before .before .before .args in
+    let if1 = c .before .before .before .before .before .before .before .before .before .before .before .if1 in
+    let first-end = c .before .before .before .before .before .before .before .before .before .before .first-end in
+    let if2 = c .before .before .before .before .before .before .before .before .before .if2 in
+    let reply-words = c .before .before .before .before .reply-words in
+    line-words (a .line .now) _ _ _ (if1 .left) _ (first-end .ensures) (omega (arith, if2 .left, first-end .ensures .within)) _ (reply-words .ensures)
 
 pub reply-to-spec : {M : Type 1} → statement M
 reply-to-spec =

@@ -16,8 +16,8 @@ reply-type-requires c κs = search needs
 
 returns : tie.Need-returns
 returns c =
-  let a = c .before .before .before .before .before .before .before .before .args in
-  word-type (a .word .now) _ _ _ _ (sym (c .before .if1 .taken) ∙ c .before .before .same .ensures) (c .reply-type .ensures)
+    let a = c .before .before .before .before .before .before .before .before .args in
+    word-type (a .word .now) _ _ _ _ (sym (c .before .if1 .taken) ∙ c .before .before .same .ensures) (c .reply-type .ensures)
 
 slice-aggregate-same-2 : tie.Need-slice-aggregate-same-2
 slice-aggregate-same-2 c = search needs
@@ -33,12 +33,12 @@ same-length c = search needs
 
 returns-2 : tie.Need-returns-2
 returns-2 c =
-  let a = c .before .before .before .before .before .before .before .before .before .before .before .before .before .before .args in
-  let if1 = c .before .before .before .before .before .before .before .if1 in
-  let same = c .before .before .before .before .before .before .before .before .same in
-  let if2 = c .before .before .before .before .if2 in
-  let same2 = c .before .before .before .before .before .same2 in
-  word-value (a .word .now) _ _ _ _ (sym (if1 .left) ∙ same .ensures) (sym (if2 .taken) ∙ same2 .ensures) _ (c .before .before .reply-value .ensures)
+    let a = c .before .before .before .before .before .before .before .before .before .before .before .before .before .before .args in
+    let if1 = c .before .before .before .before .before .before .before .if1 in
+    let same = c .before .before .before .before .before .before .before .before .same in
+    let if2 = c .before .before .before .before .if2 in
+    let same2 = c .before .before .before .before .before .same2 in
+    word-value (a .word .now) _ _ _ _ (sym (if1 .left) ∙ same .ensures) (sym (if2 .taken) ∙ same2 .ensures) _ (c .before .before .reply-value .ensures)
 
 slice-aggregate-same-3 : tie.Need-slice-aggregate-same-3
 slice-aggregate-same-3 c = search needs
@@ -51,12 +51,12 @@ reply-item-requires c κs = search needs
 
 returns-3 : tie.Need-returns-3
 returns-3 c =
-  let a = c .before .before .before .before .before .before .before .before .before .before .before .before .before .before .args in
-  let if1 = c .before .before .before .before .before .before .before .if1 in
-  let same = c .before .before .before .before .before .before .before .before .same in
-  let if2 = c .before .before .before .before .if2 in
-  let same2 = c .before .before .before .before .before .same2 in
-  word-item (a .word .now) _ _ _ _ (sym (if1 .left) ∙ same .ensures) (sym (if2 .left) ∙ same2 .ensures) (sym (c .before .if3 .taken) ∙ c .before .before .same3 .ensures) (c .reply-item .ensures)
+    let a = c .before .before .before .before .before .before .before .before .before .before .before .before .before .before .args in
+    let if1 = c .before .before .before .before .before .before .before .if1 in
+    let same = c .before .before .before .before .before .before .before .before .same in
+    let if2 = c .before .before .before .before .if2 in
+    let same2 = c .before .before .before .before .before .same2 in
+    word-item (a .word .now) _ _ _ _ (sym (if1 .left) ∙ same .ensures) (sym (if2 .left) ∙ same2 .ensures) (sym (c .before .if3 .taken) ∙ c .before .before .same3 .ensures) (c .reply-item .ensures)
 
 slice-aggregate-same-4 : tie.Need-slice-aggregate-same-4
 slice-aggregate-same-4 c = search needs
@@ -72,16 +72,16 @@ same-length-2 c = search needs
 
 returns-4 : tie.Need-returns-4
 returns-4 c =
-  let a = c .before .before .before .before .before .before .before .before .before .before .before .before .before .before .before .before .before .before .before .before .args in
-  let if1 = c .before .before .before .before .before .before .before .before .before .before .before .before .before .if1 in
-  let same = c .before .before .before .before .before .before .before .before .before .before .before .before .before .before .same in
-  let if2 = c .before .before .before .before .before .before .before .before .before .before .if2 in
-  let same2 = c .before .before .before .before .before .before .before .before .before .before .before .same2 in
-  let if3 = c .before .before .before .before .before .before .before .if3 in
-  let same3 = c .before .before .before .before .before .before .before .before .same3 in
-  let if4 = c .before .before .before .before .if4 in
-  let same4 = c .before .before .before .before .before .same4 in
-  word-rewrite (a .word .now) _ _ _ _ (sym (if1 .left) ∙ same .ensures) (sym (if2 .left) ∙ same2 .ensures) (sym (if3 .left) ∙ same3 .ensures) (sym (if4 .taken) ∙ same4 .ensures) (c .before .before .reply-rewrite .ensures)
+    let a = c .before .before .before .before .before .before .before .before .before .before .before .before .before .before .before .before .before .before .before .before .args in
+    let if1 = c .before .before .before .before .before .before .before .before .before .before .before .before .before .if1 in
+    let same = c .before .before .before .before .before .before .before .before .before .before .before .before .before .before .same in
+    let if2 = c .before .before .before .before .before .before .before .before .before .before .if2 in
+    let same2 = c .before .before .before .before .before .before .before .before .before .before .before .same2 in
+    let if3 = c .before .before .before .before .before .before .before .if3 in
+    let same3 = c .before .before .before .before .before .before .before .before .same3 in
+    let if4 = c .before .before .before .before .if4 in
+    let same4 = c .before .before .before .before .before .same4 in
+    word-rewrite (a .word .now) _ _ _ _ (sym (if1 .left) ∙ same .ensures) (sym (if2 .left) ∙ same2 .ensures) (sym (if3 .left) ∙ same3 .ensures) (sym (if4 .taken) ∙ same4 .ensures) (c .before .before .reply-rewrite .ensures)
 
 slice-aggregate-same-5 : tie.Need-slice-aggregate-same-5
 slice-aggregate-same-5 c = search needs
@@ -97,18 +97,18 @@ same-length-3 c = search needs
 
 returns-5 : tie.Need-returns-5
 returns-5 c =
-  let a = c .before .before .before .before .before .before .before .before .before .before .before .before .before .before .before .before .before .before .before .before .before .before .before .args in
-  let if1 = c .before .before .before .before .before .before .before .before .before .before .before .before .before .before .before .before .if1 in
-  let same = c .before .before .before .before .before .before .before .before .before .before .before .before .before .before .before .before .before .same in
-  let if2 = c .before .before .before .before .before .before .before .before .before .before .before .before .before .if2 in
-  let same2 = c .before .before .before .before .before .before .before .before .before .before .before .before .before .before .same2 in
-  let if3 = c .before .before .before .before .before .before .before .before .before .before .if3 in
-  let same3 = c .before .before .before .before .before .before .before .before .before .before .before .same3 in
-  let if4 = c .before .before .before .before .before .before .before .if4 in
-  let same4 = c .before .before .before .before .before .before .before .before .same4 in
-  let if5 = c .before .before .before .before .if5 in
-  let same5 = c .before .before .before .before .before .same5 in
-  word-profile (a .word .now) _ _ _ _ (sym (if1 .left) ∙ same .ensures) (sym (if2 .left) ∙ same2 .ensures) (sym (if3 .left) ∙ same3 .ensures) (sym (if4 .left) ∙ same4 .ensures) (sym (if5 .taken) ∙ same5 .ensures) (c .before .before .reply-profile .ensures)
+    let a = c .before .before .before .before .before .before .before .before .before .before .before .before .before .before .before .before .before .before .before .before .before .before .before .args in
+    let if1 = c .before .before .before .before .before .before .before .before .before .before .before .before .before .before .before .before .if1 in
+    let same = c .before .before .before .before .before .before .before .before .before .before .before .before .before .before .before .before .before .same in
+    let if2 = c .before .before .before .before .before .before .before .before .before .before .before .before .before .if2 in
+    let same2 = c .before .before .before .before .before .before .before .before .before .before .before .before .before .before .same2 in
+    let if3 = c .before .before .before .before .before .before .before .before .before .before .if3 in
+    let same3 = c .before .before .before .before .before .before .before .before .before .before .before .same3 in
+    let if4 = c .before .before .before .before .before .before .before .if4 in
+    let same4 = c .before .before .before .before .before .before .before .before .same4 in
+    let if5 = c .before .before .before .before .if5 in
+    let same5 = c .before .before .before .before .before .same5 in
+    word-profile (a .word .now) _ _ _ _ (sym (if1 .left) ∙ same .ensures) (sym (if2 .left) ∙ same2 .ensures) (sym (if3 .left) ∙ same3 .ensures) (sym (if4 .left) ∙ same4 .ensures) (sym (if5 .taken) ∙ same5 .ensures) (c .before .before .reply-profile .ensures)
 
 slice-aggregate-same-6 : tie.Need-slice-aggregate-same-6
 slice-aggregate-same-6 c = search needs
@@ -124,34 +124,34 @@ same-length-4 c = search needs
 
 returns-6 : tie.Need-returns-6
 returns-6 c =
-  let a = c .before .before .before .before .before .before .before .before .before .before .before .before .before .before .before .before .before .before .before .before .before .before .before .before .before .before .args in
-  let if1 = c .before .before .before .before .before .before .before .before .before .before .before .before .before .before .before .before .before .before .before .if1 in
-  let same = c .before .before .before .before .before .before .before .before .before .before .before .before .before .before .before .before .before .before .before .before .same in
-  let if2 = c .before .before .before .before .before .before .before .before .before .before .before .before .before .before .before .before .if2 in
-  let same2 = c .before .before .before .before .before .before .before .before .before .before .before .before .before .before .before .before .before .same2 in
-  let if3 = c .before .before .before .before .before .before .before .before .before .before .before .before .before .if3 in
-  let same3 = c .before .before .before .before .before .before .before .before .before .before .before .before .before .before .same3 in
-  let if4 = c .before .before .before .before .before .before .before .before .before .before .if4 in
-  let same4 = c .before .before .before .before .before .before .before .before .before .before .before .same4 in
-  let if5 = c .before .before .before .before .before .before .before .if5 in
-  let same5 = c .before .before .before .before .before .before .before .before .same5 in
-  let if6 = c .before .before .before .before .if6 in
-  let same6 = c .before .before .before .before .before .same6 in
-  word-component (a .word .now) _ _ _ _ (sym (if1 .left) ∙ same .ensures) (sym (if2 .left) ∙ same2 .ensures) (sym (if3 .left) ∙ same3 .ensures) (sym (if4 .left) ∙ same4 .ensures) (sym (if5 .left) ∙ same5 .ensures) (sym (if6 .taken) ∙ same6 .ensures) (c .before .before .reply-component .ensures)
+    let a = c .before .before .before .before .before .before .before .before .before .before .before .before .before .before .before .before .before .before .before .before .before .before .before .before .before .before .args in
+    let if1 = c .before .before .before .before .before .before .before .before .before .before .before .before .before .before .before .before .before .before .before .if1 in
+    let same = c .before .before .before .before .before .before .before .before .before .before .before .before .before .before .before .before .before .before .before .before .same in
+    let if2 = c .before .before .before .before .before .before .before .before .before .before .before .before .before .before .before .before .if2 in
+    let same2 = c .before .before .before .before .before .before .before .before .before .before .before .before .before .before .before .before .before .same2 in
+    let if3 = c .before .before .before .before .before .before .before .before .before .before .before .before .before .if3 in
+    let same3 = c .before .before .before .before .before .before .before .before .before .before .before .before .before .before .same3 in
+    let if4 = c .before .before .before .before .before .before .before .before .before .before .if4 in
+    let same4 = c .before .before .before .before .before .before .before .before .before .before .before .same4 in
+    let if5 = c .before .before .before .before .before .before .before .if5 in
+    let same5 = c .before .before .before .before .before .before .before .before .same5 in
+    let if6 = c .before .before .before .before .if6 in
+    let same6 = c .before .before .before .before .before .same6 in
+    word-component (a .word .now) _ _ _ _ (sym (if1 .left) ∙ same .ensures) (sym (if2 .left) ∙ same2 .ensures) (sym (if3 .left) ∙ same3 .ensures) (sym (if4 .left) ∙ same4 .ensures) (sym (if5 .left) ∙ same5 .ensures) (sym (if6 .taken) ∙ same6 .ensures) (c .before .before .reply-component .ensures)
 
 returns-7 : tie.Need-returns-7
 returns-7 c =
-  let a = c .before .before .before .before .before .before .before .before .before .before .before .before .before .before .before .before .before .before .before .before .before .before .args in
-  let if1 = c .before .before .before .before .before .before .before .before .before .before .before .before .before .before .before .if1 in
-  let same = c .before .before .before .before .before .before .before .before .before .before .before .before .before .before .before .before .same in
-  let if2 = c .before .before .before .before .before .before .before .before .before .before .before .before .if2 in
-  let same2 = c .before .before .before .before .before .before .before .before .before .before .before .before .before .same2 in
-  let if3 = c .before .before .before .before .before .before .before .before .before .if3 in
-  let same3 = c .before .before .before .before .before .before .before .before .before .before .same3 in
-  let if4 = c .before .before .before .before .before .before .if4 in
-  let same4 = c .before .before .before .before .before .before .before .same4 in
-  let same5 = c .before .before .before .before .same5 in
-  word-other (a .word .now) _ _ _ _ (sym (if1 .left) ∙ same .ensures) (sym (if2 .left) ∙ same2 .ensures) (sym (if3 .left) ∙ same3 .ensures) (sym (if4 .left) ∙ same4 .ensures) (sym (c .before .before .before .if5 .left) ∙ same5 .ensures) (sym (c .if6 .left) ∙ c .before .same6 .ensures) refl
+    let a = c .before .before .before .before .before .before .before .before .before .before .before .before .before .before .before .before .before .before .before .before .before .before .args in
+    let if1 = c .before .before .before .before .before .before .before .before .before .before .before .before .before .before .before .if1 in
+    let same = c .before .before .before .before .before .before .before .before .before .before .before .before .before .before .before .before .same in
+    let if2 = c .before .before .before .before .before .before .before .before .before .before .before .before .if2 in
+    let same2 = c .before .before .before .before .before .before .before .before .before .before .before .before .before .same2 in
+    let if3 = c .before .before .before .before .before .before .before .before .before .if3 in
+    let same3 = c .before .before .before .before .before .before .before .before .before .before .same3 in
+    let if4 = c .before .before .before .before .before .before .if4 in
+    let same4 = c .before .before .before .before .before .before .before .same4 in
+    let same5 = c .before .before .before .before .same5 in
+    word-other (a .word .now) _ _ _ _ (sym (if1 .left) ∙ same .ensures) (sym (if2 .left) ∙ same2 .ensures) (sym (if3 .left) ∙ same3 .ensures) (sym (if4 .left) ∙ same4 .ensures) (sym (c .before .before .before .if5 .left) ∙ same5 .ensures) (sym (c .if6 .left) ∙ c .before .same6 .ensures) refl
 
 pub reply-words-spec : {M : Type 1} → statement M
 reply-words-spec =

@@ -29,8 +29,8 @@ slice-aggregate-rewrite-with-2 c = search needs
 -- src/lib.rt:91:5
 rewrite-with-requires-2 : tie.Need-rewrite-with-requires-2
 rewrite-with-requires-2 c κs =
-  let pre = c .before .before .before .before .before .before .pre in
-  (pre, omega (arith, pre .short))
+    let pre = c .before .before .before .before .before .before .pre in
+    (pre, omega (arith, pre .short))
 
 -- src/lib.rt:73:1
 same-length-2 : tie.Need-same-length-2

@@ -20,10 +20,10 @@ has-loop-requires : tie.Need-has-loop-requires
 has-loop-requires c κs = search needs
 
 returns : tie.Need-returns
-returns c = 
-  let rows = c .before .before .step-table .result .rows in
-  c .has-loop .ensures ∙ ap (λ (n : ℕ). loopFound (min n mostKinds) (cell rows)) (c .before .held .ensures)
-  ∙ ap (λ (n : ℕ). loopFound n (cell rows)) (min-eq-left (kinds-few (c .before .before .before .before .args .met))) ∙ filled-found _ _ _ (c .before .before .step-table .ensures)
+returns c =
+    let rows = c .before .before .step-table .result .rows in
+    c .has-loop .ensures ∙ ap (λ (n : ℕ). loopFound (min n mostKinds) (cell rows)) (c .before .held .ensures)
+    ∙ ap (λ (n : ℕ). loopFound n (cell rows)) (min-eq-left (kinds-few (c .before .before .before .before .args .met))) ∙ filled-found _ _ _ (c .before .before .step-table .ensures)
 
 pub loops-back-spec : {M : Type 1} → statement M
 loops-back-spec = tie.close (tie.spec step-table-requires held-requires has-loop-requires returns)

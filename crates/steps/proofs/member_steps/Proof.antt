@@ -45,9 +45,9 @@ loop-less : tie.Need-loop-less Inv-loop μ-loop
 loop-less c = search needs
 
 loop-again : tie.Need-loop-again Inv-loop μ-loop
-loop-again c = 
-  let found = sym (c .before .before .before .before .before .member-at .ensures) ∙ c .before .before .before .inner .given .1 in
-  members-more (c .before .before .before .before .before .before .before .loop .inv) (c .before .before .before .before .before .before .loop-test .taken) found (c .before .place-in .ensures) (c .note .ensures)
+loop-again c =
+    let found = sym (c .before .before .before .before .before .member-at .ensures) ∙ c .before .before .before .inner .given .1 in
+    members-more (c .before .before .before .before .before .before .before .loop .inv) (c .before .before .before .before .before .before .loop-test .taken) found (c .before .place-in .ensures) (c .note .ensures)
 
 returns-2 : tie.Need-returns-2 Inv-loop μ-loop
 returns-2 c = members-all (c .before .loop .inv) (c .loop-test .left)

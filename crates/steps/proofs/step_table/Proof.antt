@@ -38,9 +38,9 @@ loop-again : tie.Need-loop-again Inv-loop μ-loop
 loop-again c = (search needs, filled-more _ _ _ _ _ (c .before .before .loop .inv .1) (c .steps-from .ensures))
 
 returns : tie.Need-returns Inv-loop μ-loop
-returns c = 
-  let loop = c .before .loop in
-  filled-all _ _ _ _ _ (c .before .before .before .held .ensures) (loop .inv .0) (c .loop-test .left) (loop .inv .1)
+returns c =
+    let loop = c .before .loop in
+    filled-all _ _ _ _ _ (c .before .before .before .held .ensures) (loop .inv .0) (c .loop-test .left) (loop .inv .1)
 
 pub step-table-spec : {M : Type 1} → statement M
 step-table-spec =

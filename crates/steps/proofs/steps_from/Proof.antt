@@ -89,9 +89,9 @@ unfolding shapeOf stepsOf
 returns-4 c = noted-leads _ _ _ _ _ (sym (c .before .before .before .before .parameters-of .ensures) ∙ c .before .before .fields2 .given .1) _ (c .member-steps2 .ensures)
 
 returns-5 : tie.Need-returns-5
-returns-5 c = 
-  let is = sym (c .before .before .before .before .before .before .before .parameters-of .ensures) ∙ c .before .before .before .before .before .fields3 .given .1 in
-  noted-union _ _ _ _ _ _ _ is _ (c .before .before .before .place-in .ensures) _ (c .before .labels-for .ensures) _ _ (c .before .before .note .ensures) (c .member-steps3 .ensures)
+returns-5 c =
+    let is = sym (c .before .before .before .before .before .before .before .parameters-of .ensures) ∙ c .before .before .before .before .before .fields3 .given .1 in
+    noted-union _ _ _ _ _ _ _ is _ (c .before .before .before .place-in .ensures) _ (c .before .labels-for .ensures) _ _ (c .before .before .note .ensures) (c .member-steps3 .ensures)
 
 returns-6 : tie.Need-returns-6
 unfolding shapeOf stepsOf anyOf

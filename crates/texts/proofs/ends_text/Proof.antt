@@ -44,8 +44,8 @@ loop-again c =
 
 returns-2 : tie.Need-returns-2 Inv-loop μ-loop
 returns-2 c =
-  let loop = c .before .loop in
-  sym (ends-never (c .before .before .args .s .now) (loop .i) (c .loop-test .left)) ∙ loop .inv .1
+    let loop = c .before .loop in
+    sym (ends-never (c .before .before .args .s .now) (loop .i) (c .loop-test .left)) ∙ loop .inv .1
 
 pub ends-text-spec : {M : Type 1} → statement M
 ends-text-spec =

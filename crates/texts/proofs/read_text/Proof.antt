@@ -24,8 +24,8 @@ zeros-is : (c : tie.After-ends-text) →
     let at-start = c .before .before .before .before .before .before .before .before .before .before in
     c .ends-text .result ≡ endsText (take (at-start .args .length) (drop (at-start .args .at) (at-start .args .s .now)))
 zeros-is c =
-  let a = c .before .before .before .before .before .before .before .before .before .before .args in
-  let o = a in
+    let a = c .before .before .before .before .before .before .before .before .before .before .args in
+    let o = a in
     let h = end-is (c .before .before) .0 in
     let e : c .before .before .before .end .given .0 .0 - o .at ≡ o .length = omega arith in
     c .ends-text .ensures ∙ ap (λ (n : ℕ). endsText (take n (drop (o .at) (o .s .now)))) e

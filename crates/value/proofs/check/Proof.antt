@@ -24,8 +24,8 @@ no-kinds = refl
 
 returns : tie.Need-returns
 returns c =
-  let a = c .before .before .before .before .args in
-  ap (typed (Refused 42)) (ap kindsMet (c .none .ensures) ∙ no-kinds) ∙ answers.typed-long (a .t .now) (a .torder) (a .octets) (sym (c .before .before .over-long .ensures) ∙ c .before .if1 .taken)
+    let a = c .before .before .before .before .args in
+    ap (typed (Refused 42)) (ap kindsMet (c .none .ensures) ∙ no-kinds) ∙ answers.typed-long (a .t .now) (a .torder) (a .octets) (sym (c .before .before .over-long .ensures) ∙ c .before .if1 .taken)
 
 check-type-requires : tie.Need-check-type-requires
 check-type-requires c κs = search needs
@@ -35,10 +35,10 @@ judge-requires c κs = search needs
 
 returns-2 : tie.Need-returns-2
 returns-2 c =
-  let check-type = c .before .before .check-type in
-  let a = c .before .before .before .before .before .before .args in
-  let over-long = c .before .before .before .before .over-long in
-  ap (λ (j : Judged). typed j (kindsMet (check-type .result .met))) (c .judge .ensures) ∙ ap (λ (y : CheckedType). typed (judgedBy (y .answer)) (y .kinds)) (check-type .ensures) ∙ answers.typed-short (a .t .now) (a .torder) (a .octets) (sym (over-long .ensures) ∙ c .before .before .before .if1 .left)
+    let check-type = c .before .before .check-type in
+    let a = c .before .before .before .before .before .before .args in
+    let over-long = c .before .before .before .before .over-long in
+    ap (λ (j : Judged). typed j (kindsMet (check-type .result .met))) (c .judge .ensures) ∙ ap (λ (y : CheckedType). typed (judgedBy (y .answer)) (y .kinds)) (check-type .ensures) ∙ answers.typed-short (a .t .now) (a .torder) (a .octets) (sym (over-long .ensures) ∙ c .before .before .before .if1 .left)
 
 pub check-spec : {M : Type 1} → statement M
 check-spec =

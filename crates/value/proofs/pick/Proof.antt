@@ -17,16 +17,16 @@ walk-requires c κs = search needs
 
 returns : tie.Need-returns
 returns c =
-  let a = c .before .before .before .before .before .before .before .args in
-  let pre = c .before .before .before .before .before .before .before .pre in
-  walks.picked-refused (checked (a .t .now) (kindsMet (a .met))) (source (a .v .now) (a .order) (a .start)) pre (a .number) _ _ (c .before .before .before .walk .ensures) (c .if1 .taken)
+    let a = c .before .before .before .before .before .before .before .args in
+    let pre = c .before .before .before .before .before .before .before .pre in
+    walks.picked-refused (checked (a .t .now) (kindsMet (a .met))) (source (a .v .now) (a .order) (a .start)) pre (a .number) _ _ (c .before .before .before .walk .ensures) (c .if1 .taken)
 
 returns-2 : tie.Need-returns-2
 returns-2 c =
-  let a = c .before .before .before .before .before .before .before .before .args in
-  let pre = c .before .before .before .before .before .before .before .before .pre in
-  let walk = c .before .before .before .before .walk in
-  walks.picked-none (checked (a .t .now) (kindsMet (a .met))) (source (a .v .now) (a .order) (a .start)) pre (a .number) _ _ (walk .ensures) (c .before .if1 .left) (c .if2 .taken)
+    let a = c .before .before .before .before .before .before .before .before .args in
+    let pre = c .before .before .before .before .before .before .before .before .pre in
+    let walk = c .before .before .before .before .walk in
+    walks.picked-none (checked (a .t .now) (kindsMet (a .met))) (source (a .v .now) (a .order) (a .start)) pre (a .number) _ _ (walk .ensures) (c .before .if1 .left) (c .if2 .taken)
 
 array-read-item-of : tie.Need-array-read-item-of
 array-read-item-of c = search needs
@@ -39,10 +39,10 @@ item-of-requires c κs = search needs
 
 returns-3 : tie.Need-returns-3
 returns-3 c =
-  let a = c .before .before .before .before .before .before .before .before .before .args in
-  let pre = c .before .before .before .before .before .before .before .before .before .pre in
-  let walk = c .before .before .before .before .before .walk in
-  ap Given (c .item-of .ensures) ∙ walks.picked-item (checked (a .t .now) (kindsMet (a .met))) (source (a .v .now) (a .order) (a .start)) pre (a .number) _ _ (walk .ensures) (c .before .before .if1 .left) (c .before .if2 .left)
+    let a = c .before .before .before .before .before .before .before .before .before .args in
+    let pre = c .before .before .before .before .before .before .before .before .before .pre in
+    let walk = c .before .before .before .before .before .walk in
+    ap Given (c .item-of .ensures) ∙ walks.picked-item (checked (a .t .now) (kindsMet (a .met))) (source (a .v .now) (a .order) (a .start)) pre (a .number) _ _ (walk .ensures) (c .before .before .if1 .left) (c .before .if2 .left)
 
 pub pick-spec : {M : Type 1} → statement M
 pick-spec =

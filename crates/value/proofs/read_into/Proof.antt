@@ -15,10 +15,10 @@ same-length c = search needs
 
 returns : tie.Need-returns
 returns c =
-  let a = c .before .before .before .before .before .before .before .before .before .args in
-  let pre = c .before .before .before .before .before .before .before .before .before .pre in
-  let walk = c .before .before .before .before .walk in
-  walks.found-refusal (checked (a .t .now) (kindsMet (a .met))) (source (a .v .now) (a .order) (a .start)) pre (a .table .now) _ _ (walk .ensures) (c .if1 .taken)
+    let a = c .before .before .before .before .before .before .before .before .before .args in
+    let pre = c .before .before .before .before .before .before .before .before .before .pre in
+    let walk = c .before .before .before .before .walk in
+    walks.found-refusal (checked (a .t .now) (kindsMet (a .met))) (source (a .v .now) (a .order) (a .start)) pre (a .table .now) _ _ (walk .ensures) (c .if1 .taken)
 
 walk-requires-2 : tie.Need-walk-requires-2
 walk-requires-2 c κs = search needs
@@ -28,11 +28,11 @@ same-length-2 c = search needs
 
 returns-2 : tie.Need-returns-2
 returns-2 c =
-  let a = c .before .before .before .before .before .before .before .before .before .before .before .before .before .args in
-  let pre = c .before .before .before .before .before .before .before .before .before .before .before .before .before .pre in
-  let walk = c .before .before .before .before .before .before .before .before .walk in
-  let if1 = c .before .before .before .before .if1 in
-  walks.found-none (checked (a .t .now) (kindsMet (a .met))) (source (a .v .now) (a .order) (a .start)) pre (a .table .now) _ _ (walk .ensures) (if1 .left) _ _ (c .before .before .walk2 .ensures)
+    let a = c .before .before .before .before .before .before .before .before .before .before .before .before .before .args in
+    let pre = c .before .before .before .before .before .before .before .before .before .before .before .before .before .pre in
+    let walk = c .before .before .before .before .before .before .before .before .walk in
+    let if1 = c .before .before .before .before .if1 in
+    walks.found-none (checked (a .t .now) (kindsMet (a .met))) (source (a .v .now) (a .order) (a .start)) pre (a .table .now) _ _ (walk .ensures) (if1 .left) _ _ (c .before .before .walk2 .ensures)
 
 pub read-into-spec : {M : Type 1} → statement M
 read-into-spec =

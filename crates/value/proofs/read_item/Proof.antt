@@ -17,24 +17,24 @@ enum-told c = search needs
 
 pick-requires : tie.Need-pick-requires
 pick-requires c κs =
-  let a = c .before .before .before .before .before .before .args in
-  let check = c .before .before .before .check in
-  answers.bounded (a .t .now) (a .torder) (source (a .v .now) (a .order) (a .start)) (kindsMet (check .result .met)) (answers.under (a .t .now) (a .torder) (length (a .v .now)) (typedBy (check .result)) (check .ensures) (c .enum-told .given .1))
+    let a = c .before .before .before .before .before .before .args in
+    let check = c .before .before .before .check in
+    answers.bounded (a .t .now) (a .torder) (source (a .v .now) (a .order) (a .start)) (kindsMet (check .result .met)) (answers.under (a .t .now) (a .torder) (length (a .v .now)) (typedBy (check .result)) (check .ensures) (c .enum-told .given .1))
 
 enum-known-judged : tie.Need-enum-known-judged
 enum-known-judged c = search needs
 
 returns : tie.Need-returns
 returns c =
-  let a = c .before .before .before .before .before .before .before .args in
-  let check = c .before .before .before .before .check in
-  c .pick .ensures ∙ answers.item-read (a .t .now) (a .torder) (source (a .v .now) (a .order) (a .start)) (typedBy (check .result)) (check .ensures) (a .number) (c .before .enum-told .given .1)
+    let a = c .before .before .before .before .before .before .before .args in
+    let check = c .before .before .before .before .check in
+    c .pick .ensures ∙ answers.item-read (a .t .now) (a .torder) (source (a .v .now) (a .order) (a .start)) (typedBy (check .result)) (check .ensures) (a .number) (c .before .enum-told .given .1)
 
 returns-2 : tie.Need-returns-2
 returns-2 c =
-  let a = c .before .before .before .before .before .before .before .args in
-  let check = c .before .before .before .before .check in
-  answers.item-refused (a .t .now) (a .torder) (source (a .v .now) (a .order) (a .start)) (typedBy (check .result)) (check .ensures) (a .number) _ (c .before .judged .given .1)
+    let a = c .before .before .before .before .before .before .before .args in
+    let check = c .before .before .before .before .check in
+    answers.item-refused (a .t .now) (a .torder) (source (a .v .now) (a .order) (a .start)) (typedBy (check .result)) (check .ensures) (a .number) _ (c .before .judged .given .1)
 
 pub read-item-spec : {M : Type 1} → statement M
 read-item-spec =

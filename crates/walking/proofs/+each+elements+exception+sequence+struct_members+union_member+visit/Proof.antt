@@ -174,18 +174,18 @@ each-visit-requires t c κs = (omega (arith, c .before .before .before .before .
 
 each-same-length : (t : ℕ) → each-lts.Need-same-length (each-of t) (each-at t) each.Post each-Inv-loop each-μ-loop
 each-same-length t c =
-  let visit = c .before .before .before .before .visit in
-  let loop = c .before .before .before .before .before .before .before .loop in
-  visit .kept .1 .1 .1 .1 .0 ∙ loop .inv .same
+    let visit = c .before .before .before .before .visit in
+    let loop = c .before .before .before .before .before .before .before .loop in
+    visit .kept .1 .1 .1 .1 .0 ∙ loop .inv .same
 
 each-returns : (t : ℕ) → each-lts.Need-returns (each-of t) (each-at t) each.Post each-Inv-loop each-μ-loop
 unfolding elementsAt
 each-returns t c =
-  let loop = c .before .before .before .before .before .before .before .loop in
-  let loop-test = c .before .before .before .before .before .before .loop-test in
-  let visit = c .before .before .before .before .visit in
-  let if1 = c .if1 in
-  going-stop (loop .inv) (loop-test .taken) (visit .ensures) (if1 .taken)
+    let loop = c .before .before .before .before .before .before .before .loop in
+    let loop-test = c .before .before .before .before .before .before .loop-test in
+    let visit = c .before .before .before .before .visit in
+    let if1 = c .if1 in
+    going-stop (loop .inv) (loop-test .taken) (visit .ensures) (if1 .taken)
 
 each-add-k : (t : ℕ) → each-lts.Need-add-k (each-of t) (each-at t) each.Post each-Inv-loop each-μ-loop
 each-add-k t c = omega arith
@@ -195,11 +195,11 @@ each-loop-less t c = omega arith
 
 each-loop-again : (t : ℕ) → each-lts.Need-loop-again (each-of t) (each-at t) each.Post each-Inv-loop each-μ-loop
 each-loop-again t c =
-  let loop = c .before .before .before .before .before .before .before .loop in
-  let loop-test = c .before .before .before .before .before .before .loop-test in
-  let visit = c .before .before .before .before .visit in
-  let if1 = c .if1 in
-  going-more (loop .inv) (loop-test .taken) (visit .ensures) (visit .kept .1 .1 .1 .1 .0) (if1 .left)
+    let loop = c .before .before .before .before .before .before .before .loop in
+    let loop-test = c .before .before .before .before .before .before .loop-test in
+    let visit = c .before .before .before .before .visit in
+    let if1 = c .if1 in
+    going-more (loop .inv) (loop-test .taken) (visit .ensures) (visit .kept .1 .1 .1 .1 .0) (if1 .left)
 
 each-same-length-2 : (t : ℕ) → each-lts.Need-same-length-2 (each-of t) (each-at t) each.Post each-Inv-loop each-μ-loop
 each-same-length-2 t c = c .before .loop .inv .same
@@ -209,9 +209,16 @@ unfolding elementsAt
 each-returns-2 t c = going-all (c .before .loop .inv) (c .loop-test .left)
 
 abbrev elements-of : ℕ → elements-lts.Claims
-elements-of t =
-    (leaf-elements-reads.Asked, leaf-elements-reads.Learnt, each-below t, each.Post, plan-of-reads.Asked, plan-of-reads.Learnt,
-    structs-reads.Asked, structs-reads.Learnt)
+elements-of t = (
+  leaf-elements-reads.Asked,
+  leaf-elements-reads.Learnt,
+  each-below t,
+  each.Post,
+  plan-of-reads.Asked,
+  plan-of-reads.Learnt,
+  structs-reads.Asked,
+  structs-reads.Learnt,
+)
 
 elements-enum-known-e : (t : ℕ) → elements-lts.Need-enum-known-e (elements-of t) (elements-at t) elements.Post
 elements-enum-known-e t c = search needs
@@ -228,16 +235,16 @@ elements-same-length t c = search needs
 elements-returns : (t : ℕ) → elements-lts.Need-returns (elements-of t) (elements-at t) elements.Post
 unfolding shapeOf
 elements-returns t c =
-  let a = c .before .before .before .before .before .before .before .before .before .before .before .before .before .args in
-  let leaf-elements = c .before .before .leaf-elements in
-  let e1 = c .before .before .before .before .before .before .before .before .e in
-  let inert = c .before .before .before .before .before .inert in
-  let k = sinkOf (a .m) in
-  let x = sourceOf (a .m) (a .v .now) in
-  let u = checked (a .t .now) (kindsMet (a .met)) in
-  let s = stateOf (a .c) (a .table .now) in
-  leaf-elements .ensures u
-  ∙ ap (λ (p : Shape). elementsAt k x (reads k x u (a .left)) p (a .count) s) (sym (ap (shapeOf (a .t .now) (kindsMet (a .met))) (e1 .given .1) ∙ ap flat (inert .given .1)))
+    let a = c .before .before .before .before .before .before .before .before .before .before .before .before .before .args in
+    let leaf-elements = c .before .before .leaf-elements in
+    let e1 = c .before .before .before .before .before .before .before .before .e in
+    let inert = c .before .before .before .before .before .inert in
+    let k = sinkOf (a .m) in
+    let x = sourceOf (a .m) (a .v .now) in
+    let u = checked (a .t .now) (kindsMet (a .met)) in
+    let s = stateOf (a .c) (a .table .now) in
+    leaf-elements .ensures u
+    ∙ ap (λ (p : Shape). elementsAt k x (reads k x u (a .left)) p (a .count) s) (sym (ap (shapeOf (a .t .now) (kindsMet (a .met))) (e1 .given .1) ∙ ap flat (inert .given .1)))
 
 elements-each-requires : (t : ℕ) → elements-lts.Need-each-requires (elements-of t) (elements-at t) elements.Post
 elements-each-requires t c κs = (omega (arith, c .before .before .before .before .before .before .before .before .pre .0), tt)
@@ -253,14 +260,14 @@ elements-same-length-2 t c = c .before .before .each2 .kept .1 .1 .1 .1 .0
 
 elements-returns-2 : (t : ℕ) → elements-lts.Need-returns-2 (elements-of t) (elements-at t) elements.Post
 elements-returns-2 t c =
-  let a = c .before .before .before .before .before .before .before .before .before .before .before .args in
-  let each2 = c .before .before .each2 in
-  let e2 = c .before .before .before .before .before .before .e2 in
-  let k = sinkOf (a .m) in
-  let x = sourceOf (a .m) (a .v .now) in
-  let u = checked (a .t .now) (kindsMet (a .met)) in
-  let s = stateOf (a .c) (a .table .now) in
-  each2 .ensures ∙ ap (λ (p : Parameters). elementsAt k x (reads k x u (a .left)) (shapeOf (a .t .now) (kindsMet (a .met)) p) (a .count) s) (sym (e2 .given .1))
+    let a = c .before .before .before .before .before .before .before .before .before .before .before .args in
+    let each2 = c .before .before .each2 in
+    let e2 = c .before .before .before .before .before .before .e2 in
+    let k = sinkOf (a .m) in
+    let x = sourceOf (a .m) (a .v .now) in
+    let u = checked (a .t .now) (kindsMet (a .met)) in
+    let s = stateOf (a .c) (a .table .now) in
+    each2 .ensures ∙ ap (λ (p : Parameters). elementsAt k x (reads k x u (a .left)) (shapeOf (a .t .now) (kindsMet (a .met)) p) (a .count) s) (sym (e2 .given .1))
 
 elements-plan-of-requires : (t : ℕ) → elements-lts.Need-plan-of-requires (elements-of t) (elements-at t) elements.Post
 elements-plan-of-requires t c κs = search needs
@@ -274,18 +281,18 @@ elements-same-length-3 t c = c .before .before .structs .kept .1 .1 .0
 elements-returns-3 : (t : ℕ) → elements-lts.Need-returns-3 (elements-of t) (elements-at t) elements.Post
 unfolding shapeOf
 elements-returns-3 t c =
-  let a = c .before .before .before .before .before .before .before .before .before .before .before .before .before .args in
-  let structs = c .before .before .structs in
-  let e2 = c .before .before .before .before .before .before .before .before .e2 in
-  let plan-of = c .before .before .before .before .before .plan-of in
-  let if2 = c .before .before .before .before .if2 in
-  let k = sinkOf (a .m) in
-  let x = sourceOf (a .m) (a .v .now) in
-  let u = checked (a .t .now) (kindsMet (a .met)) in
-  let s = stateOf (a .c) (a .table .now) in
-  structs .ensures
-  ∙ sym (ap (λ (p : Parameters). elementsAt k x (reads k x u (a .left)) (shapeOf (a .t .now) (kindsMet (a .met)) p) (a .count) s) (e2 .given .1)
-  ∙ way.elements-planned k x u (a .left) _ _ (plan-of .result) (plan-of .ensures) (if2 .taken) (a .count) s)
+    let a = c .before .before .before .before .before .before .before .before .before .before .before .before .before .args in
+    let structs = c .before .before .structs in
+    let e2 = c .before .before .before .before .before .before .before .before .e2 in
+    let plan-of = c .before .before .before .before .before .plan-of in
+    let if2 = c .before .before .before .before .if2 in
+    let k = sinkOf (a .m) in
+    let x = sourceOf (a .m) (a .v .now) in
+    let u = checked (a .t .now) (kindsMet (a .met)) in
+    let s = stateOf (a .c) (a .table .now) in
+    structs .ensures
+    ∙ sym (ap (λ (p : Parameters). elementsAt k x (reads k x u (a .left)) (shapeOf (a .t .now) (kindsMet (a .met)) p) (a .count) s) (e2 .given .1)
+    ∙ way.elements-planned k x u (a .left) _ _ (plan-of .result) (plan-of .ensures) (if2 .taken) (a .count) s)
 
 elements-each-requires-3 : (t : ℕ) → elements-lts.Need-each-requires-3 (elements-of t) (elements-at t) elements.Post
 elements-each-requires-3 t c κs = (omega (arith, c .before .before .before .before .before .before .before .before .before .before .pre .0), tt)
@@ -298,28 +305,28 @@ elements-same-length-4 t c = c .before .before .each .kept .1 .1 .1 .1 .0
 
 elements-returns-4 : (t : ℕ) → elements-lts.Need-returns-4 (elements-of t) (elements-at t) elements.Post
 elements-returns-4 t c =
-  let a = c .before .before .before .before .before .before .before .before .before .before .before .args in
-  let each = c .before .before .each in
-  let e1 = c .before .before .before .before .before .before .e in
-  let k = sinkOf (a .m) in
-  let x = sourceOf (a .m) (a .v .now) in
-  let u = checked (a .t .now) (kindsMet (a .met)) in
-  let s = stateOf (a .c) (a .table .now) in
-  each .ensures ∙ ap (λ (p : Parameters). elementsAt k x (reads k x u (a .left)) (shapeOf (a .t .now) (kindsMet (a .met)) p) (a .count) s) (sym (e1 .given .1))
+    let a = c .before .before .before .before .before .before .before .before .before .before .before .args in
+    let each = c .before .before .each in
+    let e1 = c .before .before .before .before .before .before .e in
+    let k = sinkOf (a .m) in
+    let x = sourceOf (a .m) (a .v .now) in
+    let u = checked (a .t .now) (kindsMet (a .met)) in
+    let s = stateOf (a .c) (a .table .now) in
+    each .ensures ∙ ap (λ (p : Parameters). elementsAt k x (reads k x u (a .left)) (shapeOf (a .t .now) (kindsMet (a .met)) p) (a .count) s) (sym (e1 .given .1))
 
 elements-same-length-5 : (t : ℕ) → elements-lts.Need-same-length-5 (elements-of t) (elements-at t) elements.Post
 elements-same-length-5 t c = c .before .before .each3 .kept .1 .1 .1 .1 .0
 
 elements-returns-5 : (t : ℕ) → elements-lts.Need-returns-5 (elements-of t) (elements-at t) elements.Post
 elements-returns-5 t c =
-  let a = c .before .before .before .before .before .before .before .before .before .before .before .before .before .args in
-  let each3 = c .before .before .each3 in
-  let e2 = c .before .before .before .before .before .before .before .before .e2 in
-  let k = sinkOf (a .m) in
-  let x = sourceOf (a .m) (a .v .now) in
-  let u = checked (a .t .now) (kindsMet (a .met)) in
-  let s = stateOf (a .c) (a .table .now) in
-  each3 .ensures ∙ ap (λ (p : Parameters). elementsAt k x (reads k x u (a .left)) (shapeOf (a .t .now) (kindsMet (a .met)) p) (a .count) s) (sym (e2 .given .1))
+    let a = c .before .before .before .before .before .before .before .before .before .before .before .before .before .args in
+    let each3 = c .before .before .each3 in
+    let e2 = c .before .before .before .before .before .before .before .before .e2 in
+    let k = sinkOf (a .m) in
+    let x = sourceOf (a .m) (a .v .now) in
+    let u = checked (a .t .now) (kindsMet (a .met)) in
+    let s = stateOf (a .c) (a .table .now) in
+    each3 .ensures ∙ ap (λ (p : Parameters). elementsAt k x (reads k x u (a .left)) (shapeOf (a .t .now) (kindsMet (a .met)) p) (a .count) s) (sym (e2 .given .1))
 
 elements-same-length-6 : (t : ℕ) → elements-lts.Need-same-length-6 (elements-of t) (elements-at t) elements.Post
 elements-same-length-6 t c = c .before .before .each4 .kept .1 .1 .1 .1 .0
@@ -338,35 +345,35 @@ exception-same-length t c = c .before .before .before .before .text .kept .1 .1 
 
 exception-returns : (t : ℕ) → exception-lts.Need-returns (exception-of t) (exception-at t) exception.Post
 exception-returns t c =
-  let a = c .before .before .before .before .before .before .before .before .before .args in
-  let text = c .before .before .before .before .text in
-  let if1 = c .if1 in
-  let k = sinkOf (a .m) in
-  let x = sourceOf (a .m) (a .v .now) in
-  let u = checked (a .t .now) (kindsMet (a .met)) in
-  let s = stateOf (a .c) (a .table .now) in
-  sym (way.exception-stop k x (reads k x u (a .left)) u (typesOf (membersOf NoLabels (a .t .now) (a .fields))) s _ (text .ensures) (if1 .taken))
+    let a = c .before .before .before .before .before .before .before .before .before .args in
+    let text = c .before .before .before .before .text in
+    let if1 = c .if1 in
+    let k = sinkOf (a .m) in
+    let x = sourceOf (a .m) (a .v .now) in
+    let u = checked (a .t .now) (kindsMet (a .met)) in
+    let s = stateOf (a .c) (a .table .now) in
+    sym (way.exception-stop k x (reads k x u (a .left)) u (typesOf (membersOf NoLabels (a .t .now) (a .fields))) s _ (text .ensures) (if1 .taken))
 
 exception-struct-members-requires : (t : ℕ) → exception-lts.Need-struct-members-requires (exception-of t) (exception-at t) exception.Post
 exception-struct-members-requires t c κs = (omega (arith, c .before .before .before .before .before .before .before .before .before .before .pre .0), tt)
 
 exception-same-length-2 : (t : ℕ) → exception-lts.Need-same-length-2 (exception-of t) (exception-at t) exception.Post
 exception-same-length-2 t c =
-  let struct-members = c .before .before .struct-members in
-  let text = c .before .before .before .before .before .before .before .before .text in
-  struct-members .kept .1 .1 .1 .1 .0 ∙ text .kept .1 .1 .0
+    let struct-members = c .before .before .struct-members in
+    let text = c .before .before .before .before .before .before .before .before .text in
+    struct-members .kept .1 .1 .1 .1 .0 ∙ text .kept .1 .1 .0
 
 exception-returns-2 : (t : ℕ) → exception-lts.Need-returns-2 (exception-of t) (exception-at t) exception.Post
 exception-returns-2 t c =
-  let a = c .before .before .before .before .before .before .before .before .before .before .before .before .before .args in
-  let struct-members = c .before .before .struct-members in
-  let text = c .before .before .before .before .before .before .before .before .text in
-  let if1 = c .before .before .before .before .if1 in
-  let k = sinkOf (a .m) in
-  let x = sourceOf (a .m) (a .v .now) in
-  let u = checked (a .t .now) (kindsMet (a .met)) in
-  let s = stateOf (a .c) (a .table .now) in
-  struct-members .ensures ∙ sym (way.exception-go k x (reads k x u (a .left)) u (typesOf (membersOf NoLabels (a .t .now) (a .fields))) s _ (text .ensures) (if1 .left))
+    let a = c .before .before .before .before .before .before .before .before .before .before .before .before .before .args in
+    let struct-members = c .before .before .struct-members in
+    let text = c .before .before .before .before .before .before .before .before .text in
+    let if1 = c .before .before .before .before .if1 in
+    let k = sinkOf (a .m) in
+    let x = sourceOf (a .m) (a .v .now) in
+    let u = checked (a .t .now) (kindsMet (a .met)) in
+    let s = stateOf (a .c) (a .table .now) in
+    struct-members .ensures ∙ sym (way.exception-go k x (reads k x u (a .left)) u (typesOf (membersOf NoLabels (a .t .now) (a .fields))) s _ (text .ensures) (if1 .left))
 
 abbrev sequence-of : ℕ → sequence-lts.Claims
 sequence-of t = (count-reads.Asked, count-reads.Learnt, inside-of-reads.Asked, inside-of-reads.Learnt, elements-below t, elements.Post)
@@ -379,65 +386,72 @@ sequence-same-length t c = c .before .before .before .before .count .kept .1 .1 
 
 sequence-returns : (t : ℕ) → sequence-lts.Need-returns (sequence-of t) (sequence-at t) sequence.Post
 sequence-returns t c =
-  let a = c .before .before .before .before .before .before .before .before .before .args in
-  let k = sinkOf (a .m) in
-  let x = sourceOf (a .m) (a .v .now) in
-  let u = checked (a .t .now) (kindsMet (a .met)) in
-  let s = stateOf (a .c) (a .table .now) in
-  sym (way.sequence-stop k x (reads k x u (a .left)) (u .look (a .element)) (a .bound) s _ (c .before .before .before .before .count .ensures) (c .if1 .taken))
+    let a = c .before .before .before .before .before .before .before .before .before .args in
+    let k = sinkOf (a .m) in
+    let x = sourceOf (a .m) (a .v .now) in
+    let u = checked (a .t .now) (kindsMet (a .met)) in
+    let s = stateOf (a .c) (a .table .now) in
+    sym (way.sequence-stop k x (reads k x u (a .left)) (u .look (a .element)) (a .bound) s _ (c .before .before .before .before .count .ensures) (c .if1 .taken))
 
 sequence-same-length-2 : (t : ℕ) → sequence-lts.Need-same-length-2 (sequence-of t) (sequence-at t) sequence.Post
 sequence-same-length-2 t c = c .before .before .before .before .before .before .count .kept .1 .1 .0
 
 sequence-returns-2 : (t : ℕ) → sequence-lts.Need-returns-2 (sequence-of t) (sequence-at t) sequence.Post
 sequence-returns-2 t c =
-  let a = c .before .before .before .before .before .before .before .before .before .before .before .args in
-  let count = c .before .before .before .before .before .before .count in
-  let if1 = c .before .before .if1 in
-  let if2 = c .if2 in
-  let k = sinkOf (a .m) in
-  let x = sourceOf (a .m) (a .v .now) in
-  let u = checked (a .t .now) (kindsMet (a .met)) in
-  let s = stateOf (a .c) (a .table .now) in
-  let d = stateOf (count .result) (count .last .1 .1 .0) in
-  sym (way.sequence-go k x (reads k x u (a .left)) (u .look (a .element)) (a .bound) s _ (count .ensures) (if1 .left)
-  ∙ way.elements-none k x (reads k x u (a .left)) (u .look (a .element)) (count .result .last) d (if2 .taken))
+    let a = c .before .before .before .before .before .before .before .before .before .before .before .args in
+    let count = c .before .before .before .before .before .before .count in
+    let if1 = c .before .before .if1 in
+    let if2 = c .if2 in
+    let k = sinkOf (a .m) in
+    let x = sourceOf (a .m) (a .v .now) in
+    let u = checked (a .t .now) (kindsMet (a .met)) in
+    let s = stateOf (a .c) (a .table .now) in
+    let d = stateOf (count .result) (count .last .1 .1 .0) in
+    sym (way.sequence-go k x (reads k x u (a .left)) (u .look (a .element)) (a .bound) s _ (count .ensures) (if1 .left)
+    ∙ way.elements-none k x (reads k x u (a .left)) (u .look (a .element)) (count .result .last) d (if2 .taken))
 
 sequence-inside-of-requires : (t : ℕ) → sequence-lts.Need-inside-of-requires (sequence-of t) (sequence-at t) sequence.Post
 sequence-inside-of-requires t c κs = search needs
 
 sequence-elements-requires : (t : ℕ) → sequence-lts.Need-elements-requires (sequence-of t) (sequence-at t) sequence.Post
 sequence-elements-requires t c κs =
-  let pre = c .before .before .before .before .before .before .before .before .before .before .before .before .before .pre in
-  (omega (arith, pre .0), tt)
+    let pre = c .before .before .before .before .before .before .before .before .before .before .before .before .before .pre in
+    (omega (arith, pre .0), tt)
 
 sequence-same-length-3 : (t : ℕ) → sequence-lts.Need-same-length-3 (sequence-of t) (sequence-at t) sequence.Post
 sequence-same-length-3 t c =
-  let elements = c .before .before .elements in
-  let count = c .before .before .before .before .before .before .before .before .before .before .before .count in
-  elements .kept .1 .1 .1 .1 .0 ∙ count .kept .1 .1 .0
+    let elements = c .before .before .elements in
+    let count = c .before .before .before .before .before .before .before .before .before .before .before .count in
+    elements .kept .1 .1 .1 .1 .0 ∙ count .kept .1 .1 .0
 
 sequence-returns-3 : (t : ℕ) → sequence-lts.Need-returns-3 (sequence-of t) (sequence-at t) sequence.Post
 unfolding look
 sequence-returns-3 t c =
-  let a = c .before .before .before .before .before .before .before .before .before .before .before .before .before .before .before .before .args in
-  let count = c .before .before .before .before .before .before .before .before .before .before .before .count in
-  let elements = c .before .before .elements in
-  let inside-of = c .before .before .before .before .inside-of in
-  let if1 = c .before .before .before .before .before .before .before .if1 in
-  let k = sinkOf (a .m) in
-  let x = sourceOf (a .m) (a .v .now) in
-  let u = checked (a .t .now) (kindsMet (a .met)) in
-  let s = stateOf (a .c) (a .table .now) in
-  let d = stateOf (count .result) (count .last .1 .1 .0) in
-  elements .ensures
-  ∙ ap (λ (p : Parameters). elementsAt k x (reads k x u (a .left)) (shapeOf (a .t .now) (kindsMet (a .met)) p) (count .result .last) d) (inside-of .ensures)
-  ∙ sym (way.sequence-go k x (reads k x u (a .left)) (u .look (a .element)) (a .bound) s _ (count .ensures) (if1 .left))
+    let a = c .before .before .before .before .before .before .before .before .before .before .before .before .before .before .before .before .args in
+    let count = c .before .before .before .before .before .before .before .before .before .before .before .count in
+    let elements = c .before .before .elements in
+    let inside-of = c .before .before .before .before .inside-of in
+    let if1 = c .before .before .before .before .before .before .before .if1 in
+    let k = sinkOf (a .m) in
+    let x = sourceOf (a .m) (a .v .now) in
+    let u = checked (a .t .now) (kindsMet (a .met)) in
+    let s = stateOf (a .c) (a .table .now) in
+    let d = stateOf (count .result) (count .last .1 .1 .0) in
+    elements .ensures
+    ∙ ap (λ (p : Parameters). elementsAt k x (reads k x u (a .left)) (shapeOf (a .t .now) (kindsMet (a .met)) p) (count .result .last) d) (inside-of .ensures)
+    ∙ sym (way.sequence-go k x (reads k x u (a .left)) (u .look (a .element)) (a .bound) s _ (count .ensures) (if1 .left))
 
 abbrev struct-members-of : ℕ → struct-members-lts.Claims
-struct-members-of t =
-    (member-at-reads.Asked, member-at-reads.Learnt, inside-of-reads.Asked, inside-of-reads.Learnt, flat-reads.Asked, flat-reads.Learnt,
-    visit-below t, visit.Post)
+struct-members-of t = (
+  member-at-reads.Asked,
+  member-at-reads.Learnt,
+  inside-of-reads.Asked,
+  inside-of-reads.Learnt,
+  flat-reads.Asked,
+  flat-reads.Learnt,
+  visit-below t,
+  visit.Post,
+)
 
 abbrev struct-members-Inv-loop : struct-members-lts.InvT-loop
 struct-members-Inv-loop t met v m table₀ left start order count at₀ d₀ k₀ table at d k =
@@ -449,11 +463,11 @@ struct-members-μ-loop t met v m table₀ left start order count at₀ d₀ k₀
 
 struct-members-loop-holds : (t : ℕ) → struct-members-lts.Need-loop-holds (struct-members-of t) (struct-members-at t) struct-members.Post struct-members-Inv-loop struct-members-μ-loop
 struct-members-loop-holds t c =
-  let a = c .before .before .before .before .before .args in
-  let k = sinkOf (a .m) in
-  let x = sourceOf (a .m) (a .v .now) in
-  let u = checked (a .t .now) (kindsMet (a .met)) in
-  onward-none k x (reads k x u (a .left)) u (a .t .now) (a .fields .start) (a .fields .order)
+    let a = c .before .before .before .before .before .args in
+    let k = sinkOf (a .m) in
+    let x = sourceOf (a .m) (a .v .now) in
+    let u = checked (a .t .now) (kindsMet (a .met)) in
+    onward-none k x (reads k x u (a .left)) u (a .t .now) (a .fields .start) (a .fields .order)
 
 struct-members-member-at-requires : (t : ℕ) → struct-members-lts.Need-member-at-requires (struct-members-of t) (struct-members-at t) struct-members.Post struct-members-Inv-loop struct-members-μ-loop
 struct-members-member-at-requires t c κs = search needs
@@ -469,15 +483,15 @@ struct-members-same-length t c = c .before .before .before .before .loop .inv .s
 
 struct-members-returns : (t : ℕ) → struct-members-lts.Need-returns (struct-members-of t) (struct-members-at t) struct-members.Post struct-members-Inv-loop struct-members-μ-loop
 struct-members-returns t c =
-  let a = c .before .before .before .before .before .before .before .before .before .before .args in
-  let loop = c .before .before .before .before .loop in
-  let loop-test = c .before .before .before .loop-test in
-  let member-at = c .before .before .member-at in
-  let enum-told = c .enum-told in
-  let k = sinkOf (a .m) in
-  let x = sourceOf (a .m) (a .v .now) in
-  let u = checked (a .t .now) (kindsMet (a .met)) in
-  onward-cut k x (reads k x u (a .left)) u (a .t .now) (a .fields .start) (a .fields .order) (loop .inv) (loop-test .taken) (sym (member-at .ensures) ∙ enum-told .given .1)
+    let a = c .before .before .before .before .before .before .before .before .before .before .args in
+    let loop = c .before .before .before .before .loop in
+    let loop-test = c .before .before .before .loop-test in
+    let member-at = c .before .before .member-at in
+    let enum-told = c .enum-told in
+    let k = sinkOf (a .m) in
+    let x = sourceOf (a .m) (a .v .now) in
+    let u = checked (a .t .now) (kindsMet (a .met)) in
+    onward-cut k x (reads k x u (a .left)) u (a .t .now) (a .fields .start) (a .fields .order) (loop .inv) (loop-test .taken) (sym (member-at .ensures) ∙ enum-told .given .1)
 
 struct-members-inside-of-requires : (t : ℕ) → struct-members-lts.Need-inside-of-requires (struct-members-of t) (struct-members-at t) struct-members.Post struct-members-Inv-loop struct-members-μ-loop
 struct-members-inside-of-requires t c κs = search needs
@@ -490,8 +504,8 @@ struct-members-flat-requires t c κs = search needs
 
 struct-members-visit-requires : (t : ℕ) → struct-members-lts.Need-visit-requires (struct-members-of t) (struct-members-at t) struct-members.Post struct-members-Inv-loop struct-members-μ-loop
 struct-members-visit-requires t c κs =
-  let pre = c .before .before .before .before .before .before .before .before .before .before .before .before .before .before .pre in
-  (omega (arith, pre .0), tt)
+    let pre = c .before .before .before .before .before .before .before .before .before .before .before .before .before .before .pre in
+    (omega (arith, pre .0), tt)
 
 -- a member is visited, whether it enters something or not
 struct-members-step : (t : ℕ) (c : struct-members-lts.At-match2-came (struct-members-of t) (struct-members-at t) struct-members.Post struct-members-Inv-loop struct-members-μ-loop) →
@@ -500,53 +514,53 @@ struct-members-step : (t : ℕ) (c : struct-members-lts.At-match2-came (struct-m
     stateOf (c .match2 .d) (c .match2 .table) ≡ visits (a .m) (a .v .now) (a .t .now) (kindsMet (a .met)) (a .left) (c .before .inside-of .result) (stateOf (l .d) (l .table))
 unfolding shapeOf
 struct-members-step t c =
-  let a = c .before .before .before .before .before .before .before .before .before .before .before .before .before .args in
-  let l = c .before .before .before .before .before .before .before .loop in
-  let r = c .match2 in
-  ⊎-elim
-  (λ f. ap (λ (w : Cursor). stateOf w (r .table)) (f .8) ∙ ap (stateOf (f .4 .result)) (f .7) ∙ f .4 .ensures (checked (a .t .now) (kindsMet (a .met)))
-  ∙ ap (λ (p : Parameters). visits (a .m) (a .v .now) (a .t .now) (kindsMet (a .met)) (a .left) p (stateOf (l .d) (l .table))) (sym (f .1 .given .1)))
-  (λ e. ap (λ (w : Cursor). stateOf w (r .table)) (e .6) ∙ ap (stateOf (e .2 .result)) (e .5) ∙ e .2 .ensures)
-  (r .came)
+    let a = c .before .before .before .before .before .before .before .before .before .before .before .before .before .args in
+    let l = c .before .before .before .before .before .before .before .loop in
+    let r = c .match2 in
+    ⊎-elim
+    (λ f. ap (λ (w : Cursor). stateOf w (r .table)) (f .8) ∙ ap (stateOf (f .4 .result)) (f .7) ∙ f .4 .ensures (checked (a .t .now) (kindsMet (a .met)))
+    ∙ ap (λ (p : Parameters). visits (a .m) (a .v .now) (a .t .now) (kindsMet (a .met)) (a .left) p (stateOf (l .d) (l .table))) (sym (f .1 .given .1)))
+    (λ e. ap (λ (w : Cursor). stateOf w (r .table)) (e .6) ∙ ap (stateOf (e .2 .result)) (e .5) ∙ e .2 .ensures)
+    (r .came)
 
 struct-members-rows : (t : ℕ) (c : struct-members-lts.At-match2-came (struct-members-of t) (struct-members-at t) struct-members.Post struct-members-Inv-loop struct-members-μ-loop) →
     length (c .match2 .table) ≡ length (c .before .before .before .before .before .before .before .loop .table)
 struct-members-rows t c =
-  ⊎-elim
-  (λ f. ap (λ (l : List ℕ). length l) (f .7) ∙ f .4 .kept .1 .1 .0)
-  (λ e. ap (λ (l : List ℕ). length l) (e .5) ∙ e .2 .kept .1 .1 .1 .1 .0)
-  (c .match2 .came)
+    ⊎-elim
+    (λ f. ap (λ (l : List ℕ). length l) (f .7) ∙ f .4 .kept .1 .1 .0)
+    (λ e. ap (λ (l : List ℕ). length l) (e .5) ∙ e .2 .kept .1 .1 .1 .1 .0)
+    (c .match2 .came)
 
 struct-members-same-length-2 : (t : ℕ) → struct-members-lts.Need-same-length-2 (struct-members-of t) (struct-members-at t) struct-members.Post struct-members-Inv-loop struct-members-μ-loop
 struct-members-same-length-2 t c =
-  let joined = c .before .before in
-  let loop = c .before .before .before .before .before .before .before .before .before .loop in
-  struct-members-rows t joined ∙ loop .inv .same
+    let joined = c .before .before in
+    let loop = c .before .before .before .before .before .before .before .before .before .loop in
+    struct-members-rows t joined ∙ loop .inv .same
 
 struct-members-returns-2 : (t : ℕ) → struct-members-lts.Need-returns-2 (struct-members-of t) (struct-members-at t) struct-members.Post struct-members-Inv-loop struct-members-μ-loop
 unfolding look
 struct-members-returns-2 t c =
-  let a = c .before .before .before .before .before .before .before .before .before .before .before .before .before .before .before .args in
-  let member-at = c .before .before .before .before .before .before .before .member-at in
-  let inner = c .before .before .before .before .before .inner in
-  let loop-test = c .before .before .before .before .before .before .before .before .loop-test in
-  let joined = c .before .before in
-  let inside-of = c .before .before .before .inside-of in
-  let if1 = c .if1 in
-  let k = sinkOf (a .m) in
-  let x = sourceOf (a .m) (a .v .now) in
-  let u = checked (a .t .now) (kindsMet (a .met)) in
-  let loop = c .before .before .before .before .before .before .before .before .before .loop in
-  let s = stateOf (loop .d) (loop .table) in
-  let at = sym (member-at .ensures) ∙ inner .given .1 in
-  onward-stop k x (reads k x u (a .left)) u (a .t .now) (a .fields .start) (a .fields .order) (loop .inv) _ _ (loop-test .taken) at
-  (struct-members-step t joined ∙ ap (λ (p : Parameters). visits (a .m) (a .v .now) (a .t .now) (kindsMet (a .met)) (a .left) p s) (inside-of .ensures))
-  (if1 .taken)
+    let a = c .before .before .before .before .before .before .before .before .before .before .before .before .before .before .before .args in
+    let member-at = c .before .before .before .before .before .before .before .member-at in
+    let inner = c .before .before .before .before .before .inner in
+    let loop-test = c .before .before .before .before .before .before .before .before .loop-test in
+    let joined = c .before .before in
+    let inside-of = c .before .before .before .inside-of in
+    let if1 = c .if1 in
+    let k = sinkOf (a .m) in
+    let x = sourceOf (a .m) (a .v .now) in
+    let u = checked (a .t .now) (kindsMet (a .met)) in
+    let loop = c .before .before .before .before .before .before .before .before .before .loop in
+    let s = stateOf (loop .d) (loop .table) in
+    let at = sym (member-at .ensures) ∙ inner .given .1 in
+    onward-stop k x (reads k x u (a .left)) u (a .t .now) (a .fields .start) (a .fields .order) (loop .inv) _ _ (loop-test .taken) at
+    (struct-members-step t joined ∙ ap (λ (p : Parameters). visits (a .m) (a .v .now) (a .t .now) (kindsMet (a .met)) (a .left) p s) (inside-of .ensures))
+    (if1 .taken)
 
 struct-members-add-k : (t : ℕ) → struct-members-lts.Need-add-k (struct-members-of t) (struct-members-at t) struct-members.Post struct-members-Inv-loop struct-members-μ-loop
 struct-members-add-k t c =
-  let good = c .before .before .before .before .before .before .before .before .before .before .before .before .before .before .before .good in
-  search (needs, good .1 .1 .1 .1 .1 .0)
+    let good = c .before .before .before .before .before .before .before .before .before .before .before .before .before .before .before .good in
+    search (needs, good .1 .1 .1 .1 .1 .0)
 
 struct-members-loop-less : (t : ℕ) → struct-members-lts.Need-loop-less (struct-members-of t) (struct-members-at t) struct-members.Post struct-members-Inv-loop struct-members-μ-loop
 struct-members-loop-less t c = omega arith
@@ -554,39 +568,49 @@ struct-members-loop-less t c = omega arith
 struct-members-loop-again : (t : ℕ) → struct-members-lts.Need-loop-again (struct-members-of t) (struct-members-at t) struct-members.Post struct-members-Inv-loop struct-members-μ-loop
 unfolding look
 struct-members-loop-again t c =
-  let a = c .before .before .before .before .before .before .before .before .before .before .before .before .before .before .before .args in
-  let member-at = c .before .before .before .before .before .before .before .member-at in
-  let inner = c .before .before .before .before .before .inner in
-  let loop-test = c .before .before .before .before .before .before .before .before .loop-test in
-  let joined = c .before .before in
-  let inside-of = c .before .before .before .inside-of in
-  let if1 = c .if1 in
-  let k = sinkOf (a .m) in
-  let x = sourceOf (a .m) (a .v .now) in
-  let u = checked (a .t .now) (kindsMet (a .met)) in
-  let loop = c .before .before .before .before .before .before .before .before .before .loop in
-  let s = stateOf (loop .d) (loop .table) in
-  let at = sym (member-at .ensures) ∙ inner .given .1 in
-  onward-more k x (reads k x u (a .left)) u (a .t .now) (a .fields .start) (a .fields .order) (loop .inv) _ _ (loop-test .taken) at
-  (struct-members-step t joined ∙ ap (λ (p : Parameters). visits (a .m) (a .v .now) (a .t .now) (kindsMet (a .met)) (a .left) p s) (inside-of .ensures))
-  (struct-members-rows t joined) (if1 .left)
+    let a = c .before .before .before .before .before .before .before .before .before .before .before .before .before .before .before .args in
+    let member-at = c .before .before .before .before .before .before .before .member-at in
+    let inner = c .before .before .before .before .before .inner in
+    let loop-test = c .before .before .before .before .before .before .before .before .loop-test in
+    let joined = c .before .before in
+    let inside-of = c .before .before .before .inside-of in
+    let if1 = c .if1 in
+    let k = sinkOf (a .m) in
+    let x = sourceOf (a .m) (a .v .now) in
+    let u = checked (a .t .now) (kindsMet (a .met)) in
+    let loop = c .before .before .before .before .before .before .before .before .before .loop in
+    let s = stateOf (loop .d) (loop .table) in
+    let at = sym (member-at .ensures) ∙ inner .given .1 in
+    onward-more k x (reads k x u (a .left)) u (a .t .now) (a .fields .start) (a .fields .order) (loop .inv) _ _ (loop-test .taken) at
+    (struct-members-step t joined ∙ ap (λ (p : Parameters). visits (a .m) (a .v .now) (a .t .now) (kindsMet (a .met)) (a .left) p s) (inside-of .ensures))
+    (struct-members-rows t joined) (if1 .left)
 
 struct-members-same-length-3 : (t : ℕ) → struct-members-lts.Need-same-length-3 (struct-members-of t) (struct-members-at t) struct-members.Post struct-members-Inv-loop struct-members-μ-loop
 struct-members-same-length-3 t c = c .before .loop .inv .same
 
 struct-members-returns-3 : (t : ℕ) → struct-members-lts.Need-returns-3 (struct-members-of t) (struct-members-at t) struct-members.Post struct-members-Inv-loop struct-members-μ-loop
 struct-members-returns-3 t c =
-  let a = c .before .before .before .before .before .before .before .args in
-  let k = sinkOf (a .m) in
-  let x = sourceOf (a .m) (a .v .now) in
-  let u = checked (a .t .now) (kindsMet (a .met)) in
-  onward-all k x (reads k x u (a .left)) u (a .t .now) (a .fields .start) (a .fields .order) (c .before .loop .inv) (c .loop-test .left)
+    let a = c .before .before .before .before .before .before .before .args in
+    let k = sinkOf (a .m) in
+    let x = sourceOf (a .m) (a .v .now) in
+    let u = checked (a .t .now) (kindsMet (a .met)) in
+    onward-all k x (reads k x u (a .left)) u (a .t .now) (a .fields .start) (a .fields .order) (c .before .loop .inv) (c .loop-test .left)
 
 abbrev union-member-of : ℕ → union-member-lts.Claims
-union-member-of t =
-    (inside-of-reads.Asked, inside-of-reads.Learnt, flat-reads.Asked, flat-reads.Learnt, visit-below t, visit.Post,
-    place-in-reads.Asked, place-in-reads.Learnt, labels-for-reads.Asked, labels-for-reads.Learnt, chosen-of-reads.Asked,
-    chosen-of-reads.Learnt)
+union-member-of t = (
+  inside-of-reads.Asked,
+  inside-of-reads.Learnt,
+  flat-reads.Asked,
+  flat-reads.Learnt,
+  visit-below t,
+  visit.Post,
+  place-in-reads.Asked,
+  place-in-reads.Learnt,
+  labels-for-reads.Asked,
+  labels-for-reads.Learnt,
+  chosen-of-reads.Asked,
+  chosen-of-reads.Learnt,
+)
 
 union-member-inside-of-requires : (t : ℕ) → union-member-lts.Need-inside-of-requires (union-member-of t) (union-member-at t) union-member.Post
 union-member-inside-of-requires t c κs = search needs
@@ -606,21 +630,21 @@ union-member-step : (t : ℕ) (c : union-member-lts.At-match-came (union-member-
     stateOf (c .match .d) (c .match .table) ≡ visits (a .m) (a .v .now) (a .t .now) (kindsMet (a .met)) (a .left) (c .before .inside-of .result) (stateOf (a .c) (a .table .now))
 unfolding shapeOf
 union-member-step t c =
-  let a = c .before .before .before .before .before .args in
-  let r = c .match in
-  ⊎-elim
-  (λ f. ap (λ (w : Cursor). stateOf w (r .table)) (f .8) ∙ ap (stateOf (f .4 .result)) (f .7) ∙ f .4 .ensures (checked (a .t .now) (kindsMet (a .met)))
-  ∙ ap (λ (p : Parameters). visits (a .m) (a .v .now) (a .t .now) (kindsMet (a .met)) (a .left) p (stateOf (a .c) (a .table .now))) (sym (f .1 .given .1)))
-  (λ e. ap (λ (w : Cursor). stateOf w (r .table)) (e .6) ∙ ap (stateOf (e .2 .result)) (e .5) ∙ e .2 .ensures)
-  (r .came)
+    let a = c .before .before .before .before .before .args in
+    let r = c .match in
+    ⊎-elim
+    (λ f. ap (λ (w : Cursor). stateOf w (r .table)) (f .8) ∙ ap (stateOf (f .4 .result)) (f .7) ∙ f .4 .ensures (checked (a .t .now) (kindsMet (a .met)))
+    ∙ ap (λ (p : Parameters). visits (a .m) (a .v .now) (a .t .now) (kindsMet (a .met)) (a .left) p (stateOf (a .c) (a .table .now))) (sym (f .1 .given .1)))
+    (λ e. ap (λ (w : Cursor). stateOf w (r .table)) (e .6) ∙ ap (stateOf (e .2 .result)) (e .5) ∙ e .2 .ensures)
+    (r .came)
 
 union-member-rows : (t : ℕ) (c : union-member-lts.At-match-came (union-member-of t) (union-member-at t) union-member.Post) →
     length (c .match .table) ≡ length (c .before .before .before .before .before .args .table .now)
 union-member-rows t c =
-  ⊎-elim
-  (λ f. ap (λ (l : List ℕ). length l) (f .7) ∙ f .4 .kept .1 .1 .0)
-  (λ e. ap (λ (l : List ℕ). length l) (e .5) ∙ e .2 .kept .1 .1 .1 .1 .0)
-  (c .match .came)
+    ⊎-elim
+    (λ f. ap (λ (l : List ℕ). length l) (f .7) ∙ f .4 .kept .1 .1 .0)
+    (λ e. ap (λ (l : List ℕ). length l) (e .5) ∙ e .2 .kept .1 .1 .1 .1 .0)
+    (c .match .came)
 
 union-member-same-length : (t : ℕ) → union-member-lts.Need-same-length (union-member-of t) (union-member-at t) union-member.Post
 union-member-same-length t c = union-member-rows t (c .before .before)
@@ -628,16 +652,16 @@ union-member-same-length t c = union-member-rows t (c .before .before)
 union-member-returns : (t : ℕ) → union-member-lts.Need-returns (union-member-of t) (union-member-at t) union-member.Post
 unfolding look
 union-member-returns t c =
-  let a = c .before .before .before .before .before .before .before .args in
-  let k = sinkOf (a .m) in
-  let x = sourceOf (a .m) (a .v .now) in
-  let u = checked (a .t .now) (kindsMet (a .met)) in
-  let s = stateOf (a .c) (a .table .now) in
-  let d = stateOf (c .before .before .match .d) (c .before .before .match .table) in
-  let ms = membersOf (labelsFor (a .t .now) (kindsMet (a .met)) (placeIn (a .discriminant))) (a .t .now) (a .fields) in
-  let is = union-member-step t (c .before .before)
-  ∙ ap (λ (p : Parameters). visits (a .m) (a .v .now) (a .t .now) (kindsMet (a .met)) (a .left) p s) (c .before .before .before .inside-of .ensures) in
-  sym (way.union-stop k x (reads k x u (a .left)) u (a .discriminant) ms (a .default) s d is (c .if1 .taken))
+    let a = c .before .before .before .before .before .before .before .args in
+    let k = sinkOf (a .m) in
+    let x = sourceOf (a .m) (a .v .now) in
+    let u = checked (a .t .now) (kindsMet (a .met)) in
+    let s = stateOf (a .c) (a .table .now) in
+    let d = stateOf (c .before .before .match .d) (c .before .before .match .table) in
+    let ms = membersOf (labelsFor (a .t .now) (kindsMet (a .met)) (placeIn (a .discriminant))) (a .t .now) (a .fields) in
+    let is = union-member-step t (c .before .before)
+    ∙ ap (λ (p : Parameters). visits (a .m) (a .v .now) (a .t .now) (kindsMet (a .met)) (a .left) p s) (c .before .before .before .inside-of .ensures) in
+    sym (way.union-stop k x (reads k x u (a .left)) u (a .discriminant) ms (a .default) s d is (c .if1 .taken))
 
 union-member-place-in-requires : (t : ℕ) → union-member-lts.Need-place-in-requires (union-member-of t) (union-member-at t) union-member.Post
 union-member-place-in-requires t c κs = search needs
@@ -660,26 +684,26 @@ union-member-same-length-2 t c = union-member-rows t (c .before .before .before 
 union-member-returns-2 : (t : ℕ) → union-member-lts.Need-returns-2 (union-member-of t) (union-member-at t) union-member.Post
 unfolding look
 union-member-returns-2 t c =
-  let a = c .before .before .before .before .before .before .before .before .before .before .before .before .args in
-  let match = c .before .before .before .before .before .before .before .match in
-  let joined = c .before .before .before .before .before .before .before in
-  let inside-of = c .before .before .before .before .before .before .before .before .inside-of in
-  let labels-for = c .before .before .before .labels-for in
-  let place-in = c .before .before .before .before .place-in in
-  let chosen-of = c .before .before .chosen-of in
-  let if1 = c .before .before .before .before .before .if1 in
-  let enum-told = c .enum-told in
-  let k = sinkOf (a .m) in
-  let x = sourceOf (a .m) (a .v .now) in
-  let u = checked (a .t .now) (kindsMet (a .met)) in
-  let s = stateOf (a .c) (a .table .now) in
-  let d = stateOf (match .d) (match .table) in
-  let ms = membersOf (labelsFor (a .t .now) (kindsMet (a .met)) (placeIn (a .discriminant))) (a .t .now) (a .fields) in
-  let is = union-member-step t joined
-  ∙ ap (λ (p : Parameters). visits (a .m) (a .v .now) (a .t .now) (kindsMet (a .met)) (a .left) p s) (inside-of .ensures) in
-  let arm = ap (λ (l : Labels). chosenOf (membersOf l (a .t .now) (a .fields)) (a .default) (match .d .last))
-  (sym (labels-for .ensures ∙ ap (labelsFor (a .t .now) (kindsMet (a .met))) (place-in .ensures))) ∙ sym (chosen-of .ensures) in
-  sym (way.union-none k x (reads k x u (a .left)) u (a .discriminant) ms (a .default) s d is (if1 .left) (arm ∙ enum-told .given .1))
+    let a = c .before .before .before .before .before .before .before .before .before .before .before .before .args in
+    let match = c .before .before .before .before .before .before .before .match in
+    let joined = c .before .before .before .before .before .before .before in
+    let inside-of = c .before .before .before .before .before .before .before .before .inside-of in
+    let labels-for = c .before .before .before .labels-for in
+    let place-in = c .before .before .before .before .place-in in
+    let chosen-of = c .before .before .chosen-of in
+    let if1 = c .before .before .before .before .before .if1 in
+    let enum-told = c .enum-told in
+    let k = sinkOf (a .m) in
+    let x = sourceOf (a .m) (a .v .now) in
+    let u = checked (a .t .now) (kindsMet (a .met)) in
+    let s = stateOf (a .c) (a .table .now) in
+    let d = stateOf (match .d) (match .table) in
+    let ms = membersOf (labelsFor (a .t .now) (kindsMet (a .met)) (placeIn (a .discriminant))) (a .t .now) (a .fields) in
+    let is = union-member-step t joined
+    ∙ ap (λ (p : Parameters). visits (a .m) (a .v .now) (a .t .now) (kindsMet (a .met)) (a .left) p s) (inside-of .ensures) in
+    let arm = ap (λ (l : Labels). chosenOf (membersOf l (a .t .now) (a .fields)) (a .default) (match .d .last))
+    (sym (labels-for .ensures ∙ ap (labelsFor (a .t .now) (kindsMet (a .met))) (place-in .ensures))) ∙ sym (chosen-of .ensures) in
+    sym (way.union-none k x (reads k x u (a .left)) u (a .discriminant) ms (a .default) s d is (if1 .left) (arm ∙ enum-told .given .1))
 
 union-member-inside-of-requires-2 : (t : ℕ) → union-member-lts.Need-inside-of-requires-2 (union-member-of t) (union-member-at t) union-member.Post
 union-member-inside-of-requires-2 t c κs = search needs
@@ -692,97 +716,114 @@ union-member-flat-requires-2 t c κs = search needs
 
 union-member-visit-requires-2 : (t : ℕ) → union-member-lts.Need-visit-requires-2 (union-member-of t) (union-member-at t) union-member.Post
 union-member-visit-requires-2 t c κs =
-  let pre = c .before .before .before .before .before .before .before .before .before .before .before .before .before .before .before .before .pre in
-  (omega (arith, pre .0), tt)
+    let pre = c .before .before .before .before .before .before .before .before .before .before .before .before .before .before .before .before .pre in
+    (omega (arith, pre .0), tt)
 
 union-member-same-length-3 : (t : ℕ) → union-member-lts.Need-same-length-3 (union-member-of t) (union-member-at t) union-member.Post
 union-member-same-length-3 t c =
-  let flat2 = c .before .before .flat2 in
-  let joined = c .before .before .before .before .before .before .before .before .before .before .before .before .before .before .before .before in
-  flat2 .kept .1 .1 .0 ∙ union-member-rows t joined
+    let flat2 = c .before .before .flat2 in
+    let joined = c .before .before .before .before .before .before .before .before .before .before .before .before .before .before .before .before in
+    flat2 .kept .1 .1 .0 ∙ union-member-rows t joined
 
 union-member-returns-3 : (t : ℕ) → union-member-lts.Need-returns-3 (union-member-of t) (union-member-at t) union-member.Post
 unfolding look shapeOf
 union-member-returns-3 t c =
-  let a = c .before .before .before .before .before .before .before .before .before .before .before .before .before .before .before .before .before .before .before .before .before .args in
-  let match = c .before .before .before .before .before .before .before .before .before .before .before .before .before .before .before .before .match in
-  let joined = c .before .before .before .before .before .before .before .before .before .before .before .before .before .before .before .before in
-  let inside-of = c .before .before .before .before .before .before .before .before .before .before .before .before .before .before .before .before .before .inside-of in
-  let labels-for = c .before .before .before .before .before .before .before .before .before .before .before .before .labels-for in
-  let place-in = c .before .before .before .before .before .before .before .before .before .before .before .before .before .place-in in
-  let chosen-of = c .before .before .before .before .before .before .before .before .before .before .before .chosen-of in
-  let flat2 = c .before .before .flat2 in
-  let e1 = c .before .before .before .before .before .e in
-  let inside-of2 = c .before .before .before .before .before .before .before .inside-of2 in
-  let if1 = c .before .before .before .before .before .before .before .before .before .before .before .before .before .before .if1 in
-  let inner = c .before .before .before .before .before .before .before .before .before .inner in
-  let k = sinkOf (a .m) in
-  let x = sourceOf (a .m) (a .v .now) in
-  let u = checked (a .t .now) (kindsMet (a .met)) in
-  let s = stateOf (a .c) (a .table .now) in
-  let d = stateOf (match .d) (match .table) in
-  let ms = membersOf (labelsFor (a .t .now) (kindsMet (a .met)) (placeIn (a .discriminant))) (a .t .now) (a .fields) in
-  let is = union-member-step t joined
-  ∙ ap (λ (p : Parameters). visits (a .m) (a .v .now) (a .t .now) (kindsMet (a .met)) (a .left) p s) (inside-of .ensures) in
-  let arm = ap (λ (l : Labels). chosenOf (membersOf l (a .t .now) (a .fields)) (a .default) (match .d .last))
-  (sym (labels-for .ensures ∙ ap (labelsFor (a .t .now) (kindsMet (a .met))) (place-in .ensures))) ∙ sym (chosen-of .ensures) in
-  flat2 .ensures u
-  ∙ ap (λ (p : Parameters). visits (a .m) (a .v .now) (a .t .now) (kindsMet (a .met)) (a .left) p d) (sym (e1 .given .1) ∙ inside-of2 .ensures)
-  ∙ sym (way.union-member k x (reads k x u (a .left)) u (a .discriminant) ms (a .default) s d is _ (if1 .left) (arm ∙ inner .given .1))
+    let a = c .before .before .before .before .before .before .before .before .before .before .before .before .before .before .before .before .before .before .before .before .before .args in
+    let match = c .before .before .before .before .before .before .before .before .before .before .before .before .before .before .before .before .match in
+    let joined = c .before .before .before .before .before .before .before .before .before .before .before .before .before .before .before .before in
+    let inside-of = c .before .before .before .before .before .before .before .before .before .before .before .before .before .before .before .before .before .inside-of in
+    let labels-for = c .before .before .before .before .before .before .before .before .before .before .before .before .labels-for in
+    let place-in = c .before .before .before .before .before .before .before .before .before .before .before .before .before .place-in in
+    let chosen-of = c .before .before .before .before .before .before .before .before .before .before .before .chosen-of in
+    let flat2 = c .before .before .flat2 in
+    let e1 = c .before .before .before .before .before .e in
+    let inside-of2 = c .before .before .before .before .before .before .before .inside-of2 in
+    let if1 = c .before .before .before .before .before .before .before .before .before .before .before .before .before .before .if1 in
+    let inner = c .before .before .before .before .before .before .before .before .before .inner in
+    let k = sinkOf (a .m) in
+    let x = sourceOf (a .m) (a .v .now) in
+    let u = checked (a .t .now) (kindsMet (a .met)) in
+    let s = stateOf (a .c) (a .table .now) in
+    let d = stateOf (match .d) (match .table) in
+    let ms = membersOf (labelsFor (a .t .now) (kindsMet (a .met)) (placeIn (a .discriminant))) (a .t .now) (a .fields) in
+    let is = union-member-step t joined
+    ∙ ap (λ (p : Parameters). visits (a .m) (a .v .now) (a .t .now) (kindsMet (a .met)) (a .left) p s) (inside-of .ensures) in
+    let arm = ap (λ (l : Labels). chosenOf (membersOf l (a .t .now) (a .fields)) (a .default) (match .d .last))
+    (sym (labels-for .ensures ∙ ap (labelsFor (a .t .now) (kindsMet (a .met))) (place-in .ensures))) ∙ sym (chosen-of .ensures) in
+    flat2 .ensures u
+    ∙ ap (λ (p : Parameters). visits (a .m) (a .v .now) (a .t .now) (kindsMet (a .met)) (a .left) p d) (sym (e1 .given .1) ∙ inside-of2 .ensures)
+    ∙ sym (way.union-member k x (reads k x u (a .left)) u (a .discriminant) ms (a .default) s d is _ (if1 .left) (arm ∙ inner .given .1))
 
 union-member-same-length-4 : (t : ℕ) → union-member-lts.Need-same-length-4 (union-member-of t) (union-member-at t) union-member.Post
 union-member-same-length-4 t c =
-  let visit2 = c .before .before .visit2 in
-  let joined = c .before .before .before .before .before .before .before .before .before .before .before .before .before .before in
-  visit2 .kept .1 .1 .1 .1 .0 ∙ union-member-rows t joined
+    let visit2 = c .before .before .visit2 in
+    let joined = c .before .before .before .before .before .before .before .before .before .before .before .before .before .before in
+    visit2 .kept .1 .1 .1 .1 .0 ∙ union-member-rows t joined
 
 union-member-returns-4 : (t : ℕ) → union-member-lts.Need-returns-4 (union-member-of t) (union-member-at t) union-member.Post
 unfolding look
 union-member-returns-4 t c =
-  let a = c .before .before .before .before .before .before .before .before .before .before .before .before .before .before .before .before .before .before .before .args in
-  let match = c .before .before .before .before .before .before .before .before .before .before .before .before .before .before .match in
-  let joined = c .before .before .before .before .before .before .before .before .before .before .before .before .before .before in
-  let inside-of = c .before .before .before .before .before .before .before .before .before .before .before .before .before .before .before .inside-of in
-  let labels-for = c .before .before .before .before .before .before .before .before .before .before .labels-for in
-  let place-in = c .before .before .before .before .before .before .before .before .before .before .before .place-in in
-  let chosen-of = c .before .before .before .before .before .before .before .before .before .chosen-of in
-  let visit2 = c .before .before .visit2 in
-  let inside-of2 = c .before .before .before .before .before .inside-of2 in
-  let if1 = c .before .before .before .before .before .before .before .before .before .before .before .before .if1 in
-  let inner = c .before .before .before .before .before .before .before .inner in
-  let k = sinkOf (a .m) in
-  let x = sourceOf (a .m) (a .v .now) in
-  let u = checked (a .t .now) (kindsMet (a .met)) in
-  let s = stateOf (a .c) (a .table .now) in
-  let d = stateOf (match .d) (match .table) in
-  let ms = membersOf (labelsFor (a .t .now) (kindsMet (a .met)) (placeIn (a .discriminant))) (a .t .now) (a .fields) in
-  let is = union-member-step t joined
-  ∙ ap (λ (p : Parameters). visits (a .m) (a .v .now) (a .t .now) (kindsMet (a .met)) (a .left) p s) (inside-of .ensures) in
-  let arm = ap (λ (l : Labels). chosenOf (membersOf l (a .t .now) (a .fields)) (a .default) (match .d .last))
-  (sym (labels-for .ensures ∙ ap (labelsFor (a .t .now) (kindsMet (a .met))) (place-in .ensures))) ∙ sym (chosen-of .ensures) in
-  visit2 .ensures
-  ∙ ap (λ (p : Parameters). visits (a .m) (a .v .now) (a .t .now) (kindsMet (a .met)) (a .left) p d) (inside-of2 .ensures)
-  ∙ sym (way.union-member k x (reads k x u (a .left)) u (a .discriminant) ms (a .default) s d is _ (if1 .left) (arm ∙ inner .given .1))
+    let a = c .before .before .before .before .before .before .before .before .before .before .before .before .before .before .before .before .before .before .before .args in
+    let match = c .before .before .before .before .before .before .before .before .before .before .before .before .before .before .match in
+    let joined = c .before .before .before .before .before .before .before .before .before .before .before .before .before .before in
+    let inside-of = c .before .before .before .before .before .before .before .before .before .before .before .before .before .before .before .inside-of in
+    let labels-for = c .before .before .before .before .before .before .before .before .before .before .labels-for in
+    let place-in = c .before .before .before .before .before .before .before .before .before .before .before .place-in in
+    let chosen-of = c .before .before .before .before .before .before .before .before .before .chosen-of in
+    let visit2 = c .before .before .visit2 in
+    let inside-of2 = c .before .before .before .before .before .inside-of2 in
+    let if1 = c .before .before .before .before .before .before .before .before .before .before .before .before .if1 in
+    let inner = c .before .before .before .before .before .before .before .inner in
+    let k = sinkOf (a .m) in
+    let x = sourceOf (a .m) (a .v .now) in
+    let u = checked (a .t .now) (kindsMet (a .met)) in
+    let s = stateOf (a .c) (a .table .now) in
+    let d = stateOf (match .d) (match .table) in
+    let ms = membersOf (labelsFor (a .t .now) (kindsMet (a .met)) (placeIn (a .discriminant))) (a .t .now) (a .fields) in
+    let is = union-member-step t joined
+    ∙ ap (λ (p : Parameters). visits (a .m) (a .v .now) (a .t .now) (kindsMet (a .met)) (a .left) p s) (inside-of .ensures) in
+    let arm = ap (λ (l : Labels). chosenOf (membersOf l (a .t .now) (a .fields)) (a .default) (match .d .last))
+    (sym (labels-for .ensures ∙ ap (labelsFor (a .t .now) (kindsMet (a .met))) (place-in .ensures))) ∙ sym (chosen-of .ensures) in
+    visit2 .ensures
+    ∙ ap (λ (p : Parameters). visits (a .m) (a .v .now) (a .t .now) (kindsMet (a .met)) (a .left) p d) (inside-of2 .ensures)
+    ∙ sym (way.union-member k x (reads k x u (a .left)) u (a .discriminant) ms (a .default) s d is _ (if1 .left) (arm ∙ inner .given .1))
 
 abbrev visit-of : ℕ → visit-lts.Claims
-visit-of t =
-    (refused-reads.Asked, refused-reads.Learnt, visit-reads.Asked, visit-reads.Learnt, inert-reads.Asked, inert-reads.Learnt,
-    struct-members-below t, struct-members.Post, exception-below t, exception.Post, union-member-below t, union-member.Post,
-    sequence-below t, sequence.Post, inside-of-reads.Asked, inside-of-reads.Learnt, elements-below t, elements.Post, visit-below t,
-    visit.Post)
+visit-of t = (
+  refused-reads.Asked,
+  refused-reads.Learnt,
+  visit-reads.Asked,
+  visit-reads.Learnt,
+  inert-reads.Asked,
+  inert-reads.Learnt,
+  struct-members-below t,
+  struct-members.Post,
+  exception-below t,
+  exception.Post,
+  union-member-below t,
+  union-member.Post,
+  sequence-below t,
+  sequence.Post,
+  inside-of-reads.Asked,
+  inside-of-reads.Learnt,
+  elements-below t,
+  elements.Post,
+  visit-below t,
+  visit.Post,
+)
 
 visit-refused-requires : (t : ℕ) → visit-lts.Need-refused-requires (visit-of t) (visit-at t) visit.Post
 visit-refused-requires t c κs = search needs
 
 visit-returns : (t : ℕ) → visit-lts.Need-returns (visit-of t) (visit-at t) visit.Post
 visit-returns t c =
-  let a = c .before .before .before .before .before .args in
-  let k = sinkOf (a .m) in
-  let x = sourceOf (a .m) (a .v .now) in
-  let u = checked (a .t .now) (kindsMet (a .met)) in
-  let s = stateOf (a .c) (a .table .now) in
-  let p = shapeOf (a .t .now) (kindsMet (a .met)) (a .p) in
-  c .refused .ensures (a .table .now) ∙ sym (ap (λ (l : ℕ). reads k x u l p s) (c .before .if1 .taken) ∙ reads-none k x u p s)
+    let a = c .before .before .before .before .before .args in
+    let k = sinkOf (a .m) in
+    let x = sourceOf (a .m) (a .v .now) in
+    let u = checked (a .t .now) (kindsMet (a .met)) in
+    let s = stateOf (a .c) (a .table .now) in
+    let p = shapeOf (a .t .now) (kindsMet (a .met)) (a .p) in
+    c .refused .ensures (a .table .now) ∙ sym (ap (λ (l : ℕ). reads k x u l p s) (c .before .if1 .taken) ∙ reads-none k x u p s)
 
 visit-sub-below : (t : ℕ) → visit-lts.Need-sub-below (visit-of t) (visit-at t) visit.Post
 visit-sub-below t c = omega arith
@@ -844,13 +885,13 @@ visit-visit-requires-2 t c κs = (omega (arith, c .before .before .before .befor
 visit-returns-2 : (t : ℕ) → visit-lts.Need-returns-2 (visit-of t) (visit-at t) visit.Post
 unfolding enter shapeOf
 visit-returns-2 t c =
-  let a = c .before .before .before .before .before .before .before .args in
-  let k = sinkOf (a .m) in
-  let x = sourceOf (a .m) (a .v .now) in
-  let u = checked (a .t .now) (kindsMet (a .met)) in
-  let s = stateOf (a .c) (a .table .now) in
-  sym (way.visit-some k x u (a .left) (shapeOf (a .t .now) (kindsMet (a .met)) (a .p)) _ s _ (c .before .before .before .if1 .left)
-  (ap (shapeOf (a .t .now) (kindsMet (a .met))) (c .enum-told .given .1)) (c .before .before .visit .ensures (a .m) (a .table .now)))
+    let a = c .before .before .before .before .before .before .before .args in
+    let k = sinkOf (a .m) in
+    let x = sourceOf (a .m) (a .v .now) in
+    let u = checked (a .t .now) (kindsMet (a .met)) in
+    let s = stateOf (a .c) (a .table .now) in
+    sym (way.visit-some k x u (a .left) (shapeOf (a .t .now) (kindsMet (a .met)) (a .p)) _ s _ (c .before .before .before .if1 .left)
+    (ap (shapeOf (a .t .now) (kindsMet (a .met))) (c .enum-told .given .1)) (c .before .before .visit .ensures (a .m) (a .table .now)))
 
 visit-same-length : (t : ℕ) → visit-lts.Need-same-length (visit-of t) (visit-at t) visit.Post
 visit-same-length t c = c .before .before .inert .kept .1 .1 .0
@@ -858,18 +899,18 @@ visit-same-length t c = c .before .before .inert .kept .1 .1 .0
 visit-returns-3 : (t : ℕ) → visit-lts.Need-returns-3 (visit-of t) (visit-at t) visit.Post
 unfolding enter shapeOf
 visit-returns-3 t c =
-  let a = c .before .before .before .before .before .before .before .before .before .before .before .before .args in
-  let inert = c .before .before .inert in
-  let if1 = c .before .before .before .before .before .before .before .before .if1 in
-  let p1 = c .before .before .before .before .before .p in
-  let visit = c .before .before .before .before .before .before .before .visit in
-  let k = sinkOf (a .m) in
-  let x = sourceOf (a .m) (a .v .now) in
-  let u = checked (a .t .now) (kindsMet (a .met)) in
-  let s = stateOf (a .c) (a .table .now) in
-  inert .ensures ∙
-  sym (way.visit-some k x u (a .left) (shapeOf (a .t .now) (kindsMet (a .met)) (a .p)) _ s _ (if1 .left)
-  (ap (shapeOf (a .t .now) (kindsMet (a .met))) (p1 .given .1)) (visit .ensures (a .m) (a .table .now)))
+    let a = c .before .before .before .before .before .before .before .before .before .before .before .before .args in
+    let inert = c .before .before .inert in
+    let if1 = c .before .before .before .before .before .before .before .before .if1 in
+    let p1 = c .before .before .before .before .before .p in
+    let visit = c .before .before .before .before .before .before .before .visit in
+    let k = sinkOf (a .m) in
+    let x = sourceOf (a .m) (a .v .now) in
+    let u = checked (a .t .now) (kindsMet (a .met)) in
+    let s = stateOf (a .c) (a .table .now) in
+    inert .ensures ∙
+    sym (way.visit-some k x u (a .left) (shapeOf (a .t .now) (kindsMet (a .met)) (a .p)) _ s _ (if1 .left)
+    (ap (shapeOf (a .t .now) (kindsMet (a .met))) (p1 .given .1)) (visit .ensures (a .m) (a .table .now)))
 
 visit-same-length-2 : (t : ℕ) → visit-lts.Need-same-length-2 (visit-of t) (visit-at t) visit.Post
 visit-same-length-2 t c = c .before .before .struct-members .kept .1 .1 .1 .1 .0
@@ -877,18 +918,18 @@ visit-same-length-2 t c = c .before .before .struct-members .kept .1 .1 .1 .1 .0
 visit-returns-4 : (t : ℕ) → visit-lts.Need-returns-4 (visit-of t) (visit-at t) visit.Post
 unfolding enter shapeOf
 visit-returns-4 t c =
-  let a = c .before .before .before .before .before .before .before .before .before .before .before .before .args in
-  let struct-members = c .before .before .struct-members in
-  let if1 = c .before .before .before .before .before .before .before .before .if1 in
-  let p2 = c .before .before .before .before .before .p2 in
-  let visit = c .before .before .before .before .before .before .before .visit in
-  let k = sinkOf (a .m) in
-  let x = sourceOf (a .m) (a .v .now) in
-  let u = checked (a .t .now) (kindsMet (a .met)) in
-  let s = stateOf (a .c) (a .table .now) in
-  struct-members .ensures ∙
-  sym (way.visit-some k x u (a .left) (shapeOf (a .t .now) (kindsMet (a .met)) (a .p)) _ s _ (if1 .left)
-  (ap (shapeOf (a .t .now) (kindsMet (a .met))) (p2 .given .1)) (visit .ensures (a .m) (a .table .now)))
+    let a = c .before .before .before .before .before .before .before .before .before .before .before .before .args in
+    let struct-members = c .before .before .struct-members in
+    let if1 = c .before .before .before .before .before .before .before .before .if1 in
+    let p2 = c .before .before .before .before .before .p2 in
+    let visit = c .before .before .before .before .before .before .before .visit in
+    let k = sinkOf (a .m) in
+    let x = sourceOf (a .m) (a .v .now) in
+    let u = checked (a .t .now) (kindsMet (a .met)) in
+    let s = stateOf (a .c) (a .table .now) in
+    struct-members .ensures ∙
+    sym (way.visit-some k x u (a .left) (shapeOf (a .t .now) (kindsMet (a .met)) (a .p)) _ s _ (if1 .left)
+    (ap (shapeOf (a .t .now) (kindsMet (a .met))) (p2 .given .1)) (visit .ensures (a .m) (a .table .now)))
 
 visit-same-length-3 : (t : ℕ) → visit-lts.Need-same-length-3 (visit-of t) (visit-at t) visit.Post
 visit-same-length-3 t c = c .before .before .exception .kept .1 .1 .1 .1 .0
@@ -896,18 +937,18 @@ visit-same-length-3 t c = c .before .before .exception .kept .1 .1 .1 .1 .0
 visit-returns-5 : (t : ℕ) → visit-lts.Need-returns-5 (visit-of t) (visit-at t) visit.Post
 unfolding enter shapeOf
 visit-returns-5 t c =
-  let a = c .before .before .before .before .before .before .before .before .before .before .before .before .args in
-  let exception = c .before .before .exception in
-  let if1 = c .before .before .before .before .before .before .before .before .if1 in
-  let p3 = c .before .before .before .before .before .p3 in
-  let visit = c .before .before .before .before .before .before .before .visit in
-  let k = sinkOf (a .m) in
-  let x = sourceOf (a .m) (a .v .now) in
-  let u = checked (a .t .now) (kindsMet (a .met)) in
-  let s = stateOf (a .c) (a .table .now) in
-  exception .ensures ∙
-  sym (way.visit-some k x u (a .left) (shapeOf (a .t .now) (kindsMet (a .met)) (a .p)) _ s _ (if1 .left)
-  (ap (shapeOf (a .t .now) (kindsMet (a .met))) (p3 .given .1)) (visit .ensures (a .m) (a .table .now)))
+    let a = c .before .before .before .before .before .before .before .before .before .before .before .before .args in
+    let exception = c .before .before .exception in
+    let if1 = c .before .before .before .before .before .before .before .before .if1 in
+    let p3 = c .before .before .before .before .before .p3 in
+    let visit = c .before .before .before .before .before .before .before .visit in
+    let k = sinkOf (a .m) in
+    let x = sourceOf (a .m) (a .v .now) in
+    let u = checked (a .t .now) (kindsMet (a .met)) in
+    let s = stateOf (a .c) (a .table .now) in
+    exception .ensures ∙
+    sym (way.visit-some k x u (a .left) (shapeOf (a .t .now) (kindsMet (a .met)) (a .p)) _ s _ (if1 .left)
+    (ap (shapeOf (a .t .now) (kindsMet (a .met))) (p3 .given .1)) (visit .ensures (a .m) (a .table .now)))
 
 visit-same-length-4 : (t : ℕ) → visit-lts.Need-same-length-4 (visit-of t) (visit-at t) visit.Post
 visit-same-length-4 t c = c .before .before .union-member .kept .1 .1 .1 .1 .0
@@ -915,18 +956,18 @@ visit-same-length-4 t c = c .before .before .union-member .kept .1 .1 .1 .1 .0
 visit-returns-6 : (t : ℕ) → visit-lts.Need-returns-6 (visit-of t) (visit-at t) visit.Post
 unfolding enter shapeOf
 visit-returns-6 t c =
-  let a = c .before .before .before .before .before .before .before .before .before .before .before .before .args in
-  let union-member = c .before .before .union-member in
-  let if1 = c .before .before .before .before .before .before .before .before .if1 in
-  let p4 = c .before .before .before .before .before .p4 in
-  let visit = c .before .before .before .before .before .before .before .visit in
-  let k = sinkOf (a .m) in
-  let x = sourceOf (a .m) (a .v .now) in
-  let u = checked (a .t .now) (kindsMet (a .met)) in
-  let s = stateOf (a .c) (a .table .now) in
-  union-member .ensures ∙
-  sym (way.visit-some k x u (a .left) (shapeOf (a .t .now) (kindsMet (a .met)) (a .p)) _ s _ (if1 .left)
-  (ap (shapeOf (a .t .now) (kindsMet (a .met))) (p4 .given .1)) (visit .ensures (a .m) (a .table .now)))
+    let a = c .before .before .before .before .before .before .before .before .before .before .before .before .args in
+    let union-member = c .before .before .union-member in
+    let if1 = c .before .before .before .before .before .before .before .before .if1 in
+    let p4 = c .before .before .before .before .before .p4 in
+    let visit = c .before .before .before .before .before .before .before .visit in
+    let k = sinkOf (a .m) in
+    let x = sourceOf (a .m) (a .v .now) in
+    let u = checked (a .t .now) (kindsMet (a .met)) in
+    let s = stateOf (a .c) (a .table .now) in
+    union-member .ensures ∙
+    sym (way.visit-some k x u (a .left) (shapeOf (a .t .now) (kindsMet (a .met)) (a .p)) _ s _ (if1 .left)
+    (ap (shapeOf (a .t .now) (kindsMet (a .met))) (p4 .given .1)) (visit .ensures (a .m) (a .table .now)))
 
 visit-same-length-5 : (t : ℕ) → visit-lts.Need-same-length-5 (visit-of t) (visit-at t) visit.Post
 visit-same-length-5 t c = c .before .before .sequence .kept .1 .1 .1 .1 .0
@@ -934,18 +975,18 @@ visit-same-length-5 t c = c .before .before .sequence .kept .1 .1 .1 .1 .0
 visit-returns-7 : (t : ℕ) → visit-lts.Need-returns-7 (visit-of t) (visit-at t) visit.Post
 unfolding enter shapeOf
 visit-returns-7 t c =
-  let a = c .before .before .before .before .before .before .before .before .before .before .before .before .args in
-  let sequence = c .before .before .sequence in
-  let if1 = c .before .before .before .before .before .before .before .before .if1 in
-  let p5 = c .before .before .before .before .before .p5 in
-  let visit = c .before .before .before .before .before .before .before .visit in
-  let k = sinkOf (a .m) in
-  let x = sourceOf (a .m) (a .v .now) in
-  let u = checked (a .t .now) (kindsMet (a .met)) in
-  let s = stateOf (a .c) (a .table .now) in
-  sequence .ensures ∙
-  sym (way.visit-some k x u (a .left) (shapeOf (a .t .now) (kindsMet (a .met)) (a .p)) _ s _ (if1 .left)
-  (ap (shapeOf (a .t .now) (kindsMet (a .met))) (p5 .given .1)) (visit .ensures (a .m) (a .table .now)))
+    let a = c .before .before .before .before .before .before .before .before .before .before .before .before .args in
+    let sequence = c .before .before .sequence in
+    let if1 = c .before .before .before .before .before .before .before .before .if1 in
+    let p5 = c .before .before .before .before .before .p5 in
+    let visit = c .before .before .before .before .before .before .before .visit in
+    let k = sinkOf (a .m) in
+    let x = sourceOf (a .m) (a .v .now) in
+    let u = checked (a .t .now) (kindsMet (a .met)) in
+    let s = stateOf (a .c) (a .table .now) in
+    sequence .ensures ∙
+    sym (way.visit-some k x u (a .left) (shapeOf (a .t .now) (kindsMet (a .met)) (a .p)) _ s _ (if1 .left)
+    (ap (shapeOf (a .t .now) (kindsMet (a .met))) (p5 .given .1)) (visit .ensures (a .m) (a .table .now)))
 
 visit-same-length-6 : (t : ℕ) → visit-lts.Need-same-length-6 (visit-of t) (visit-at t) visit.Post
 visit-same-length-6 t c = c .before .before .elements .kept .1 .1 .1 .1 .0
@@ -953,19 +994,19 @@ visit-same-length-6 t c = c .before .before .elements .kept .1 .1 .1 .1 .0
 visit-returns-8 : (t : ℕ) → visit-lts.Need-returns-8 (visit-of t) (visit-at t) visit.Post
 unfolding look shapeOf
 visit-returns-8 t c =
-  let a = c .before .before .before .before .before .before .before .before .before .before .before .before .before .args in
-  let elements = c .before .before .elements in
-  let if1 = c .before .before .before .before .before .before .before .before .before .if1 in
-  let visit = c .before .before .before .before .before .before .before .before .visit in
-  let inside-of = c .before .before .before .before .inside-of in
-  let p6 = c .before .before .before .before .before .before .p6 in
-  let k = sinkOf (a .m) in
-  let x = sourceOf (a .m) (a .v .now) in
-  let u = checked (a .t .now) (kindsMet (a .met)) in
-  let s = stateOf (a .c) (a .table .now) in
-  elements .ensures ∙
-  sym (way.visit-array k x u (a .left) (shapeOf (a .t .now) (kindsMet (a .met)) (a .p)) _ _ s _ (if1 .left) (visit .ensures (a .m) (a .table .now))
-  (ap (shapeOf (a .t .now) (kindsMet (a .met))) (inside-of .ensures)) _ (ap (shapeOf (a .t .now) (kindsMet (a .met))) (p6 .given .1)))
+    let a = c .before .before .before .before .before .before .before .before .before .before .before .before .before .args in
+    let elements = c .before .before .elements in
+    let if1 = c .before .before .before .before .before .before .before .before .before .if1 in
+    let visit = c .before .before .before .before .before .before .before .before .visit in
+    let inside-of = c .before .before .before .before .inside-of in
+    let p6 = c .before .before .before .before .before .before .p6 in
+    let k = sinkOf (a .m) in
+    let x = sourceOf (a .m) (a .v .now) in
+    let u = checked (a .t .now) (kindsMet (a .met)) in
+    let s = stateOf (a .c) (a .table .now) in
+    elements .ensures ∙
+    sym (way.visit-array k x u (a .left) (shapeOf (a .t .now) (kindsMet (a .met)) (a .p)) _ _ s _ (if1 .left) (visit .ensures (a .m) (a .table .now))
+    (ap (shapeOf (a .t .now) (kindsMet (a .met))) (inside-of .ensures)) _ (ap (shapeOf (a .t .now) (kindsMet (a .met))) (p6 .given .1)))
 
 visit-same-length-7 : (t : ℕ) → visit-lts.Need-same-length-7 (visit-of t) (visit-at t) visit.Post
 visit-same-length-7 t c = c .before .before .visit2 .kept .1 .1 .1 .1 .0
@@ -973,19 +1014,19 @@ visit-same-length-7 t c = c .before .before .visit2 .kept .1 .1 .1 .1 .0
 visit-returns-9 : (t : ℕ) → visit-lts.Need-returns-9 (visit-of t) (visit-at t) visit.Post
 unfolding look shapeOf
 visit-returns-9 t c =
-  let a = c .before .before .before .before .before .before .before .before .before .before .before .before .before .args in
-  let visit2 = c .before .before .visit2 in
-  let if1 = c .before .before .before .before .before .before .before .before .before .if1 in
-  let visit = c .before .before .before .before .before .before .before .before .visit in
-  let inside-of2 = c .before .before .before .before .inside-of2 in
-  let p7 = c .before .before .before .before .before .before .p7 in
-  let k = sinkOf (a .m) in
-  let x = sourceOf (a .m) (a .v .now) in
-  let u = checked (a .t .now) (kindsMet (a .met)) in
-  let s = stateOf (a .c) (a .table .now) in
-  visit2 .ensures ∙
-  sym (way.visit-alias k x u (a .left) (shapeOf (a .t .now) (kindsMet (a .met)) (a .p)) _ _ s _ (if1 .left) (visit .ensures (a .m) (a .table .now))
-  (ap (shapeOf (a .t .now) (kindsMet (a .met))) (inside-of2 .ensures)) (ap (shapeOf (a .t .now) (kindsMet (a .met))) (p7 .given .1)))
+    let a = c .before .before .before .before .before .before .before .before .before .before .before .before .before .args in
+    let visit2 = c .before .before .visit2 in
+    let if1 = c .before .before .before .before .before .before .before .before .before .if1 in
+    let visit = c .before .before .before .before .before .before .before .before .visit in
+    let inside-of2 = c .before .before .before .before .inside-of2 in
+    let p7 = c .before .before .before .before .before .before .p7 in
+    let k = sinkOf (a .m) in
+    let x = sourceOf (a .m) (a .v .now) in
+    let u = checked (a .t .now) (kindsMet (a .met)) in
+    let s = stateOf (a .c) (a .table .now) in
+    visit2 .ensures ∙
+    sym (way.visit-alias k x u (a .left) (shapeOf (a .t .now) (kindsMet (a .met)) (a .p)) _ _ s _ (if1 .left) (visit .ensures (a .m) (a .table .now))
+    (ap (shapeOf (a .t .now) (kindsMet (a .met))) (inside-of2 .ensures)) (ap (shapeOf (a .t .now) (kindsMet (a .met))) (p7 .given .1)))
 
 pub +each+elements+exception+sequence+struct-members+union-member+visit-spec :
     {M : Type 1} → statement M

@@ -26,16 +26,16 @@ same-length c = search needs
 returns : tie.Need-returns
 unfolding look
 returns c =
-  let a = c .before .before .before .before .before .before .before .before .before .args in
-  let visit = c .before .before .visit in
-  let start = c .before .before .before .start in
-  let inside-of = c .before .before .before .before .before .inside-of in
-  let k = sinkOf (a .m) in
-  let x = sourceOf (a .m) (a .v .now) in
-  let u = checked (a .t .now) (kindsMet (a .met)) in
-  visit .ensures
-  ∙ ap (λ (p : Parameters). reads k x u 64 (shapeOf (a .t .now) (kindsMet (a .met)) p) (stateOf (start .result) (a .table .now))) (inside-of .ensures)
-  ∙ ap (λ (w : Cursor). reads k x u 64 (topOf u) (stateOf w (a .table .now))) (start .ensures)
+    let a = c .before .before .before .before .before .before .before .before .before .args in
+    let visit = c .before .before .visit in
+    let start = c .before .before .before .start in
+    let inside-of = c .before .before .before .before .before .inside-of in
+    let k = sinkOf (a .m) in
+    let x = sourceOf (a .m) (a .v .now) in
+    let u = checked (a .t .now) (kindsMet (a .met)) in
+    visit .ensures
+    ∙ ap (λ (p : Parameters). reads k x u 64 (shapeOf (a .t .now) (kindsMet (a .met)) p) (stateOf (start .result) (a .table .now))) (inside-of .ensures)
+    ∙ ap (λ (w : Cursor). reads k x u 64 (topOf u) (stateOf w (a .table .now))) (start .ensures)
 
 pub walk-spec : {M : Type 1} → statement M
 walk-spec = tie.close (tie.spec inside-of-requires start-requires visit-requires same-length returns)

@@ -23,8 +23,8 @@ shared-slice-read-if1 c = search needs
 
 returns : tie.Need-returns Inv-loop μ-loop
 returns c =
-  let a = c .before .before .before .before .args in
-  let l = c .before .before .before .loop in
+    let a = c .before .before .before .before .args in
+    let l = c .before .before .before .loop in
     let h = c .before .before .loop-test .taken in
     record {
       within = omega arith;
@@ -41,8 +41,8 @@ loop-less c = search needs
 
 loop-again : tie.Need-loop-again Inv-loop μ-loop
 loop-again c =
-  let a = c .before .before .before .before .args in
-  let l = c .before .before .before .loop in
+    let a = c .before .before .before .before .args in
+    let l = c .before .before .before .loop in
     (omega arith, word-onward (a .line .now) (l .i) (l .inv .1) (c .before .before .loop-test .taken) (c .if1 .left))
 
 returns-2 : tie.Need-returns-2 Inv-loop μ-loop

@@ -25,14 +25,14 @@ same-requires-2 c κs = search needs
 returns-2 : tie.Need-returns-2
 unfolding orderWord choose
 returns-2 c =
-  let same = c .before .before .before .before .same in
-  rw (sym (same .ensures) ∙ c .before .before .before .if1 .left, sym (c .before .same2 .ensures) ∙ c .if2 .taken)
+    let same = c .before .before .before .before .same in
+    rw (sym (same .ensures) ∙ c .before .before .before .if1 .left, sym (c .before .same2 .ensures) ∙ c .if2 .taken)
 
 returns-3 : tie.Need-returns-3
 unfolding orderWord choose
 returns-3 c =
-  let same = c .before .before .before .before .same in
-  rw (sym (same .ensures) ∙ c .before .before .before .if1 .left, sym (c .before .same2 .ensures) ∙ c .if2 .left)
+    let same = c .before .before .before .before .same in
+    rw (sym (same .ensures) ∙ c .before .before .before .if1 .left, sym (c .before .same2 .ensures) ∙ c .if2 .left)
 
 pub read-order-spec : {M : Type 1} → statement M
 read-order-spec =

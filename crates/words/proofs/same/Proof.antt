@@ -17,8 +17,8 @@ abbrev μ-loop : tie.MeasureT-loop
 
 returns : tie.Need-returns Inv-loop μ-loop
 returns c =
-  let a = c .before .args in
-  sym (same-unlike (a .a .now) (a .b .now) (c .if1 .taken))
+    let a = c .before .args in
+    sym (same-unlike (a .a .now) (a .b .now) (c .if1 .taken))
 
 loop-holds : tie.Need-loop-holds Inv-loop μ-loop
 loop-holds c = (omega arith, c .if1 .left, refl)
@@ -31,9 +31,9 @@ shared-slice-read-if2-2 c = search needs
 
 returns-2 : tie.Need-returns-2 Inv-loop μ-loop
 returns-2 c =
-  let loop = c .before .before .before .before .loop in
-  let a = c .before .before .before .before .before .before .args in
-  let l = loop in
+    let loop = c .before .before .before .before .loop in
+    let a = c .before .before .before .before .before .before .args in
+    let l = loop in
     same-other (a .a .now) (a .b .now) (l .i) (l .inv .1) (l .inv .2) (c .before .before .before .loop-test .taken) (c .if2 .taken)
 
 add-i : tie.Need-add-i Inv-loop μ-loop
@@ -44,15 +44,15 @@ loop-less c = search needs
 
 loop-again : tie.Need-loop-again Inv-loop μ-loop
 loop-again c =
-  let loop = c .before .before .before .before .loop in
-  let a = c .before .before .before .before .before .before .args in
-  let l = loop in
+    let loop = c .before .before .before .before .loop in
+    let a = c .before .before .before .before .before .before .args in
+    let l = loop in
     (omega arith, l .inv .1, same-onward (a .a .now) (a .b .now) (l .i) (l .inv .1) (l .inv .2) (c .before .before .before .loop-test .taken) (c .if2 .left))
 
 returns-3 : tie.Need-returns-3 Inv-loop μ-loop
 returns-3 c =
-  let a = c .before .before .before .args in
-  let l = c .before .loop in
+    let a = c .before .before .before .args in
+    let l = c .before .loop in
     same-last (a .a .now) (a .b .now) (l .i) (l .inv .1) (l .inv .2) (c .loop-test .left)
 
 pub same-spec : {M : Type 1} → statement M

@@ -18,15 +18,15 @@ add-t8 c = search needs
 
 returns : tie.Need-returns
 returns c =
-  let gap = c .before .gap in
-  let o = c .before .before .args in
+    let gap = c .before .gap in
+    let o = c .before .before .args in
     let h : o .self .0 + gap .result < 2 ^ 64 = omega arith in
     rw (gap .ensures, lt-ltb (aligned (o .self .0) (octets (o .size))) (2 ^ 64) (rw (gap .ensures) at h))
 
 returns-2 : tie.Need-returns-2
 returns-2 c =
-  let gap = c .before .gap in
-  let o = c .before .before .args in
+    let gap = c .before .gap in
+    let o = c .before .before .args in
     let h : 2 ^ 64 ≤ o .self .0 + gap .result = omega arith in
     rw (le-ltb (aligned (o .self .0) (octets (o .size))) (2 ^ 64) (rw (gap .ensures) at h))
 

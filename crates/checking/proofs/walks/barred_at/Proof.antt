@@ -15,8 +15,8 @@ returns c = search needs
 
 returns-2 : tie.Need-returns-2
 returns-2 c =
-  let a = c .before .args in
-  sym (List·getD-eq-default (a .t1) false {n = a .i} (omega (arith, c .if1 .left)))
+    let a = c .before .args in
+    sym (List·getD-eq-default (a .t1) false {n = a .i} (omega (arith, c .if1 .left)))
 
 pub barred-at-spec : {M : Type 1} → statement M
 barred-at-spec = tie.close (tie.spec array-read-result returns returns-2)

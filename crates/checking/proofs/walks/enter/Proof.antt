@@ -29,13 +29,13 @@ add-requires : tie.Need-add-requires
 add-requires c κs = search needs
 
 returns : tie.Need-returns
-returns c = 
-  let a = c .before .before .before .before .before .args in
-  let w = a .walk in
-  let g = c .before .before .before .before .before .good in
-  seen-entered w _ (a .place) (a .start) (a .order) (a .form) (c .before .before .before .before .before .pre .0) (c .before .before .before .before .before .pre .1) (c .before .before .before .before .before .pre .2)
-  (search (needs, g)) (search (needs, g)) (search (needs, g)) (search (needs, g)) (c .add .ensures)
-  (ap (λ (n : ℕ). set (w .barred) n (c .before .is-barred .result)) (c .before .before .held .ensures) ∙ ap (set (w .barred) (length (kindsMet (w .met)))) (c .before .is-barred .ensures))
+returns c =
+    let a = c .before .before .before .before .before .args in
+    let w = a .walk in
+    let g = c .before .before .before .before .before .good in
+    seen-entered w _ (a .place) (a .start) (a .order) (a .form) (c .before .before .before .before .before .pre .0) (c .before .before .before .before .before .pre .1) (c .before .before .before .before .before .pre .2)
+    (search (needs, g)) (search (needs, g)) (search (needs, g)) (search (needs, g)) (c .add .ensures)
+    (ap (λ (n : ℕ). set (w .barred) n (c .before .is-barred .result)) (c .before .before .held .ensures) ∙ ap (set (w .barred) (length (kindsMet (w .met)))) (c .before .is-barred .ensures))
 
 pub enter-spec : {M : Type 1} → statement M
 enter-spec =

@@ -32,10 +32,10 @@ enum-told c = search needs
 
 returns : tie.Need-returns Inv-loop μ-loop
 returns c =
-  let a = c .before .before .before .before .before .before .before .args in
-  let loop = c .before .before .before .before .before .loop in
-  let loop-test = c .before .before .before .before .loop-test in
-  read-off (a .word .now) (loop .x) (loop .i) (loop-test .taken) (sym (c .enum-told .given .1) ∙ c .before .before .onward .ensures) ∙ loop .inv .2
+    let a = c .before .before .before .before .before .before .before .args in
+    let loop = c .before .before .before .before .before .loop in
+    let loop-test = c .before .before .before .before .loop-test in
+    read-off (a .word .now) (loop .x) (loop .i) (loop-test .taken) (sym (c .enum-told .given .1) ∙ c .before .before .onward .ensures) ∙ loop .inv .2
 
 add-i : tie.Need-add-i Inv-loop μ-loop
 add-i c = search needs
@@ -45,16 +45,16 @@ loop-less c = search needs
 
 loop-again : tie.Need-loop-again Inv-loop μ-loop
 loop-again c =
-  let a = c .before .before .before .before .before .before .before .before .args in
-  let loop = c .before .before .before .before .before .before .loop in
-  let loop-test = c .before .before .before .before .before .loop-test in
-  let r = read-on (a .word .now) (loop .x) (loop .i) (loop-test .taken) _ (sym (c .before .y .given .1) ∙ c .before .before .before .onward .ensures) in
+    let a = c .before .before .before .before .before .before .before .before .args in
+    let loop = c .before .before .before .before .before .before .loop in
+    let loop-test = c .before .before .before .before .before .loop-test in
+    let r = read-on (a .word .now) (loop .x) (loop .i) (loop-test .taken) _ (sym (c .before .y .given .1) ∙ c .before .before .before .onward .ensures) in
     (omega arith, r .0, r .1 ∙ loop .inv .2)
 
 returns-2 : tie.Need-returns-2 Inv-loop μ-loop
 returns-2 c =
-  let loop = c .before .loop in
-  read-done (c .before .before .before .args .word .now) (loop .x) (loop .i) (c .loop-test .left) (loop .inv .1) ∙ loop .inv .2
+    let loop = c .before .loop in
+    read-done (c .before .before .before .args .word .now) (loop .x) (loop .i) (c .loop-test .left) (loop .inv .1) ∙ loop .inv .2
 
 pub digits-spec : {M : Type 1} → statement M
 digits-spec =

@@ -7,13 +7,13 @@ use Rattle.decimals.proofs.read.onward.Tie as tie
 
 returns : tie.Need-returns
 returns c =
-  let a = c .before .args in
-  numeral-below (a .x) (a .c) (c .if1 .taken)
+    let a = c .before .args in
+    numeral-below (a .x) (a .c) (c .if1 .taken)
 
 returns-2 : tie.Need-returns-2
 returns-2 c =
-  let a = c .before .before .args in
-  numeral-above (a .x) (a .c) (c .if2 .taken)
+    let a = c .before .before .args in
+    numeral-above (a .x) (a .c) (c .if2 .taken)
 
 cast-d : tie.Need-cast-d
 cast-d c = search needs

@@ -15,9 +15,9 @@ enum-known-from c = search needs
 
 add-t10 : tie.Need-add-t10
 add-t10 c =
-  let a = c .before .before .before .before .before .before .before .args in
-  let field-in = c .before .before .before .before .before .field-in in
-  omega (arith, field-inside (a .v .now) (a .start) (a .at) Four (a .order) _ _ (sym (field-in .ensures) ∙ c .before .before .before .from .given .1) .1)
+    let a = c .before .before .before .before .before .before .before .args in
+    let field-in = c .before .before .before .before .before .field-in in
+    omega (arith, field-inside (a .v .now) (a .start) (a .at) Four (a .order) _ _ (sym (field-in .ensures) ∙ c .before .before .before .from .given .1) .1)
 
 encapsulated-requires : tie.Need-encapsulated-requires
 encapsulated-requires c κs = search needs
@@ -27,9 +27,9 @@ enum-told c = search needs
 
 returns : tie.Need-returns
 returns c =
-  let field-in = c .before .before .before .before .before .before .field-in in
-  let from2 = c .before .before .before .before .from in
-  rw (sym (field-in .ensures) ∙ from2 .given .1) (c .encapsulated .ensures)
+    let field-in = c .before .before .before .before .before .before .field-in in
+    let from2 = c .before .before .before .before .from in
+    rw (sym (field-in .ensures) ∙ from2 .given .1) (c .encapsulated .ensures)
 
 returns-2 : tie.Need-returns-2
 returns-2 c = rw (sym (c .before .before .field-in .ensures) ∙ c .enum-told .given .1)

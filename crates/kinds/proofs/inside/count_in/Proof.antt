@@ -20,8 +20,8 @@ enum-told c = search needs
 returns : tie.Need-returns
 unfolding countIn
 returns c =
-  let names-in = c .before .before .before .before .names-in in
-  rw (sym (names-in .ensures) ∙ c .before .before .i .given .1) (c .field-in .ensures)
+    let names-in = c .before .before .before .before .names-in in
+    rw (sym (names-in .ensures) ∙ c .before .before .i .given .1) (c .field-in .ensures)
 
 returns-2 : tie.Need-returns-2
 unfolding countIn

@@ -30,16 +30,16 @@ enum-told-2 c = search needs
 returns-2 : tie.Need-returns-2
 unfolding elementIn
 returns-2 c =
-  let spot-at = c .before .before .before .before .before .before .before .spot-at in
-  let inner = c .before .before .before .before .before .inner in
-  rw (sym (spot-at .ensures) ∙ inner .given .1, sym (c .before .before .before .field-in .ensures) ∙ c .before .number .given .1)
+    let spot-at = c .before .before .before .before .before .before .before .spot-at in
+    let inner = c .before .before .before .before .before .inner in
+    rw (sym (spot-at .ensures) ∙ inner .given .1, sym (c .before .before .before .field-in .ensures) ∙ c .before .number .given .1)
 
 returns-3 : tie.Need-returns-3
 unfolding elementIn
 returns-3 c =
-  let spot-at = c .before .before .before .before .before .before .spot-at in
-  let inner = c .before .before .before .before .inner in
-  rw (sym (spot-at .ensures) ∙ inner .given .1, sym (c .before .before .field-in .ensures) ∙ c .enum-told2 .given .1)
+    let spot-at = c .before .before .before .before .before .before .spot-at in
+    let inner = c .before .before .before .before .inner in
+    rw (sym (spot-at .ensures) ∙ inner .given .1, sym (c .before .before .field-in .ensures) ∙ c .enum-told2 .given .1)
 
 pub element-in-spec : {M : Type 1} → statement M
 element-in-spec =

@@ -28,15 +28,15 @@ enum-told c = search needs
 returns-2 : tie.Need-returns-2
 unfolding encapsulated
 returns-2 c =
-  let if1 = c .before .before .before .before .before .before .if1 in
-  let named = c .before .before .before .before .named in
-  rw (lt-ltb _ _ (if1 .left), sym (named .ensures) ∙ c .before .before .order .given .1) (c .parameters-in .ensures)
+    let if1 = c .before .before .before .before .before .before .if1 in
+    let named = c .before .before .before .before .named in
+    rw (lt-ltb _ _ (if1 .left), sym (named .ensures) ∙ c .before .before .order .given .1) (c .parameters-in .ensures)
 
 returns-3 : tie.Need-returns-3
 unfolding encapsulated
 returns-3 c =
-  let if1 = c .before .before .before .before .if1 in
-  rw (lt-ltb _ _ (if1 .left), sym (c .before .before .named .ensures) ∙ c .enum-told .given .1)
+    let if1 = c .before .before .before .before .if1 in
+    rw (lt-ltb _ _ (if1 .left), sym (c .before .before .named .ensures) ∙ c .enum-told .given .1)
 
 pub encapsulated-spec : {M : Type 1} → statement M
 encapsulated-spec =

@@ -18,8 +18,8 @@ enum-told c = search needs
 
 returns : tie.Need-returns
 returns c =
-  let type-in = c .before .before .before .before .type-in in
-  rw (sym (type-in .ensures) ∙ c .before .before .inner .given .1) (c .union-in .ensures)
+    let type-in = c .before .before .before .before .type-in in
+    rw (sym (type-in .ensures) ∙ c .before .before .inner .given .1) (c .union-in .ensures)
 
 returns-2 : tie.Need-returns-2
 returns-2 c = rw (sym (c .before .before .type-in .ensures) ∙ c .enum-told .given .1)

@@ -20,8 +20,8 @@ enum-told c = search needs
 returns : tie.Need-returns
 unfolding typeIn
 returns c =
-  let names-in = c .before .before .before .before .names-in in
-  rw (sym (names-in .ensures) ∙ c .before .before .i .given .1) (c .spot-at .ensures)
+    let names-in = c .before .before .before .before .names-in in
+    rw (sym (names-in .ensures) ∙ c .before .before .i .given .1) (c .spot-at .ensures)
 
 returns-2 : tie.Need-returns-2
 unfolding typeIn

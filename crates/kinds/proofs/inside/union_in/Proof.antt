@@ -30,16 +30,16 @@ enum-told-2 c = search needs
 returns-2 : tie.Need-returns-2
 unfolding unionIn
 returns-2 c =
-  let field-in = c .before .before .before .before .before .before .before .field-in in
-  let default = c .before .before .before .before .before .default in
-  rw (sym (field-in .ensures) ∙ default .given .1, sym (c .before .before .before .field-in2 .ensures) ∙ c .before .count .given .1)
+    let field-in = c .before .before .before .before .before .before .before .field-in in
+    let default = c .before .before .before .before .before .default in
+    rw (sym (field-in .ensures) ∙ default .given .1, sym (c .before .before .before .field-in2 .ensures) ∙ c .before .count .given .1)
 
 returns-3 : tie.Need-returns-3
 unfolding unionIn
 returns-3 c =
-  let field-in = c .before .before .before .before .before .before .field-in in
-  let default = c .before .before .before .before .default in
-  rw (sym (field-in .ensures) ∙ default .given .1, sym (c .before .before .field-in2 .ensures) ∙ c .enum-told2 .given .1)
+    let field-in = c .before .before .before .before .before .before .field-in in
+    let default = c .before .before .before .before .default in
+    rw (sym (field-in .ensures) ∙ default .given .1, sym (c .before .before .field-in2 .ensures) ∙ c .enum-told2 .given .1)
 
 pub union-in-spec : {M : Type 1} → statement M
 union-in-spec =

@@ -23,9 +23,9 @@ returns c = rw (sym (c .before .before .field-in .ensures) ∙ c .enum-told .giv
 
 behind-requires : tie.Need-behind-requires
 behind-requires c κs =
-  let a = c .before .before .before .before .before .args in
-  let f = field-inside (a .v .now) (a .start) (a .at) Four (a .order) _ _ (sym (c .before .before .before .field-in .ensures) ∙ c .before .value .given .1) in
-  (omega (arith, f .0), omega (arith, f .1))
+    let a = c .before .before .before .before .before .args in
+    let f = field-inside (a .v .now) (a .start) (a .at) Four (a .order) _ _ (sym (c .before .before .before .field-in .ensures) ∙ c .before .value .given .1) in
+    (omega (arith, f .0), omega (arith, f .1))
 
 target-of-requires : tie.Need-target-of-requires
 target-of-requires c κs = search needs
@@ -39,14 +39,14 @@ enum-told-2 c = search needs
 returns-2 : tie.Need-returns-2
 unfolding aimed
 returns-2 c =
-  let target-of = c .before .before .before .target-of in
-  rw (sym (c .before .before .before .before .before .before .before .before .field-in .ensures) ∙ c .before .before .before .before .before .before .value .given .1, ← c .before .before .before .before .behind .ensures, sym (target-of .ensures) ∙ c .before .place .given .1)
+    let target-of = c .before .before .before .target-of in
+    rw (sym (c .before .before .before .before .before .before .before .before .field-in .ensures) ∙ c .before .before .before .before .before .before .value .given .1, ← c .before .before .before .before .behind .ensures, sym (target-of .ensures) ∙ c .before .place .given .1)
 
 returns-3 : tie.Need-returns-3
 unfolding aimed
 returns-3 c =
-  let target-of = c .before .before .target-of in
-  rw (sym (c .before .before .before .before .before .before .before .field-in .ensures) ∙ c .before .before .before .before .before .value .given .1, ← c .before .before .before .behind .ensures, sym (target-of .ensures) ∙ c .enum-told2 .given .1)
+    let target-of = c .before .before .target-of in
+    rw (sym (c .before .before .before .before .before .before .before .field-in .ensures) ∙ c .before .before .before .before .before .value .given .1, ← c .before .before .before .behind .ensures, sym (target-of .ensures) ∙ c .enum-told2 .given .1)
 
 pub aimed-spec : {M : Type 1} → statement M
 aimed-spec =

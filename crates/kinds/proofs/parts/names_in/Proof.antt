@@ -20,8 +20,8 @@ enum-told c = search needs
 returns : tie.Need-returns
 unfolding namesIn
 returns c =
-  let skip-counted = c .before .before .before .before .skip-counted in
-  rw (sym (skip-counted .ensures) ∙ c .before .before .i .given .1) (c .skip-counted2 .ensures)
+    let skip-counted = c .before .before .before .before .skip-counted in
+    rw (sym (skip-counted .ensures) ∙ c .before .before .i .given .1) (c .skip-counted2 .ensures)
 
 returns-2 : tie.Need-returns-2
 unfolding namesIn

@@ -17,8 +17,8 @@ use Rattle.encapsulation.specs.declared.Counted.the-variants.{Octets}
 returns : tie.Need-returns
 unfolding skipCounted
 returns c =
-  let a = c .before .before .args in
-  sym (ap skipFrom (counted-beyond (a .v .now) (a .start) (a .at) (a .order) (c .if1 .taken)))
+    let a = c .before .before .args in
+    sym (ap skipFrom (counted-beyond (a .v .now) (a .start) (a .at) (a .order) (c .if1 .taken)))
 
 sub-read-counted : tie.Need-sub-read-counted
 sub-read-counted c = search needs
@@ -37,9 +37,9 @@ enum-known-from c = search needs
 
 add-t15 : tie.Need-add-t15
 add-t15 c =
-  let a = c .before .before .before .before .before .before .before .before .args in
-  let read-counted = c .before .before .before .before .read-counted in
-  let o = a in
+    let a = c .before .before .before .before .before .before .before .before .args in
+    let read-counted = c .before .before .before .before .read-counted in
+    let o = a in
     let g = c .before .before .from .given in
     let e = subst (λ (s : List ℕ). countedOf s (o .at) (o .order) ≡ Octets (g .0 .0) (g .0 .1 .0)) (rest (o .v .now) (o .start .0)) (sym (read-counted .ensures) ∙ g .1) in
     let f = counted-facts (drop (o .start .0) (o .v .now)) (o .at) (o .order) (g .0 .0) (g .0 .1 .0) e in
@@ -51,15 +51,15 @@ enum-told c = search needs
 returns-2 : tie.Need-returns-2
 unfolding skipCounted
 returns-2 c =
-  let a = c .before .before .before .before .before .before .before .before .args in
-  let read-counted = c .before .before .before .before .read-counted in
-  rw (← rest (a .v .now) (a .start .0), sym (read-counted .ensures) ∙ c .before .before .from .given .1)
+    let a = c .before .before .before .before .before .before .before .before .args in
+    let read-counted = c .before .before .before .before .read-counted in
+    rw (← rest (a .v .now) (a .start .0), sym (read-counted .ensures) ∙ c .before .before .from .given .1)
 
 returns-3 : tie.Need-returns-3
 unfolding skipCounted
 returns-3 c =
-  let a = c .before .before .before .before .before .before .args in
-  rw (← rest (a .v .now) (a .start .0), sym (c .before .before .read-counted .ensures) ∙ c .enum-told .given .1)
+    let a = c .before .before .before .before .before .before .args in
+    rw (← rest (a .v .now) (a .start .0), sym (c .before .before .read-counted .ensures) ∙ c .enum-told .given .1)
 
 pub skip-counted-spec : {M : Type 1} → statement M
 skip-counted-spec =

@@ -22,8 +22,8 @@ sign-extended-requires c κs = search needs
 returns : tie.Need-returns
 unfolding contentOf
 returns c =
-  let a = c .before .before .before .before .args in
-  c .sign-extended .ensures ∙ ap (λ (z : Size). signExtended (octets z) (a .value)) (c .before .size-of .ensures) ∙ simp (sym (c .before .before .before .is-signed .ensures) ∙ c .before .before .if1 .taken)
+    let a = c .before .before .before .before .args in
+    c .sign-extended .ensures ∙ ap (λ (z : Size). signExtended (octets z) (a .value)) (c .before .size-of .ensures) ∙ simp (sym (c .before .before .before .is-signed .ensures) ∙ c .before .before .if1 .taken)
 
 returns-2 : tie.Need-returns-2
 unfolding contentOf

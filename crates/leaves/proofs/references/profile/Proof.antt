@@ -18,9 +18,9 @@ same-length c = search needs
 returns : tie.Need-returns
 unfolding profileAt
 returns c =
-  let a = c .before .before .before .before .before .before .before .before .args in
-  let tag = c .before .before .before .before .tag in
-  sym (way.stops (runAt (sinkOf (a .m)) (sourceOf (a .m) (a .v .now))) _ _ (tag .ensures) (c .if1 .taken))
+    let a = c .before .before .before .before .before .before .before .before .args in
+    let tag = c .before .before .before .before .tag in
+    sym (way.stops (runAt (sinkOf (a .m)) (sourceOf (a .m) (a .v .now))) _ _ (tag .ensures) (c .if1 .taken))
 
 counted-run-requires : tie.Need-counted-run-requires
 counted-run-requires c κs = search needs
@@ -31,10 +31,10 @@ same-length-2 c = search needs
 returns-2 : tie.Need-returns-2
 unfolding profileAt
 returns-2 c =
-  let a = c .before .before .before .before .before .before .before .before .before .before .before .before .args in
-  let tag = c .before .before .before .before .before .before .before .before .tag in
-  let if1 = c .before .before .before .before .if1 in
-  c .before .before .counted-run .ensures ∙ sym (way.goes-on (runAt (sinkOf (a .m)) (sourceOf (a .m) (a .v .now))) _ _ (tag .ensures) (if1 .left))
+    let a = c .before .before .before .before .before .before .before .before .before .before .before .before .args in
+    let tag = c .before .before .before .before .before .before .before .before .tag in
+    let if1 = c .before .before .before .before .if1 in
+    c .before .before .counted-run .ensures ∙ sym (way.goes-on (runAt (sinkOf (a .m)) (sourceOf (a .m) (a .v .now))) _ _ (tag .ensures) (if1 .left))
 
 pub profile-spec : {M : Type 1} → statement M
 profile-spec =

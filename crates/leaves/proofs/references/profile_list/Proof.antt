@@ -24,16 +24,16 @@ profile-requires c κs = search needs
 
 same-length : tie.Need-same-length Inv-loop μ-loop
 same-length c =
-  let profile = c .before .before .before .before .profile in
-  let loop = c .before .before .before .before .before .before .before .loop in
-  profile .kept .1 .1 .0 ∙ loop .inv .same
+    let profile = c .before .before .before .before .profile in
+    let loop = c .before .before .before .before .before .before .before .loop in
+    profile .kept .1 .1 .0 ∙ loop .inv .same
 
 returns : tie.Need-returns Inv-loop μ-loop
 returns c =
-  let loop = c .before .before .before .before .before .before .before .loop in
-  let loop-test = c .before .before .before .before .before .before .loop-test in
-  let profile = c .before .before .before .before .profile in
-  going-stop (loop .inv) (loop-test .taken) (profile .ensures) (c .if1 .taken)
+    let loop = c .before .before .before .before .before .before .before .loop in
+    let loop-test = c .before .before .before .before .before .before .loop-test in
+    let profile = c .before .before .before .before .profile in
+    going-stop (loop .inv) (loop-test .taken) (profile .ensures) (c .if1 .taken)
 
 add-k : tie.Need-add-k Inv-loop μ-loop
 add-k c = search needs
@@ -43,10 +43,10 @@ loop-less c = omega arith
 
 loop-again : tie.Need-loop-again Inv-loop μ-loop
 loop-again c =
-  let loop = c .before .before .before .before .before .before .before .loop in
-  let loop-test = c .before .before .before .before .before .before .loop-test in
-  let profile = c .before .before .before .before .profile in
-  going-more (loop .inv) (loop-test .taken) (profile .ensures) (profile .kept .1 .1 .0) (c .if1 .left)
+    let loop = c .before .before .before .before .before .before .before .loop in
+    let loop-test = c .before .before .before .before .before .before .loop-test in
+    let profile = c .before .before .before .before .profile in
+    going-more (loop .inv) (loop-test .taken) (profile .ensures) (profile .kept .1 .1 .0) (c .if1 .left)
 
 same-length-2 : tie.Need-same-length-2 Inv-loop μ-loop
 same-length-2 c = c .before .loop .inv .same

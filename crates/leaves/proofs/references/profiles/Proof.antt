@@ -19,9 +19,9 @@ same-length c = search needs
 returns : tie.Need-returns
 unfolding profilesAt
 returns c =
-  let a = c .before .before .before .before .before .before .before .before .args in
-  let count = c .before .before .before .before .count in
-  sym (way.stops (λ (u : St Lent). repeats (profileAt (sinkOf (a .m)) (sourceOf (a .m) (a .v .now))) (u .last) u) _ _ (count .ensures) (c .if1 .taken))
+    let a = c .before .before .before .before .before .before .before .before .args in
+    let count = c .before .before .before .before .count in
+    sym (way.stops (λ (u : St Lent). repeats (profileAt (sinkOf (a .m)) (sourceOf (a .m) (a .v .now))) (u .last) u) _ _ (count .ensures) (c .if1 .taken))
 
 profile-list-requires : tie.Need-profile-list-requires
 profile-list-requires c κs = search needs
@@ -32,10 +32,10 @@ same-length-2 c = search needs
 returns-2 : tie.Need-returns-2
 unfolding profilesAt
 returns-2 c =
-  let a = c .before .before .before .before .before .before .before .before .before .before .before .before .args in
-  let count = c .before .before .before .before .before .before .before .before .count in
-  let if1 = c .before .before .before .before .if1 in
-  c .before .before .profile-list .ensures ∙ sym (way.goes-on (λ (u : St Lent). repeats (profileAt (sinkOf (a .m)) (sourceOf (a .m) (a .v .now))) (u .last) u) _ _ (count .ensures) (if1 .left))
+    let a = c .before .before .before .before .before .before .before .before .before .before .before .before .args in
+    let count = c .before .before .before .before .before .before .before .before .count in
+    let if1 = c .before .before .before .before .if1 in
+    c .before .before .profile-list .ensures ∙ sym (way.goes-on (λ (u : St Lent). repeats (profileAt (sinkOf (a .m)) (sourceOf (a .m) (a .v .now))) (u .last) u) _ _ (count .ensures) (if1 .left))
 
 pub profiles-spec : {M : Type 1} → statement M
 profiles-spec =

@@ -31,15 +31,15 @@ same-length c = search needs
 
 returns : tie.Need-returns
 returns c =
-  let a = c .before .before .before .before .before .before .before .before .before .before .before .args in
-  let read-run = c .before .before .before .before .before .before .before .before .read-run in
-  let end = c .before .before .before .before .before .before .end in
-  λ p. c .before .before .put .ensures ∙ ap (done (sinkOf (a .m)) (item 256 (a .c .at) (a .count))) (c .before .before .before .passed .ensures (a .m) (a .table .now) (a .c .at) (octetsAt (sinkOf (a .m)) (sourceOf (a .m) (a .v .now)) (a .c .at) (a .count))) ∙ sym (way.run-some (sinkOf (a .m)) (sourceOf (a .m) (a .v .now)) p (a .count) (stateOf (a .c) (a .table .now)) _ (sym (read-run .ensures) ∙ end .given .1))
+    let a = c .before .before .before .before .before .before .before .before .before .before .before .args in
+    let read-run = c .before .before .before .before .before .before .before .before .read-run in
+    let end = c .before .before .before .before .before .before .end in
+    λ p. c .before .before .put .ensures ∙ ap (done (sinkOf (a .m)) (item 256 (a .c .at) (a .count))) (c .before .before .before .passed .ensures (a .m) (a .table .now) (a .c .at) (octetsAt (sinkOf (a .m)) (sourceOf (a .m) (a .v .now)) (a .c .at) (a .count))) ∙ sym (way.run-some (sinkOf (a .m)) (sourceOf (a .m) (a .v .now)) p (a .count) (stateOf (a .c) (a .table .now)) _ (sym (read-run .ensures) ∙ end .given .1))
 
 returns-2 : tie.Need-returns-2
 returns-2 c =
-  let a = c .before .before .before .before .before .before .args in
-  λ p. c .refused .ensures (a .table .now) ∙ sym (way.run-none (sinkOf (a .m)) (sourceOf (a .m) (a .v .now)) p (a .count) (stateOf (a .c) (a .table .now)) (sym (c .before .before .before .read-run .ensures) ∙ c .before .enum-told .given .1))
+    let a = c .before .before .before .before .before .before .args in
+    λ p. c .refused .ensures (a .table .now) ∙ sym (way.run-none (sinkOf (a .m)) (sourceOf (a .m) (a .v .now)) p (a .count) (stateOf (a .c) (a .table .now)) (sym (c .before .before .before .read-run .ensures) ∙ c .before .enum-told .given .1))
 
 pub run-got-spec : {M : Type 1} → statement M
 run-got-spec =

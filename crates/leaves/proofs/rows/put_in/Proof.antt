@@ -14,8 +14,8 @@ same-length c = search needs
 
 returns : tie.Need-returns
 returns c =
-  let if1 = c .before .before .before .before .if1 in
-  c .before .before .put-row .ensures ∙ simp (if1 .taken)
+    let if1 = c .before .before .before .before .if1 in
+    c .before .before .put-row .ensures ∙ simp (if1 .taken)
 
 returns-2 : tie.Need-returns-2
 returns-2 c = search needs

@@ -28,9 +28,9 @@ same-length c = search needs
 returns-3 : tie.Need-returns-3
 unfolding rowPut
 returns-3 c =
-  let if1 = c .before .before .before .before .before .if1 in
-  let if2 = c .before .before .before .before .if2 in
-  c .before .before .store .ensures ∙ simp (le-ltb _ _ (if1 .left), lt-leb _ _ (if2 .left))
+    let if1 = c .before .before .before .before .before .if1 in
+    let if2 = c .before .before .before .before .if2 in
+    c .before .before .store .ensures ∙ simp (le-ltb _ _ (if1 .left), lt-leb _ _ (if2 .left))
 
 pub put-row-spec : {M : Type 1} → statement M
 put-row-spec =

@@ -27,18 +27,18 @@ leaf-requires c κs = search needs
 
 same-length : tie.Need-same-length Inv-loop μ-loop
 same-length c =
-  let leaf = c .before .before .before .before .leaf in
-  let loop = c .before .before .before .before .before .before .before .before .loop in
-  leaf .kept .1 .1 .0 ∙ loop .inv .same
+    let leaf = c .before .before .before .before .leaf in
+    let loop = c .before .before .before .before .before .before .before .before .loop in
+    leaf .kept .1 .1 .0 ∙ loop .inv .same
 
 returns : tie.Need-returns Inv-loop μ-loop
 returns c =
-  let loop = c .before .before .before .before .before .before .before .before .loop in
-  let loop-test = c .before .before .before .before .before .before .before .loop-test in
-  let leaf = c .before .before .before .before .leaf in
-  let a = c .before .before .before .before .before .before .before .before .before .before .before .args in
-  let visit = c .before .before .before .before .before .visit in
-  going-stop (loop .inv) (loop-test .taken) (leaf .ensures ∙ ap (leafAt (sinkOf (a .m)) (sourceOf (a .m) (a .v .now)) (a .kind)) (visit .ensures (a .m) (loop .table))) (c .if1 .taken)
+    let loop = c .before .before .before .before .before .before .before .before .loop in
+    let loop-test = c .before .before .before .before .before .before .before .loop-test in
+    let leaf = c .before .before .before .before .leaf in
+    let a = c .before .before .before .before .before .before .before .before .before .before .before .args in
+    let visit = c .before .before .before .before .before .visit in
+    going-stop (loop .inv) (loop-test .taken) (leaf .ensures ∙ ap (leafAt (sinkOf (a .m)) (sourceOf (a .m) (a .v .now)) (a .kind)) (visit .ensures (a .m) (loop .table))) (c .if1 .taken)
 
 add-k : tie.Need-add-k Inv-loop μ-loop
 add-k c = search needs
@@ -48,12 +48,12 @@ loop-less c = omega arith
 
 loop-again : tie.Need-loop-again Inv-loop μ-loop
 loop-again c =
-  let loop = c .before .before .before .before .before .before .before .before .loop in
-  let loop-test = c .before .before .before .before .before .before .before .loop-test in
-  let leaf = c .before .before .before .before .leaf in
-  let a = c .before .before .before .before .before .before .before .before .before .before .before .args in
-  let visit = c .before .before .before .before .before .visit in
-  going-more (loop .inv) (loop-test .taken) (leaf .ensures ∙ ap (leafAt (sinkOf (a .m)) (sourceOf (a .m) (a .v .now)) (a .kind)) (visit .ensures (a .m) (loop .table))) (leaf .kept .1 .1 .0) (c .if1 .left)
+    let loop = c .before .before .before .before .before .before .before .before .loop in
+    let loop-test = c .before .before .before .before .before .before .before .loop-test in
+    let leaf = c .before .before .before .before .leaf in
+    let a = c .before .before .before .before .before .before .before .before .before .before .before .args in
+    let visit = c .before .before .before .before .before .visit in
+    going-more (loop .inv) (loop-test .taken) (leaf .ensures ∙ ap (leafAt (sinkOf (a .m)) (sourceOf (a .m) (a .v .now)) (a .kind)) (visit .ensures (a .m) (loop .table))) (leaf .kept .1 .1 .0) (c .if1 .left)
 
 same-length-2 : tie.Need-same-length-2 Inv-loop μ-loop
 same-length-2 c = c .before .loop .inv .same

@@ -14,8 +14,8 @@ octets-requires c κs = search needs
 
 mul-if1 : tie.Need-mul-if1
 mul-if1 c =
-  let a = c .before .before .before .args in
-  omega (arith, few-octets (a .size) (a .n) (c .octets .result) (c .octets .ensures) (c .before .before .before .pre .plain .few))
+    let a = c .before .before .before .args in
+    omega (arith, few-octets (a .size) (a .n) (c .octets .result) (c .octets .ensures) (c .before .before .before .pre .plain .few))
 
 each-requires : tie.Need-each-requires
 each-requires c κs = search needs
@@ -28,9 +28,9 @@ returns c = search needs
 
 filled-requires : tie.Need-filled-requires
 filled-requires c κs =
-  let octets = c .before .before .before .octets in
-  let pre = c .before .before .before .before .before .before .pre in
-  (row-all (octets .result) (octets .ensures) pre (c .before .before .if1 .left), c .before .if2 .taken)
+    let octets = c .before .before .before .octets in
+    let pre = c .before .before .before .before .before .before .pre in
+    (row-all (octets .result) (octets .ensures) pre (c .before .before .if1 .left), c .before .if2 .taken)
 
 same-length-2 : tie.Need-same-length-2
 same-length-2 c = search needs
@@ -52,14 +52,14 @@ returns-3 c = search needs
 
 passed-over-requires : tie.Need-passed-over-requires
 passed-over-requires c κs =
-  let octets = c .before .before .before .before .octets in
-  let pre = c .before .before .before .before .before .before .before .pre in
-  (row-all (octets .result) (octets .ensures) pre (c .before .before .before .if1 .left), c .before .before .if2 .left)
+    let octets = c .before .before .before .before .octets in
+    let pre = c .before .before .before .before .before .before .before .pre in
+    (row-all (octets .result) (octets .ensures) pre (c .before .before .before .if1 .left), c .before .before .if2 .left)
 
 returns-4 : tie.Need-returns-4
 returns-4 c =
-  let a = c .before .before .before .before .before .before .before .before .args in
-  c .passed-over .ensures (a .table .now) (sym (c .before .before .lacks-room .ensures) ∙ c .before .if3 .left)
+    let a = c .before .before .before .before .before .before .before .before .args in
+    c .passed-over .ensures (a .table .now) (sym (c .before .before .lacks-room .ensures) ∙ c .before .if3 .left)
 
 pub from-spec : {M : Type 1} → statement M
 from-spec =

@@ -22,25 +22,25 @@ loop-holds c = storing-none (c .before .before .before .args .m) (c .before .bef
 
 mul-at : tie.Need-mul-at Inv-loop μ-loop
 mul-at c =
-  let a = c .before .before .before .before .before .before .args in
-  let octets = c .before .before .before .octets in
-  let pre = c .before .before .before .before .before .before .pre in
-  omega (arith, fits-at (a .size) (a .n) (c .before .before .loop .k) (a .p) (octets .result) (length (a .v .now)) (octets .ensures) (c .before .loop-test .taken) (pre .0 .fits))
+    let a = c .before .before .before .before .before .before .args in
+    let octets = c .before .before .before .octets in
+    let pre = c .before .before .before .before .before .before .pre in
+    omega (arith, fits-at (a .size) (a .n) (c .before .before .loop .k) (a .p) (octets .result) (length (a .v .now)) (octets .ensures) (c .before .loop-test .taken) (pre .0 .fits))
 
 add-at : tie.Need-add-at Inv-loop μ-loop
 add-at c =
-  let a = c .before .before .before .before .before .before .args in
-  let octets = c .before .before .before .octets in
-  let pre = c .before .before .before .before .before .before .pre in
-  omega (arith, fits-at (a .size) (a .n) (c .before .before .loop .k) (a .p) (octets .result) (length (a .v .now)) (octets .ensures) (c .before .loop-test .taken) (pre .0 .fits))
+    let a = c .before .before .before .before .before .before .args in
+    let octets = c .before .before .before .octets in
+    let pre = c .before .before .before .before .before .before .pre in
+    omega (arith, fits-at (a .size) (a .n) (c .before .before .loop .k) (a .p) (octets .result) (length (a .v .now)) (octets .ensures) (c .before .loop-test .taken) (pre .0 .fits))
 
 value-at-requires : tie.Need-value-at-requires Inv-loop μ-loop
 value-at-requires c κs =
-  let a = c .before .before .before .before .before .before .args in
-  let pre = c .before .before .before .before .before .before .pre in
-  let loop = c .before .before .loop in
-  let octets = c .before .before .before .octets in
-  (place-at (a .m) (a .v .now) (a .kind) (a .size) (a .n) (a .p) (a .c) (pre .0) (loop .k) (octets .result) (octets .ensures), fits-by (a .size) (a .n) (loop .k) (a .p) (octets .result) (length (a .v .now)) (octets .ensures) (c .before .loop-test .taken) (pre .0 .fits))
+    let a = c .before .before .before .before .before .before .args in
+    let pre = c .before .before .before .before .before .before .pre in
+    let loop = c .before .before .loop in
+    let octets = c .before .before .before .octets in
+    (place-at (a .m) (a .v .now) (a .kind) (a .size) (a .n) (a .p) (a .c) (pre .0) (loop .k) (octets .result) (octets .ensures), fits-by (a .size) (a .n) (loop .k) (a .p) (octets .result) (length (a .v .now)) (octets .ensures) (c .before .loop-test .taken) (pre .0 .fits))
 
 add-store : tie.Need-add-store Inv-loop μ-loop
 add-store c = search needs
@@ -65,17 +65,17 @@ loop-again c = storing-more (c .before .before .before .before .before .before .
 
 mul-t24 : tie.Need-mul-t24 Inv-loop μ-loop
 mul-t24 c =
-  let a = c .before .before .before .before .before .args in
-  let octets = c .before .before .octets in
-  let pre = c .before .before .before .before .before .pre in
-  omega (arith, all-fit (a .size) (a .n) (a .p) (octets .result) (length (a .v .now)) (octets .ensures) (pre .0 .fits))
+    let a = c .before .before .before .before .before .args in
+    let octets = c .before .before .octets in
+    let pre = c .before .before .before .before .before .pre in
+    omega (arith, all-fit (a .size) (a .n) (a .p) (octets .result) (length (a .v .now)) (octets .ensures) (pre .0 .fits))
 
 add-t25 : tie.Need-add-t25 Inv-loop μ-loop
 add-t25 c =
-  let a = c .before .before .before .before .before .args in
-  let octets = c .before .before .octets in
-  let pre = c .before .before .before .before .before .pre in
-  omega (arith, all-fit (a .size) (a .n) (a .p) (octets .result) (length (a .v .now)) (octets .ensures) (pre .0 .fits))
+    let a = c .before .before .before .before .before .args in
+    let octets = c .before .before .octets in
+    let pre = c .before .before .before .before .before .pre in
+    omega (arith, all-fit (a .size) (a .n) (a .p) (octets .result) (length (a .v .now)) (octets .ensures) (pre .0 .fits))
 
 wrapping-add-u64-requires : tie.Need-wrapping-add-u64-requires Inv-loop μ-loop
 wrapping-add-u64-requires c κs = search needs
@@ -88,11 +88,11 @@ same-length c = c .before .before .loop .inv .long
 
 returns : tie.Need-returns Inv-loop μ-loop
 returns c =
-  let a = c .before .before .before .before .before .before .args in
-  let pre = c .before .before .before .before .before .before .pre in
-  let loop = c .before .before .loop in
-  let octets = c .before .before .before .octets in
-  storing-all (a .m) (a .v .now) (a .kind) (a .size) (a .n) (a .p) (a .c) (pre .0) (a .table .now) (pre .1) (loop .k) (loop .last) (octets .result) (c .wrapping-add-u64 .result) (loop .table) (loop .inv) (c .before .loop-test .left) (octets .ensures) (c .wrapping-add-u64 .ensures)
+    let a = c .before .before .before .before .before .before .args in
+    let pre = c .before .before .before .before .before .before .pre in
+    let loop = c .before .before .loop in
+    let octets = c .before .before .before .octets in
+    storing-all (a .m) (a .v .now) (a .kind) (a .size) (a .n) (a .p) (a .c) (pre .0) (a .table .now) (pre .1) (loop .k) (loop .last) (octets .result) (c .wrapping-add-u64 .result) (loop .table) (loop .inv) (c .before .loop-test .left) (octets .ensures) (c .wrapping-add-u64 .ensures)
 
 pub numbers-in-spec : {M : Type 1} → statement M
 numbers-in-spec =

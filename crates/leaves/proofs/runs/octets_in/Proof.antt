@@ -59,9 +59,9 @@ same-length c = c .before .before .loop .inv .long
 
 returns : tie.Need-returns Inv-loop μ-loop
 returns c =
-  let a = c .before .before .before .before .before .args in
-  let loop = c .before .before .loop in
-  filling-all (a .v .now) (a .kind) (a .n) (a .c) (a .table .now) (loop .k) (loop .last) (c .wrapping-add-u64 .result) (loop .table) (loop .inv) (c .before .loop-test .left) (c .wrapping-add-u64 .ensures)
+    let a = c .before .before .before .before .before .args in
+    let loop = c .before .before .loop in
+    filling-all (a .v .now) (a .kind) (a .n) (a .c) (a .table .now) (loop .k) (loop .last) (c .wrapping-add-u64 .result) (loop .table) (loop .inv) (c .before .loop-test .left) (c .wrapping-add-u64 .ensures)
 
 pub octets-in-spec : {M : Type 1} → statement M
 octets-in-spec =

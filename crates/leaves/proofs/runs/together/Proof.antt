@@ -16,10 +16,10 @@ enum-known-at c = search needs
 
 from-requires : tie.Need-from-requires
 from-requires c κs =
-  let pre = c .before .before .before .before .before .before .before .before .pre in
-  let size-of = c .before .before .before .before .before .size-of in
-  let number-at = c .before .before .before .before .number-at in
-  row-first pre (size-of .ensures) (sym (number-at .ensures) ∙ c .before .before .at .given .1)
+    let pre = c .before .before .before .before .before .before .before .before .pre in
+    let size-of = c .before .before .before .before .before .size-of in
+    let number-at = c .before .before .before .before .number-at in
+    row-first pre (size-of .ensures) (sym (number-at .ensures) ∙ c .before .before .at .given .1)
 
 enum-told : tie.Need-enum-told
 enum-told c = search needs

@@ -45,27 +45,27 @@ value-of-requires-4 c κs = search needs
 
 returns : tie.Need-returns
 returns c =
-  let a = c .before .before .before .before .before .args in
-  let pre = c .before .before .before .before .before .pre in
-  c .value-of .ensures ∙ ap valueOf (c .before .read-number .ensures) ∙ value-there (a .v .now) (a .start) (a .at) One (a .size) (a .order) (c .before .before .enum-told .given .1) (pre .0) (pre .1)
+    let a = c .before .before .before .before .before .args in
+    let pre = c .before .before .before .before .before .pre in
+    c .value-of .ensures ∙ ap valueOf (c .before .read-number .ensures) ∙ value-there (a .v .now) (a .start) (a .at) One (a .size) (a .order) (c .before .before .enum-told .given .1) (pre .0) (pre .1)
 
 returns-2 : tie.Need-returns-2
 returns-2 c =
-  let a = c .before .before .before .before .before .args in
-  let pre = c .before .before .before .before .before .pre in
-  c .value-of2 .ensures ∙ ap valueOf (c .before .read-number2 .ensures) ∙ value-there (a .v .now) (a .start) (a .at) Two (a .size) (a .order) (c .before .before .enum-told2 .given .1) (pre .0) (pre .1)
+    let a = c .before .before .before .before .before .args in
+    let pre = c .before .before .before .before .before .pre in
+    c .value-of2 .ensures ∙ ap valueOf (c .before .read-number2 .ensures) ∙ value-there (a .v .now) (a .start) (a .at) Two (a .size) (a .order) (c .before .before .enum-told2 .given .1) (pre .0) (pre .1)
 
 returns-3 : tie.Need-returns-3
 returns-3 c =
-  let a = c .before .before .before .before .before .args in
-  let pre = c .before .before .before .before .before .pre in
-  c .value-of3 .ensures ∙ ap valueOf (c .before .read-number3 .ensures) ∙ value-there (a .v .now) (a .start) (a .at) Four (a .size) (a .order) (c .before .before .enum-told3 .given .1) (pre .0) (pre .1)
+    let a = c .before .before .before .before .before .args in
+    let pre = c .before .before .before .before .before .pre in
+    c .value-of3 .ensures ∙ ap valueOf (c .before .read-number3 .ensures) ∙ value-there (a .v .now) (a .start) (a .at) Four (a .size) (a .order) (c .before .before .enum-told3 .given .1) (pre .0) (pre .1)
 
 returns-4 : tie.Need-returns-4
 returns-4 c =
-  let a = c .before .before .before .before .before .args in
-  let pre = c .before .before .before .before .before .pre in
-  c .value-of4 .ensures ∙ ap valueOf (c .before .read-number4 .ensures) ∙ value-there (a .v .now) (a .start) (a .at) Eight (a .size) (a .order) (c .before .before .enum-told4 .given .1) (pre .0) (pre .1)
+    let a = c .before .before .before .before .before .args in
+    let pre = c .before .before .before .before .before .pre in
+    c .value-of4 .ensures ∙ ap valueOf (c .before .read-number4 .ensures) ∙ value-there (a .v .now) (a .start) (a .at) Eight (a .size) (a .order) (c .before .before .enum-told4 .given .1) (pre .0) (pre .1)
 
 pub value-at-spec : {M : Type 1} → statement M
 value-at-spec =

@@ -10,17 +10,17 @@ use Rattle.kinds.specs.Members.{membersOf}
 use Rattle.met.proofs.Choosing.{default-none, default-some}
 
 returns : tie.Need-returns
-returns c = 
-  let a = c .before .before .args in
-  default-none (membersOf (a .labels) (a .v .now) (a .fields)) (a .default) (c .if1 .taken)
+returns c =
+    let a = c .before .before .args in
+    default-none (membersOf (a .labels) (a .v .now) (a .fields)) (a .default) (c .if1 .taken)
 
 member-no-requires : tie.Need-member-no-requires
 member-no-requires c κs = search needs
 
 returns-2 : tie.Need-returns-2
-returns-2 c = 
-  let a = c .before .before .before .args in
-  c .member-no .ensures ∙ default-some (membersOf (a .labels) (a .v .now) (a .fields)) (a .default) (c .before .if1 .left)
+returns-2 c =
+    let a = c .before .before .before .args in
+    c .member-no .ensures ∙ default-some (membersOf (a .labels) (a .v .now) (a .fields)) (a .default) (c .before .if1 .left)
 
 pub default-of-spec : {M : Type 1} → statement M
 default-of-spec = tie.close (tie.spec returns member-no-requires returns-2)

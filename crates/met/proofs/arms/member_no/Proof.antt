@@ -22,9 +22,9 @@ abbrev μ-loop : tie.MeasureT-loop
 μ-loop labels v number start order count at₀ k₀ at k = count - k
 
 loop-holds : tie.Need-loop-holds Inv-loop μ-loop
-loop-holds c = 
-  let a = c .before .before .before .args in
-  (omega arith, left-none (counted (a .labels) (a .v .now) (a .fields .start) (a .fields .order) (a .number)) (a .fields .count) (0, a .fields .first))
+loop-holds c =
+    let a = c .before .before .before .args in
+    (omega arith, left-none (counted (a .labels) (a .v .now) (a .fields .start) (a .fields .order) (a .number)) (a .fields .count) (0, a .fields .first))
 
 member-at-requires : tie.Need-member-at-requires Inv-loop μ-loop
 member-at-requires c κs = search needs
@@ -36,18 +36,18 @@ enum-told : tie.Need-enum-told Inv-loop μ-loop
 enum-told c = search needs
 
 returns : tie.Need-returns Inv-loop μ-loop
-returns c = 
-  let a = c .before .before .before .before .before .before .before .before .args in
-  left-here (counted (a .labels) (a .v .now) (a .fields .start) (a .fields .order) (a .number)) (a .fields .count) (0, a .fields .first) (c .before .before .before .before .loop .inv .1) (c .before .before .before .loop-test .taken) _
-  (number-cut (a .labels) (a .v .now) (a .fields .start) (a .fields .order) (a .number) (c .before .before .before .before .loop .k) (c .before .before .before .before .loop .at) (sym (c .before .before .member-at .ensures) ∙ c .enum-told .given .1))
-  ∙ ap (memberNo (membersOf (a .labels) (a .v .now) (a .fields))) (sub-zero (a .number))
+returns c =
+    let a = c .before .before .before .before .before .before .before .before .args in
+    left-here (counted (a .labels) (a .v .now) (a .fields .start) (a .fields .order) (a .number)) (a .fields .count) (0, a .fields .first) (c .before .before .before .before .loop .inv .1) (c .before .before .before .loop-test .taken) _
+    (number-cut (a .labels) (a .v .now) (a .fields .start) (a .fields .order) (a .number) (c .before .before .before .before .loop .k) (c .before .before .before .before .loop .at) (sym (c .before .before .member-at .ensures) ∙ c .enum-told .given .1))
+    ∙ ap (memberNo (membersOf (a .labels) (a .v .now) (a .fields))) (sub-zero (a .number))
 
 returns-2 : tie.Need-returns-2 Inv-loop μ-loop
-returns-2 c = 
-  let a = c .before .before .before .before .before .before .before .before .before .before .args in
-  left-here (counted (a .labels) (a .v .now) (a .fields .start) (a .fields .order) (a .number)) (a .fields .count) (0, a .fields .first) (c .before .before .before .before .before .before .loop .inv .1) (c .before .before .before .before .before .loop-test .taken) _
-  (number-hit (a .labels) (a .v .now) (a .fields .start) (a .fields .order) (a .number) (c .before .before .before .before .before .before .loop .k) (c .before .before .before .before .before .before .loop .at) _ _ (sym (c .before .before .before .before .member-at .ensures) ∙ c .before .before .inner .given .1) (c .if1 .taken))
-  ∙ ap (memberNo (membersOf (a .labels) (a .v .now) (a .fields))) (sub-zero (a .number))
+returns-2 c =
+    let a = c .before .before .before .before .before .before .before .before .before .before .args in
+    left-here (counted (a .labels) (a .v .now) (a .fields .start) (a .fields .order) (a .number)) (a .fields .count) (0, a .fields .first) (c .before .before .before .before .before .before .loop .inv .1) (c .before .before .before .before .before .loop-test .taken) _
+    (number-hit (a .labels) (a .v .now) (a .fields .start) (a .fields .order) (a .number) (c .before .before .before .before .before .before .loop .k) (c .before .before .before .before .before .before .loop .at) _ _ (sym (c .before .before .before .before .member-at .ensures) ∙ c .before .before .inner .given .1) (c .if1 .taken))
+    ∙ ap (memberNo (membersOf (a .labels) (a .v .now) (a .fields))) (sub-zero (a .number))
 
 add-k : tie.Need-add-k Inv-loop μ-loop
 add-k c = search needs
@@ -56,17 +56,19 @@ loop-less : tie.Need-loop-less Inv-loop μ-loop
 loop-less c = omega arith
 
 loop-again : tie.Need-loop-again Inv-loop μ-loop
-loop-again c = 
-  let a = c .before .before .before .before .before .before .before .before .before .before .args in
-  (omega (arith, c .before .before .before .before .before .before .loop .inv .0, c .if1 .left), left-more (counted (a .labels) (a .v .now) (a .fields .start) (a .fields .order) (a .number)) (a .fields .count) (0, a .fields .first) (c .before .before .before .before .before .before .loop .inv .1) (c .before .before .before .before .before .loop-test .taken) _
-  (number-more (a .labels) (a .v .now) (a .fields .start) (a .fields .order) (a .number) (c .before .before .before .before .before .before .loop .k) (c .before .before .before .before .before .before .loop .at) _ _ (sym (c .before .before .before .before .member-at .ensures) ∙ c .before .before .inner .given .1) (c .before .before .before .before .before .before .loop .inv .0) (c .if1 .left)))
+loop-again c =
+    let a = c .before .before .before .before .before .before .before .before .before .before .args in (
+      omega (arith, c .before .before .before .before .before .before .loop .inv .0, c .if1 .left),
+      left-more (counted (a .labels) (a .v .now) (a .fields .start) (a .fields .order) (a .number)) (a .fields .count) (0, a .fields .first) (c .before .before .before .before .before .before .loop .inv .1) (c .before .before .before .before .before .loop-test .taken) _
+          (number-more (a .labels) (a .v .now) (a .fields .start) (a .fields .order) (a .number) (c .before .before .before .before .before .before .loop .k) (c .before .before .before .before .before .before .loop .at) _ _ (sym (c .before .before .before .before .member-at .ensures) ∙ c .before .before .inner .given .1) (c .before .before .before .before .before .before .loop .inv .0) (c .if1 .left)),
+    )
 
 returns-3 : tie.Need-returns-3 Inv-loop μ-loop
 unfolding memberNo membersFrom
-returns-3 c = 
-  let a = c .before .before .before .before .before .args in
-  left-end (counted (a .labels) (a .v .now) (a .fields .start) (a .fields .order) (a .number)) (a .fields .count) (0, a .fields .first) (c .before .loop .inv .1) (c .loop-test .left)
-  ∙ ap (memberNo (membersOf (a .labels) (a .v .now) (a .fields))) (sub-zero (a .number))
+returns-3 c =
+    let a = c .before .before .before .before .before .args in
+    left-end (counted (a .labels) (a .v .now) (a .fields .start) (a .fields .order) (a .number)) (a .fields .count) (0, a .fields .first) (c .before .loop .inv .1) (c .loop-test .left)
+    ∙ ap (memberNo (membersOf (a .labels) (a .v .now) (a .fields))) (sub-zero (a .number))
 
 pub member-no-spec : {M : Type 1} → statement M
 member-no-spec =

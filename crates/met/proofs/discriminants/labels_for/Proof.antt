@@ -31,9 +31,9 @@ enum-told c = search needs
 returns : tie.Need-returns Inv-loop μ-loop
 unfolding labelsFor
 returns c =
-  let a = c .before .before .before .before .before .before .args in
-  let loop = c .before .before .before .before .loop in
-  labels-nowhere (a .v .now) (kindsMet (a .met)) (loop .at) (loop .left) (sym (c .before .before .position .ensures) ∙ c .enum-told .given .1) ∙ loop .inv .1
+    let a = c .before .before .before .before .before .before .args in
+    let loop = c .before .before .before .before .loop in
+    labels-nowhere (a .v .now) (kindsMet (a .met)) (loop .at) (loop .left) (sym (c .before .before .position .ensures) ∙ c .enum-told .given .1) ∙ loop .inv .1
 
 parameters-of-requires : tie.Need-parameters-of-requires Inv-loop μ-loop
 parameters-of-requires c κs = search needs
@@ -53,13 +53,13 @@ enum-known-labels c = search needs
 returns-2 : tie.Need-returns-2 Inv-loop μ-loop
 unfolding labelsFor
 returns-2 c =
-  let a = c .before .before .before .before .before .before .before .before .before .before .before .before .args in
-  let loop = c .before .before .before .before .before .before .before .before .before .before .loop in
-  let loop-test = c .before .before .before .before .before .before .before .before .before .loop-test in
-  let position = c .before .before .before .before .before .before .before .before .position in
-  let j = c .before .before .before .before .before .before .j in
-  let parameters-of = c .before .before .before .before .parameters-of in
-  labels-said (a .v .now) (kindsMet (a .met)) (loop .at) (loop .left) _ (loop-test .taken) (sym (position .ensures) ∙ j .given .1) _ (sym (ap discriminantOf (parameters-of .ensures)) ∙ sym (c .before .before .before .discriminant-of .ensures) ∙ c .before .labels .given .1) ∙ loop .inv .1
+    let a = c .before .before .before .before .before .before .before .before .before .before .before .before .args in
+    let loop = c .before .before .before .before .before .before .before .before .before .before .loop in
+    let loop-test = c .before .before .before .before .before .before .before .before .before .loop-test in
+    let position = c .before .before .before .before .before .before .before .before .position in
+    let j = c .before .before .before .before .before .before .j in
+    let parameters-of = c .before .before .before .before .parameters-of in
+    labels-said (a .v .now) (kindsMet (a .met)) (loop .at) (loop .left) _ (loop-test .taken) (sym (position .ensures) ∙ j .given .1) _ (sym (ap discriminantOf (parameters-of .ensures)) ∙ sym (c .before .before .before .discriminant-of .ensures) ∙ c .before .labels .given .1) ∙ loop .inv .1
 
 sub-left : tie.Need-sub-left Inv-loop μ-loop
 sub-left c = search needs
@@ -68,18 +68,18 @@ loop-less : tie.Need-loop-less Inv-loop μ-loop
 loop-less c = search needs
 
 loop-again : tie.Need-loop-again Inv-loop μ-loop
-loop-again c = 
-  let a = c .before .before .before .before .before .before .before .before .before .before .before .before .before .args in
-  let loop = c .before .before .before .before .before .before .before .before .before .before .before .loop in
-  let leads = sym (ap discriminantOf (c .before .before .before .before .before .parameters-of .ensures)) ∙ sym (c .before .before .before .before .discriminant-of .ensures) ∙ c .before .before .next .given .1 in
-  (omega arith, rw (c .place-in .ensures) (labels-through (a .v .now) (kindsMet (a .met)) (loop .at) (loop .left) _ (c .before .before .before .before .before .before .before .before .before .before .loop-test .taken) (sym (c .before .before .before .before .before .before .before .before .before .position .ensures) ∙ c .before .before .before .before .before .before .before .j .given .1) _ leads ∙ loop .inv .1))
+loop-again c =
+    let a = c .before .before .before .before .before .before .before .before .before .before .before .before .before .args in
+    let loop = c .before .before .before .before .before .before .before .before .before .before .before .loop in
+    let leads = sym (ap discriminantOf (c .before .before .before .before .before .parameters-of .ensures)) ∙ sym (c .before .before .before .before .discriminant-of .ensures) ∙ c .before .before .next .given .1 in
+    (omega arith, rw (c .place-in .ensures) (labels-through (a .v .now) (kindsMet (a .met)) (loop .at) (loop .left) _ (c .before .before .before .before .before .before .before .before .before .before .loop-test .taken) (sym (c .before .before .before .before .before .before .before .before .before .position .ensures) ∙ c .before .before .before .before .before .before .before .j .given .1) _ leads ∙ loop .inv .1))
 
 returns-3 : tie.Need-returns-3 Inv-loop μ-loop
 unfolding labelsFor
 returns-3 c =
-  let a = c .before .before .before .args in
-  let loop = c .before .loop in
-  labels-end (a .v .now) (kindsMet (a .met)) (loop .at) (loop .left) (omega (arith, c .loop-test .left)) ∙ loop .inv .1
+    let a = c .before .before .before .args in
+    let loop = c .before .loop in
+    labels-end (a .v .now) (kindsMet (a .met)) (loop .at) (loop .left) (omega (arith, c .loop-test .left)) ∙ loop .inv .1
 
 pub labels-for-spec : {M : Type 1} → statement M
 labels-for-spec =

@@ -92,88 +92,88 @@ same-length c = search needs
 
 returns : tie.Need-returns
 returns c =
-  let reply = c .before .before .before .before .before .reply in
-  rw (reply .given .1) (c .before .before .put-typed .ensures)
+    let reply = c .before .before .before .before .before .reply in
+    rw (reply .given .1) (c .before .before .put-typed .ensures)
 
 same-length-2 : tie.Need-same-length-2
 same-length-2 c = search needs
 
 returns-2 : tie.Need-returns-2
 returns-2 c =
-  let reply2 = c .before .before .before .before .before .reply2 in
-  rw (reply2 .given .1) (c .before .before .put-read .ensures)
+    let reply2 = c .before .before .before .before .before .reply2 in
+    rw (reply2 .given .1) (c .before .before .put-read .ensures)
 
 same-length-3 : tie.Need-same-length-3
 same-length-3 c = search needs
 
 returns-3 : tie.Need-returns-3
 returns-3 c =
-  let reply3 = c .before .before .before .before .before .reply3 in
-  rw (reply3 .given .1) (c .before .before .put-refused .ensures)
+    let reply3 = c .before .before .before .before .before .reply3 in
+    rw (reply3 .given .1) (c .before .before .put-refused .ensures)
 
 same-length-4 : tie.Need-same-length-4
 same-length-4 c = search needs
 
 returns-4 : tie.Need-returns-4
 returns-4 c =
-  let reply4 = c .before .before .before .before .before .reply4 in
-  rw (reply4 .given .1) (c .before .before .put-unread .ensures)
+    let reply4 = c .before .before .before .before .before .reply4 in
+    rw (reply4 .given .1) (c .before .before .put-unread .ensures)
 
 same-length-5 : tie.Need-same-length-5
 same-length-5 c = search needs
 
 returns-5 : tie.Need-returns-5
 returns-5 c =
-  let reply5 = c .before .before .before .before .before .reply5 in
-  rw (reply5 .given .1) (c .before .before .put-signed .ensures)
+    let reply5 = c .before .before .before .before .before .reply5 in
+    rw (reply5 .given .1) (c .before .before .put-signed .ensures)
 
 same-length-6 : tie.Need-same-length-6
 same-length-6 c = search needs
 
 returns-6 : tie.Need-returns-6
 returns-6 c =
-  let reply6 = c .before .before .before .before .before .reply6 in
-  rw (reply6 .given .1) (c .before .before .put-unsigned .ensures)
+    let reply6 = c .before .before .before .before .before .reply6 in
+    rw (reply6 .given .1) (c .before .before .put-unsigned .ensures)
 
 same-length-7 : tie.Need-same-length-7
 same-length-7 c = search needs
 
 returns-7 : tie.Need-returns-7
 returns-7 c =
-  let reply7 = c .before .before .before .before .before .reply7 in
-  rw (reply7 .given .1) (c .before .before .put-single .ensures)
+    let reply7 = c .before .before .before .before .before .reply7 in
+    rw (reply7 .given .1) (c .before .before .put-single .ensures)
 
 same-length-8 : tie.Need-same-length-8
 same-length-8 c = search needs
 
 returns-8 : tie.Need-returns-8
 returns-8 c =
-  let reply8 = c .before .before .before .before .before .reply8 in
-  rw (reply8 .given .1) (c .before .before .put-double .ensures)
+    let reply8 = c .before .before .before .before .before .reply8 in
+    rw (reply8 .given .1) (c .before .before .put-double .ensures)
 
 same-length-9 : tie.Need-same-length-9
 same-length-9 c = search needs
 
 returns-9 : tie.Need-returns-9
 returns-9 c =
-  let reply9 = c .before .before .before .before .before .reply9 in
-  rw (reply9 .given .1) (c .before .before .put-first .ensures)
+    let reply9 = c .before .before .before .before .before .reply9 in
+    rw (reply9 .given .1) (c .before .before .put-first .ensures)
 
 same-length-10 : tie.Need-same-length-10
 same-length-10 c = search needs
 
 returns-10 : tie.Need-returns-10
 returns-10 c =
-  let reply10 = c .before .before .before .before .before .reply10 in
-  rw (reply10 .given .1) (c .before .before .put-version .ensures)
+    let reply10 = c .before .before .before .before .before .reply10 in
+    rw (reply10 .given .1) (c .before .before .put-version .ensures)
 
 same-length-11 : tie.Need-same-length-11
 same-length-11 c = search needs
 
 returns-11 : tie.Need-returns-11
 returns-11 c =
-  let reply11 = c .before .before .before .before .before .reply11 in
-  rw (reply11 .given .1) (c .before .before .put-first2 .ensures)
+    let reply11 = c .before .before .before .before .before .reply11 in
+    rw (reply11 .given .1) (c .before .before .put-first2 .ensures)
 
 same-length-12 : tie.Need-same-length-12
 same-length-12 c = search needs

@@ -21,10 +21,10 @@ same-length c = search needs
 
 returns : tie.Need-returns
 returns c =
-  let a = c .before .before .before .before .before .before .before .before .before .before .args in
-  let pre = c .before .before .before .before .before .before .before .before .before .before .pre in
-  let write-octets = c .before .before .before .before .before .before .write-octets in
-  put-then (put-stored (a .out .now) 0 (111 ∷ 107 ∷ space ∷ 100 ∷ 111 ∷ 117 ∷ 98 ∷ 108 ∷ 101 ∷ space ∷ []) _ _ (omega (arith, pre)) (write-octets .ensures)) (c .before .before .put-bits .ensures)
+    let a = c .before .before .before .before .before .before .before .before .before .before .args in
+    let pre = c .before .before .before .before .before .before .before .before .before .before .pre in
+    let write-octets = c .before .before .before .before .before .before .write-octets in
+    put-then (put-stored (a .out .now) 0 (111 ∷ 107 ∷ space ∷ 100 ∷ 111 ∷ 117 ∷ 98 ∷ 108 ∷ 101 ∷ space ∷ []) _ _ (omega (arith, pre)) (write-octets .ensures)) (c .before .before .put-bits .ensures)
 
 pub put-double-spec : {M : Type 1} → statement M
 put-double-spec =

@@ -20,20 +20,20 @@ same-length c = search needs
 
 returns : tie.Need-returns
 returns c =
-  let a = c .before .before .before .before .before .before .before .args in
-  let pre = c .before .before .before .before .before .before .before .pre in
-  let write-decimal = c .before .before .before .before .write-decimal in
-  put-always (a .out .now) (a .at) _ _ _ (omega (arith, pre, number-most (a .x) (a .behind ∷ []))) (write-decimal .ensures) (c .enum-told .given .1)
+    let a = c .before .before .before .before .before .before .before .args in
+    let pre = c .before .before .before .before .before .before .before .pre in
+    let write-decimal = c .before .before .before .before .write-decimal in
+    put-always (a .out .now) (a .at) _ _ _ (omega (arith, pre, number-most (a .x) (a .behind ∷ []))) (write-decimal .ensures) (c .enum-told .given .1)
 
 same-length-2 : tie.Need-same-length-2
 same-length-2 c = search needs
 
 returns-2 : tie.Need-returns-2
 returns-2 c =
-  let a = c .before .before .before .before .before .before .before .before .args in
-  let pre = c .before .before .before .before .before .before .before .before .pre in
-  let write-decimal = c .before .before .before .before .before .write-decimal in
-  put-upto (a .out .now) (a .at) _ _ _ (omega (arith, pre, number-most (a .x) (a .behind ∷ []))) (write-decimal .ensures) _ (c .before .end .given .1)
+    let a = c .before .before .before .before .before .before .before .before .args in
+    let pre = c .before .before .before .before .before .before .before .before .pre in
+    let write-decimal = c .before .before .before .before .before .write-decimal in
+    put-upto (a .out .now) (a .at) _ _ _ (omega (arith, pre, number-most (a .x) (a .behind ∷ []))) (write-decimal .ensures) _ (c .before .end .given .1)
 
 pub put-number-spec : {M : Type 1} → statement M
 put-number-spec =

@@ -29,20 +29,20 @@ same-length c = search needs
 
 returns : tie.Need-returns
 returns c =
-  let enum-told = c .before .before .before .before .before .enum-told in
-  let a = c .before .before .before .before .before .before .before .before .args in
-  let pre = c .before .before .before .before .before .before .before .before .pre in
-  rw (enum-told .given .1) (put-stored (a .out .now) 0 (111 ∷ 107 ∷ 32 ∷ 98 ∷ 105 ∷ 103 ∷ 32 ∷ []) _ _ (omega (arith, pre)) (c .before .before .write-octets .ensures))
+    let enum-told = c .before .before .before .before .before .enum-told in
+    let a = c .before .before .before .before .before .before .before .before .args in
+    let pre = c .before .before .before .before .before .before .before .before .pre in
+    rw (enum-told .given .1) (put-stored (a .out .now) 0 (111 ∷ 107 ∷ 32 ∷ 98 ∷ 105 ∷ 103 ∷ 32 ∷ []) _ _ (omega (arith, pre)) (c .before .before .write-octets .ensures))
 
 same-length-2 : tie.Need-same-length-2
 same-length-2 c = search needs
 
 returns-2 : tie.Need-returns-2
 returns-2 c =
-  let enum-told2 = c .before .before .before .before .before .enum-told2 in
-  let a = c .before .before .before .before .before .before .before .before .args in
-  let pre = c .before .before .before .before .before .before .before .before .pre in
-  rw (enum-told2 .given .1) (put-stored (a .out .now) 0 (111 ∷ 107 ∷ 32 ∷ 108 ∷ 105 ∷ 116 ∷ 116 ∷ 108 ∷ 101 ∷ 32 ∷ []) _ _ (omega (arith, pre)) (c .before .before .write-octets2 .ensures))
+    let enum-told2 = c .before .before .before .before .before .enum-told2 in
+    let a = c .before .before .before .before .before .before .before .before .args in
+    let pre = c .before .before .before .before .before .before .before .before .pre in
+    rw (enum-told2 .given .1) (put-stored (a .out .now) 0 (111 ∷ 107 ∷ 32 ∷ 108 ∷ 105 ∷ 116 ∷ 116 ∷ 108 ∷ 101 ∷ 32 ∷ []) _ _ (omega (arith, pre)) (c .before .before .write-octets2 .ensures))
 
 pub put-order-spec : {M : Type 1} → statement M
 put-order-spec =

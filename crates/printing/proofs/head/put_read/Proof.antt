@@ -19,22 +19,22 @@ put-number-requires c κs = search needs
 
 put-two-requires : tie.Need-put-two-requires
 put-two-requires c κs =
-  let pre = c .before .before .before .before .before .before .before .before .before .before .before .pre in
-  let put-number = c .before .before .before .put-number in
-  let write-octets = c .before .before .before .before .before .before .before .write-octets in
-  let a = c .before .before .before .before .before .before .before .before .before .before .before .args in
-  omega (arith, pre, put-number .ensures .end, put-number .kept .0, write-octets .kept .0, number-most (a .used) (space ∷ []))
+    let pre = c .before .before .before .before .before .before .before .before .before .before .before .pre in
+    let put-number = c .before .before .before .put-number in
+    let write-octets = c .before .before .before .before .before .before .before .write-octets in
+    let a = c .before .before .before .before .before .before .before .before .before .before .before .args in
+    omega (arith, pre, put-number .ensures .end, put-number .kept .0, write-octets .kept .0, number-most (a .used) (space ∷ []))
 
 same-length : tie.Need-same-length
 same-length c = search needs
 
 returns : tie.Need-returns
 returns c =
-  let a = c .before .before .before .before .before .before .before .before .before .before .before .before .before .before .args in
-  let pre = c .before .before .before .before .before .before .before .before .before .before .before .before .before .before .pre in
-  let write-octets = c .before .before .before .before .before .before .before .before .before .before .write-octets in
-  let put-number = c .before .before .before .before .before .before .put-number in
-  rw (← append-assoc (decimal (a .used)) (space ∷ [])) (put-then (put-stored (a .out .now) 0 (111 ∷ 107 ∷ space ∷ []) _ _ (omega (arith, pre)) (write-octets .ensures)) (put-then (put-number .ensures) (c .before .before .put-two .ensures)))
+    let a = c .before .before .before .before .before .before .before .before .before .before .before .before .before .before .args in
+    let pre = c .before .before .before .before .before .before .before .before .before .before .before .before .before .before .pre in
+    let write-octets = c .before .before .before .before .before .before .before .before .before .before .write-octets in
+    let put-number = c .before .before .before .before .before .before .put-number in
+    rw (← append-assoc (decimal (a .used)) (space ∷ [])) (put-then (put-stored (a .out .now) 0 (111 ∷ 107 ∷ space ∷ []) _ _ (omega (arith, pre)) (write-octets .ensures)) (put-then (put-number .ensures) (c .before .before .put-two .ensures)))
 
 pub put-read-spec : {M : Type 1} → statement M
 put-read-spec =

@@ -26,11 +26,11 @@ same-length c = search needs
 returns : tie.Need-returns
 unfolding signedText choose
 returns c =
-  let a = c .before .before .before .before .before .before .before .before .before .before .before .args in
-  let if1 = c .before .before .before .before .before .before .before .before .before .if1 in
-  let pre = c .before .before .before .before .before .before .before .before .before .before .before .pre in
-  let write-octets = c .before .before .before .before .before .before .write-octets in
-  rw (lt-ltb (a .x) (2 ^ 63) (if1 .taken)) (put-then (put-stored (a .out .now) 0 (111 ∷ 107 ∷ space ∷ 115 ∷ 105 ∷ 103 ∷ 110 ∷ 101 ∷ 100 ∷ space ∷ []) _ _ (omega (arith, pre)) (write-octets .ensures)) (c .before .before .put-number .ensures))
+    let a = c .before .before .before .before .before .before .before .before .before .before .before .args in
+    let if1 = c .before .before .before .before .before .before .before .before .before .if1 in
+    let pre = c .before .before .before .before .before .before .before .before .before .before .before .pre in
+    let write-octets = c .before .before .before .before .before .before .write-octets in
+    rw (lt-ltb (a .x) (2 ^ 63) (if1 .taken)) (put-then (put-stored (a .out .now) 0 (111 ∷ 107 ∷ space ∷ 115 ∷ 105 ∷ 103 ∷ 110 ∷ 101 ∷ 100 ∷ space ∷ []) _ _ (omega (arith, pre)) (write-octets .ensures)) (c .before .before .put-number .ensures))
 
 slice-aggregate-write-octets-2 : tie.Need-slice-aggregate-write-octets-2
 slice-aggregate-write-octets-2 c = search needs
@@ -53,11 +53,11 @@ same-length-2 c = search needs
 returns-2 : tie.Need-returns-2
 unfolding signedText choose
 returns-2 c =
-  let a = c .before .before .before .before .before .before .before .before .before .before .before .args in
-  let if1 = c .before .before .before .before .before .before .before .before .before .if1 in
-  let pre = c .before .before .before .before .before .before .before .before .before .before .before .pre in
-  let write-octets2 = c .before .before .before .before .before .before .write-octets2 in
-  let e : 2 ^ 64 - a .x ≡ 18446744073709551615 - a .x + 1 = omega arith in
+    let a = c .before .before .before .before .before .before .before .before .before .before .before .args in
+    let if1 = c .before .before .before .before .before .before .before .before .before .if1 in
+    let pre = c .before .before .before .before .before .before .before .before .before .before .before .pre in
+    let write-octets2 = c .before .before .before .before .before .before .write-octets2 in
+    let e : 2 ^ 64 - a .x ≡ 18446744073709551615 - a .x + 1 = omega arith in
     rw (le-ltb (a .x) (2 ^ 63) (if1 .left), e) (put-then (put-stored (a .out .now) 0 (111 ∷ 107 ∷ space ∷ 115 ∷ 105 ∷ 103 ∷ 110 ∷ 101 ∷ 100 ∷ space ∷ 45 ∷ []) _ _ (omega (arith, pre)) (write-octets2 .ensures)) (c .before .before .put-number2 .ensures))
 
 pub put-signed-spec : {M : Type 1} → statement M

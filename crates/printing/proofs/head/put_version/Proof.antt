@@ -19,19 +19,19 @@ cast-put-two-2 c = search needs
 
 put-two-requires : tie.Need-put-two-requires
 put-two-requires c κs =
-  let a = c .before .before .before .before .before .before .before .before .args in
-  let put-order = c .before .before .before .before .before .put-order in
-  let pre = c .before .before .before .before .before .before .before .before .pre in
-  omega (arith, order-end _ (a .head .order) _ _ (put-order .ensures), put-order .kept .0, pre)
+    let a = c .before .before .before .before .before .before .before .before .args in
+    let put-order = c .before .before .before .before .before .put-order in
+    let pre = c .before .before .before .before .before .before .before .before .pre in
+    omega (arith, order-end _ (a .head .order) _ _ (put-order .ensures), put-order .kept .0, pre)
 
 same-length : tie.Need-same-length
 same-length c = search needs
 
 returns : tie.Need-returns
 returns c =
-  let a = c .before .before .before .before .before .before .before .before .before .before .before .args in
-  let put-order = c .before .before .before .before .before .before .before .before .put-order in
-  rw (← append-assoc (orderText (a .head .order)) (space ∷ [])) (put-then (put-order .ensures) (c .before .before .put-two .ensures))
+    let a = c .before .before .before .before .before .before .before .before .before .before .before .args in
+    let put-order = c .before .before .before .before .before .before .before .before .put-order in
+    rw (← append-assoc (orderText (a .head .order)) (space ∷ [])) (put-then (put-order .ensures) (c .before .before .put-two .ensures))
 
 pub put-version-spec : {M : Type 1} → statement M
 put-version-spec =

@@ -26,9 +26,9 @@ item-length-requires c κs = omega arith
 
 returns : tie.Need-returns Inv-loop μ-loop
 returns c =
-  let a = c .before .before .before .before .before .args in
-  let loop = c .before .before .before .loop in
-  sym (lt-leb (length (joined (itemsOf (a .items .now)))) (a .room) (omega (arith, loop .inv .1, c .before .item-length .ensures, left-length (a .items .now) (loop .k) (c .before .before .loop-test .taken))))
+    let a = c .before .before .before .before .before .args in
+    let loop = c .before .before .before .loop in
+    sym (lt-leb (length (joined (itemsOf (a .items .now)))) (a .room) (omega (arith, loop .inv .1, c .before .item-length .ensures, left-length (a .items .now) (loop .k) (c .before .before .loop-test .taken))))
 
 add-k : tie.Need-add-k Inv-loop μ-loop
 add-k c = omega arith
@@ -38,15 +38,15 @@ loop-less c = omega arith
 
 loop-again : tie.Need-loop-again Inv-loop μ-loop
 loop-again c =
-  let loop = c .before .before .before .loop in
-  let a = c .before .before .before .before .before .args in
-  (omega arith, omega (arith, loop .inv .1, c .before .item-length .ensures, left-length (a .items .now) (loop .k) (c .before .before .loop-test .taken)))
+    let loop = c .before .before .before .loop in
+    let a = c .before .before .before .before .before .args in
+    (omega arith, omega (arith, loop .inv .1, c .before .item-length .ensures, left-length (a .items .now) (loop .k) (c .before .before .loop-test .taken)))
 
 returns-2 : tie.Need-returns-2 Inv-loop μ-loop
 returns-2 c =
-  let a = c .before .before .before .args in
-  let loop = c .before .loop in
-  let z = left-last (a .items .now) (loop .k) (c .loop-test .left) in sym (le-leb (length (joined (itemsOf (a .items .now)))) (a .room) (omega (arith, loop .inv .1, ap length z)))
+    let a = c .before .before .before .args in
+    let loop = c .before .loop in
+    let z = left-last (a .items .now) (loop .k) (c .loop-test .left) in sym (le-leb (length (joined (itemsOf (a .items .now)))) (a .room) (omega (arith, loop .inv .1, ap length z)))
 
 pub fit-joined-spec : {M : Type 1} → statement M
 fit-joined-spec =

@@ -44,27 +44,27 @@ count-digits-requires-3 c κs = search needs
 
 add-result : tie.Need-add-result
 add-result c =
-  let a = c .before .before .before .before .before .before .before .args in
-  let count-digits = c .before .before .before .before .count-digits in
-  omega (arith, decimal-most 20 (getD (a .items .now) (a .j) 0), decimal-most 20 (getD (a .items .now) (a .j + 1) 0), decimal-most 20 (getD (a .items .now) (a .j + 2) 0), count-digits .ensures, c .before .before .count-digits2 .ensures, c .count-digits3 .ensures)
+    let a = c .before .before .before .before .before .before .before .args in
+    let count-digits = c .before .before .before .before .count-digits in
+    omega (arith, decimal-most 20 (getD (a .items .now) (a .j) 0), decimal-most 20 (getD (a .items .now) (a .j + 1) 0), decimal-most 20 (getD (a .items .now) (a .j + 2) 0), count-digits .ensures, c .before .before .count-digits2 .ensures, c .count-digits3 .ensures)
 
 add-result-2 : tie.Need-add-result-2
 add-result-2 c =
-  let a = c .before .before .before .before .before .before .before .args in
-  let count-digits = c .before .before .before .before .count-digits in
-  omega (arith, decimal-most 20 (getD (a .items .now) (a .j) 0), decimal-most 20 (getD (a .items .now) (a .j + 1) 0), decimal-most 20 (getD (a .items .now) (a .j + 2) 0), count-digits .ensures, c .before .before .count-digits2 .ensures, c .count-digits3 .ensures)
+    let a = c .before .before .before .before .before .before .before .args in
+    let count-digits = c .before .before .before .before .count-digits in
+    omega (arith, decimal-most 20 (getD (a .items .now) (a .j) 0), decimal-most 20 (getD (a .items .now) (a .j + 1) 0), decimal-most 20 (getD (a .items .now) (a .j + 2) 0), count-digits .ensures, c .before .before .count-digits2 .ensures, c .count-digits3 .ensures)
 
 add-result-3 : tie.Need-add-result-3
 add-result-3 c =
-  let a = c .before .before .before .before .before .before .before .args in
-  let count-digits = c .before .before .before .before .count-digits in
-  omega (arith, decimal-most 20 (getD (a .items .now) (a .j) 0), decimal-most 20 (getD (a .items .now) (a .j + 1) 0), decimal-most 20 (getD (a .items .now) (a .j + 2) 0), count-digits .ensures, c .before .before .count-digits2 .ensures, c .count-digits3 .ensures)
+    let a = c .before .before .before .before .before .before .before .args in
+    let count-digits = c .before .before .before .before .count-digits in
+    omega (arith, decimal-most 20 (getD (a .items .now) (a .j) 0), decimal-most 20 (getD (a .items .now) (a .j + 1) 0), decimal-most 20 (getD (a .items .now) (a .j + 2) 0), count-digits .ensures, c .before .before .count-digits2 .ensures, c .count-digits3 .ensures)
 
 returns : tie.Need-returns
 returns c =
-  let a = c .before .before .before .before .before .before .before .args in
-  let count-digits = c .before .before .before .before .count-digits in
-  omega (arith, item-characters (itemNumbers (a .items .now) (a .j)), count-digits .ensures, c .before .before .count-digits2 .ensures, c .count-digits3 .ensures)
+    let a = c .before .before .before .before .before .before .before .args in
+    let count-digits = c .before .before .before .before .count-digits in
+    omega (arith, item-characters (itemNumbers (a .items .now) (a .j)), count-digits .ensures, c .before .before .count-digits2 .ensures, c .count-digits3 .ensures)
 
 pub item-length-spec : {M : Type 1} → statement M
 item-length-spec =

@@ -31,10 +31,10 @@ behind-requires c κs = search needs
 
 put-item-requires : tie.Need-put-item-requires Inv-loop μ-loop
 put-item-requires c κs =
-  let pre = c .before .before .before .before .before .before .pre in
-  let loop = c .before .before .before .loop in
-  let a = c .before .before .before .before .before .before .args in
-  (omega arith, omega (arith, pre, loop .inv .1, loop .inv .2, left-length (a .items .now) (loop .k) (c .before .before .loop-test .taken)))
+    let pre = c .before .before .before .before .before .before .pre in
+    let loop = c .before .before .before .loop in
+    let a = c .before .before .before .before .before .before .args in
+    (omega arith, omega (arith, pre, loop .inv .1, loop .inv .2, left-length (a .items .now) (loop .k) (c .before .before .loop-test .taken)))
 
 add-k : tie.Need-add-k Inv-loop μ-loop
 add-k c = omega arith
@@ -44,12 +44,12 @@ loop-less c = omega arith
 
 loop-again : tie.Need-loop-again Inv-loop μ-loop
 loop-again c =
-  let a = c .before .before .before .before .before .before .before .before .before .args in
-  let loop = c .before .before .before .before .before .before .loop in
-  let loop-test = c .before .before .before .before .before .loop-test in
-  let behind = c .before .before .before .behind in
-  let put-item = c .before .before .put-item in
-  let p = left-put (a .items .now) (loop .k) (loop-test .taken) (loop .out) (loop .end) (behind .result) (put-item .result) (put-item .last .0) (behind .ensures) (put-item .ensures) in
+    let a = c .before .before .before .before .before .before .before .before .before .args in
+    let loop = c .before .before .before .before .before .before .loop in
+    let loop-test = c .before .before .before .before .before .loop-test in
+    let behind = c .before .before .before .behind in
+    let put-item = c .before .before .put-item in
+    let p = left-put (a .items .now) (loop .k) (loop-test .taken) (loop .out) (loop .end) (behind .result) (put-item .result) (put-item .last .0) (behind .ensures) (put-item .ensures) in
     (omega arith, put-item .kept .0 ∙ loop .inv .1, p .0 ∙ loop .inv .2, p .1 ∙ loop .inv .3)
 
 same-length : tie.Need-same-length Inv-loop μ-loop
@@ -57,9 +57,9 @@ same-length c = c .before .loop .inv .1
 
 returns : tie.Need-returns Inv-loop μ-loop
 returns c =
-  let a = c .before .before .before .before .args in
-  let loop = c .before .loop in
-  let z = left-last (a .items .now) (loop .k) (c .loop-test .left) in
+    let a = c .before .before .before .before .args in
+    let loop = c .before .loop in
+    let z = left-last (a .items .now) (loop .k) (c .loop-test .left) in
     record {
       end = omega (arith, loop .inv .2, ap length z);
       contents = sym (ap (sets (loop .out) (loop .end)) z) ∙ loop .inv .3;

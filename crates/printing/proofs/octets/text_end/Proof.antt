@@ -10,17 +10,17 @@ read-run-requires c κs = search needs
 
 returns : tie.Need-returns
 returns c =
-  let a = c .before .before .before .before .args in
-  λ b. c .read-run .ensures ∙ end-none (a .out .now) (a .octets .now) (a .at) b (c .before .if1 .taken)
+    let a = c .before .before .before .before .args in
+    λ b. c .read-run .ensures ∙ end-none (a .out .now) (a .octets .now) (a .at) b (c .before .if1 .taken)
 
 sub-if2 : tie.Need-sub-if2
 sub-if2 c = search needs
 
 returns-2 : tie.Need-returns-2
 returns-2 c =
-  let a = c .before .before .before .before .args in
-  let pre = c .before .before .before .before .pre in
-  λ b. end-past (a .out .now) (a .octets .now) (a .at) b (c .before .if1 .left) pre (c .if2 .taken)
+    let a = c .before .before .before .before .args in
+    let pre = c .before .before .before .before .pre in
+    λ b. end-past (a .out .now) (a .octets .now) (a .at) b (c .before .if1 .left) pre (c .if2 .taken)
 
 mul-read-run : tie.Need-mul-read-run
 mul-read-run c = search needs
@@ -33,8 +33,8 @@ read-run-requires-2 c κs = search needs
 
 returns-3 : tie.Need-returns-3
 returns-3 c =
-  let a = c .before .before .before .before .before .args in
-  λ b. c .read-run2 .ensures ∙ end-some (a .out .now) (a .octets .now) (a .at) b (c .before .before .if1 .left)
+    let a = c .before .before .before .before .before .args in
+    λ b. c .read-run2 .ensures ∙ end-some (a .out .now) (a .octets .now) (a .at) b (c .before .before .if1 .left)
 
 pub text-end-spec : {M : Type 1} → statement M
 text-end-spec =

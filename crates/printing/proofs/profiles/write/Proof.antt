@@ -34,27 +34,27 @@ octets-in-requires-2 c κs = search needs
 
 array-share-prefix-port : tie.Need-array-share-prefix-port
 array-share-prefix-port c =
-  let put-number = c .before .before .before .before .before .before .before .put-number in
-  let a = c .before .before .before .before .before .before .before .before .before .before .before .before .args in
-  omega (arith, put-number .kept .0, put-number .ensures .end, number-most (a .said .port) (space ∷ []))
+    let put-number = c .before .before .before .before .before .before .before .put-number in
+    let a = c .before .before .before .before .before .before .before .before .before .before .before .before .args in
+    omega (arith, put-number .kept .0, put-number .ensures .end, number-most (a .said .port) (space ∷ []))
 
 slice-aggregate-write-parts : tie.Need-slice-aggregate-write-parts
 slice-aggregate-write-parts c =
-  let put-number = c .before .before .before .before .before .before .before .before .put-number in
-  let a = c .before .before .before .before .before .before .before .before .before .before .before .before .before .args in
-  sym (length-take-le _ _ (omega (arith, put-number .kept .0, put-number .ensures .end, number-most (a .said .port) (space ∷ []))))
+    let put-number = c .before .before .before .before .before .before .before .before .put-number in
+    let a = c .before .before .before .before .before .before .before .before .before .before .before .before .before .args in
+    sym (length-take-le _ _ (omega (arith, put-number .kept .0, put-number .ensures .end, number-most (a .said .port) (space ∷ []))))
 
 array-share-prefix-counts : tie.Need-array-share-prefix-counts
 array-share-prefix-counts c =
-  let put-two = c .before .before .before .before .before .put-two in
-  let a = c .before .before .before .before .before .before .before .before .before .before .before .before .before .args in
-  omega (arith, put-two .kept .0, put-two .ensures .end, number-most (a .said .components) (space ∷ (decimal (a .said .extra) ++ (lf ∷ []))), number-most (a .said .extra) (lf ∷ []))
+    let put-two = c .before .before .before .before .before .put-two in
+    let a = c .before .before .before .before .before .before .before .before .before .before .before .before .before .args in
+    omega (arith, put-two .kept .0, put-two .ensures .end, number-most (a .said .components) (space ∷ (decimal (a .said .extra) ++ (lf ∷ []))), number-most (a .said .extra) (lf ∷ []))
 
 slice-aggregate-write-parts-2 : tie.Need-slice-aggregate-write-parts-2
 slice-aggregate-write-parts-2 c =
-  let put-two = c .before .before .before .before .before .before .put-two in
-  let a = c .before .before .before .before .before .before .before .before .before .before .before .before .before .before .args in
-  sym (length-take-le _ _ (omega (arith, put-two .kept .0, put-two .ensures .end, number-most (a .said .components) (space ∷ (decimal (a .said .extra) ++ (lf ∷ []))), number-most (a .said .extra) (lf ∷ []))))
+    let put-two = c .before .before .before .before .before .before .put-two in
+    let a = c .before .before .before .before .before .before .before .before .before .before .before .before .before .before .args in
+    sym (length-take-le _ _ (omega (arith, put-two .kept .0, put-two .ensures .end, number-most (a .said .components) (space ∷ (decimal (a .said .extra) ++ (lf ∷ []))), number-most (a .said .extra) (lf ∷ []))))
 
 write-parts-requires : tie.Need-write-parts-requires
 write-parts-requires c κs = search needs
@@ -64,13 +64,13 @@ same-length c = search needs
 
 returns : tie.Need-returns
 returns c =
-  let a = c .before .before .before .before .before .before .before .before .before .before .before .before .before .before .before .before .before .args in
-  let write-parts = c .before .before .write-parts in
-  let octets-in = c .before .before .before .before .before .before .before .octets-in in
-  let octets-in2 = c .before .before .before .before .before .before .octets-in2 in
-  let put-number = c .before .before .before .before .before .before .before .before .before .before .before .before .put-number in
-  let put-two = c .before .before .before .before .before .before .before .before .before .put-two in
-  subst (λ (xs : List ℕ). Stored (a .out .now) (a .at) xs (write-parts .result) (write-parts .last .0))
+    let a = c .before .before .before .before .before .before .before .before .before .before .before .before .before .before .before .before .before .args in
+    let write-parts = c .before .before .write-parts in
+    let octets-in = c .before .before .before .before .before .before .before .octets-in in
+    let octets-in2 = c .before .before .before .before .before .before .octets-in2 in
+    let put-number = c .before .before .before .before .before .before .before .before .before .before .before .before .put-number in
+    let put-two = c .before .before .before .before .before .before .before .before .before .put-two in
+    subst (λ (xs : List ℕ). Stored (a .out .now) (a .at) xs (write-parts .result) (write-parts .last .0))
     (said-parts (a .head .now) (a .said) (a .body .now) (octets-in .ensures) (octets-in2 .ensures) (put-taken (put-number .ensures) (omega (arith, put-number .kept .0, put-number .ensures .end, number-most (a .said .port) (space ∷ [])))) (put-taken (put-two .ensures) (omega (arith, put-two .kept .0, put-two .ensures .end, number-most (a .said .components) (space ∷ (decimal (a .said .extra) ++ (lf ∷ []))), number-most (a .said .extra) (lf ∷ [])))))
     (write-parts .ensures)
 

@@ -19,14 +19,14 @@ enum-known-refusal c = search needs
 
 returns : tie.Need-returns
 returns c =
-  let a = c .before .before .before .before .before .before .args in
-  let skip-from = c .before .before .before .before .skip-from in
-  c .component-at .ensures ∙ sym (component-from-is (a .s .now) (a .order) (a .first) (a .number) _ (sym (skip-from .ensures) ∙ c .before .before .at .given .1))
+    let a = c .before .before .before .before .before .before .args in
+    let skip-from = c .before .before .before .before .skip-from in
+    c .component-at .ensures ∙ sym (component-from-is (a .s .now) (a .order) (a .first) (a .number) _ (sym (skip-from .ensures) ∙ c .before .before .at .given .1))
 
 returns-2 : tie.Need-returns-2
 returns-2 c =
-  let a = c .before .before .before .before .before .args in
-  sym (component-from-is (a .s .now) (a .order) (a .first) (a .number) _ (sym (c .before .before .before .skip-from .ensures) ∙ c .before .refusal .given .1))
+    let a = c .before .before .before .before .before .args in
+    sym (component-from-is (a .s .now) (a .order) (a .first) (a .number) _ (sym (c .before .before .before .skip-from .ensures) ∙ c .before .refusal .given .1))
 
 pub component-from-spec : {M : Type 1} → statement M
 component-from-spec =

@@ -7,24 +7,24 @@ use Rattle.questions.proofs.about.read.Tie as tie
 
 sub-read : tie.Need-sub-read
 sub-read c =
-  let pre = c .before .before .before .before .before .pre in
-  omega (arith, pre .0 .0)
+    let pre = c .before .before .before .before .before .pre in
+    omega (arith, pre .0 .0)
 
 part-read-start : tie.Need-part-read-start
 part-read-start c =
-  let pre = c .before .before .before .before .before .pre in
-  omega (arith, pre .0 .0)
+    let pre = c .before .before .before .before .before .pre in
+    omega (arith, pre .0 .0)
 
 part-read-end : tie.Need-part-read-end
 part-read-end c =
-  let pre = c .before .before .before .before .before .pre in
-  omega (arith, pre .0 .0)
+    let pre = c .before .before .before .before .before .pre in
+    omega (arith, pre .0 .0)
 
 read-requires : tie.Need-read-requires
 read-requires c κs =
-  let pre = c .before .before .before .before .before .before .before .pre in
-  let a = c .before .before .before .before .before .before .before .args in
-  omega (arith, pre .1, part-most (a .rest .now) (a .subject .typed .from) (a .subject .typed .end))
+    let pre = c .before .before .before .before .before .before .before .pre in
+    let a = c .before .before .before .before .before .before .before .args in
+    omega (arith, pre .1, part-most (a .rest .now) (a .subject .typed .from) (a .subject .typed .end))
 
 enum-known-types : tie.Need-enum-known-types
 enum-known-types c = search needs
@@ -37,30 +37,30 @@ same-length c = search needs
 
 returns : tie.Need-returns
 returns c =
-  let a = c .before .before .before .before .before .before .before .before .before .before .before .before .args in
-  let read = c .before .before .before .before .read in
-  about-no-type (a .rest .now) (a .subject) _ _ (read .ensures) _ (c .enum-told .given .1)
+    let a = c .before .before .before .before .before .before .before .before .before .before .before .before .args in
+    let read = c .before .before .before .before .read in
+    about-no-type (a .rest .now) (a .subject) _ _ (read .ensures) _ (c .enum-told .given .1)
 
 sub-read-2 : tie.Need-sub-read-2
 sub-read-2 c =
-  let pre = c .before .before .before .before .before .before .before .before .before .before .before .before .before .pre in
-  omega (arith, pre .0 .1)
+    let pre = c .before .before .before .before .before .before .before .before .before .before .before .before .before .pre in
+    omega (arith, pre .0 .1)
 
 part-read-start-2 : tie.Need-part-read-start-2
 part-read-start-2 c =
-  let pre = c .before .before .before .before .before .before .before .before .before .before .before .before .before .pre in
-  omega (arith, pre .0 .1)
+    let pre = c .before .before .before .before .before .before .before .before .before .before .before .before .before .pre in
+    omega (arith, pre .0 .1)
 
 part-read-end-2 : tie.Need-part-read-end-2
 part-read-end-2 c =
-  let pre = c .before .before .before .before .before .before .before .before .before .before .before .before .before .pre in
-  omega (arith, pre .0 .1)
+    let pre = c .before .before .before .before .before .before .before .before .before .before .before .before .before .pre in
+    omega (arith, pre .0 .1)
 
 read-requires-2 : tie.Need-read-requires-2
 read-requires-2 c κs =
-  let pre = c .before .before .before .before .before .before .before .before .before .before .before .before .before .before .before .pre in
-  let a = c .before .before .before .before .before .before .before .before .before .before .before .before .before .before .before .args in
-  omega (arith, pre .2, part-most (a .rest .now) (a .subject .value .from) (a .subject .value .end))
+    let pre = c .before .before .before .before .before .before .before .before .before .before .before .before .before .before .before .pre in
+    let a = c .before .before .before .before .before .before .before .before .before .before .before .before .before .before .before .args in
+    omega (arith, pre .2, part-most (a .rest .now) (a .subject .value .from) (a .subject .value .end))
 
 enum-known-values : tie.Need-enum-known-values
 enum-known-values c = search needs
@@ -76,11 +76,11 @@ same-length-3 c = search needs
 
 returns-2 : tie.Need-returns-2
 returns-2 c =
-  let a = c .before .before .before .before .before .before .before .before .before .before .before .before .before .before .before .before .before .before .before .before .args in
-  let read = c .before .before .before .before .before .before .before .before .before .before .before .before .read in
-  let types = c .before .before .before .before .before .before .before .before .types in
-  let read2 = c .before .before .before .before .read2 in
-  about-no-value (a .rest .now) (a .subject) _ _ (read .ensures) _ (types .given .1) _ _ (read2 .ensures) (c .enum-told2 .given .1)
+    let a = c .before .before .before .before .before .before .before .before .before .before .before .before .before .before .before .before .before .before .before .before .args in
+    let read = c .before .before .before .before .before .before .before .before .before .before .before .before .read in
+    let types = c .before .before .before .before .before .before .before .before .types in
+    let read2 = c .before .before .before .before .read2 in
+    about-no-value (a .rest .now) (a .subject) _ _ (read .ensures) _ (types .given .1) _ _ (read2 .ensures) (c .enum-told2 .given .1)
 
 same-length-4 : tie.Need-same-length-4
 same-length-4 c = search needs
@@ -90,11 +90,11 @@ same-length-5 c = search needs
 
 returns-3 : tie.Need-returns-3
 returns-3 c =
-  let a = c .before .before .before .before .before .before .before .before .before .before .before .before .before .before .before .before .before .before .before .before .before .args in
-  let read = c .before .before .before .before .before .before .before .before .before .before .before .before .before .read in
-  let types = c .before .before .before .before .before .before .before .before .before .types in
-  let read2 = c .before .before .before .before .before .read2 in
-  about-is (a .rest .now) (a .subject) _ _ (read .ensures) _ (types .given .1) _ _ (read2 .ensures) _ (c .before .values .given .1)
+    let a = c .before .before .before .before .before .before .before .before .before .before .before .before .before .before .before .before .before .before .before .before .before .args in
+    let read = c .before .before .before .before .before .before .before .before .before .before .before .before .before .read in
+    let types = c .before .before .before .before .before .before .before .before .before .types in
+    let read2 = c .before .before .before .before .before .read2 in
+    about-is (a .rest .now) (a .subject) _ _ (read .ensures) _ (types .given .1) _ _ (read2 .ensures) _ (c .before .values .given .1)
 
 pub read-spec : {M : Type 1} → statement M
 read-spec =

@@ -15,24 +15,24 @@ same-length c = search needs
 
 returns : tie.Need-returns
 returns c =
-  let a = c .before .before .before .before .before .before .before .before .before .before .args in
-  let pre = c .before .before .before .before .before .before .before .before .before .before .pre in
-  let take-line = c .before .before .before .before .take-line in
-  turn-begun (a .block .now) (a .at) (a .line .now) (a .out .now) (a .table .now) pre _ _ (take-line .ensures) (not-true _ (c .if1 .taken))
+    let a = c .before .before .before .before .before .before .before .before .before .before .args in
+    let pre = c .before .before .before .before .before .before .before .before .before .before .pre in
+    let take-line = c .before .before .before .before .take-line in
+    turn-begun (a .block .now) (a .at) (a .line .now) (a .out .now) (a .table .now) pre _ _ (take-line .ensures) (not-true _ (c .if1 .taken))
 
 slice-reshare-prefix-answer-line : tie.Need-slice-reshare-prefix-answer-line
 slice-reshare-prefix-answer-line c =
-  let a = c .before .before .before .before .before .before .before .before .before .before .args in
-  let pre = c .before .before .before .before .before .before .before .before .before .before .pre in
-  let take-line = c .before .before .before .before .take-line in
-  taken-within (a .block .now) (a .at) (a .line .now) (a .out .now) (a .table .now) pre _ _ (take-line .ensures)
+    let a = c .before .before .before .before .before .before .before .before .before .before .args in
+    let pre = c .before .before .before .before .before .before .before .before .before .before .pre in
+    let take-line = c .before .before .before .before .take-line in
+    taken-within (a .block .now) (a .at) (a .line .now) (a .out .now) (a .table .now) pre _ _ (take-line .ensures)
 
 slice-aggregate-answer-line : tie.Need-slice-aggregate-answer-line
 slice-aggregate-answer-line c =
-  let a = c .before .before .before .before .before .before .before .before .before .before .before .args in
-  let pre = c .before .before .before .before .before .before .before .before .before .before .before .pre in
-  let take-line = c .before .before .before .before .before .take-line in
-  sym (length-take-le _ _ (taken-within (a .block .now) (a .at) (a .line .now) (a .out .now) (a .table .now) pre _ _ (take-line .ensures)))
+    let a = c .before .before .before .before .before .before .before .before .before .before .before .args in
+    let pre = c .before .before .before .before .before .before .before .before .before .before .before .pre in
+    let take-line = c .before .before .before .before .before .take-line in
+    sym (length-take-le _ _ (taken-within (a .block .now) (a .at) (a .line .now) (a .out .now) (a .table .now) pre _ _ (take-line .ensures)))
 
 answer-line-requires : tie.Need-answer-line-requires
 answer-line-requires c κs = search needs
@@ -54,12 +54,12 @@ same-length-4 c = search needs
 
 returns-2 : tie.Need-returns-2
 returns-2 c =
-  let a = c .before .before .before .before .before .before .before .before .before .before .before .before .before .before .before .before .before .before .before .before .args in
-  let pre = c .before .before .before .before .before .before .before .before .before .before .before .before .before .before .before .before .before .before .before .before .pre in
-  let take-line = c .before .before .before .before .before .before .before .before .before .before .before .before .before .before .take-line in
-  let if1 = c .before .before .before .before .before .before .before .before .before .before .if1 in
-  let answer-line = c .before .before .before .before .before .before .answer-line in
-  turn-always (a .block .now) (a .at) (a .line .now) (a .out .now) (a .table .now) pre _ _ (take-line .ensures) (not-false _ (if1 .left))
+    let a = c .before .before .before .before .before .before .before .before .before .before .before .before .before .before .before .before .before .before .before .before .args in
+    let pre = c .before .before .before .before .before .before .before .before .before .before .before .before .before .before .before .before .before .before .before .before .pre in
+    let take-line = c .before .before .before .before .before .before .before .before .before .before .before .before .before .before .take-line in
+    let if1 = c .before .before .before .before .before .before .before .before .before .before .if1 in
+    let answer-line = c .before .before .before .before .before .before .answer-line in
+    turn-always (a .block .now) (a .at) (a .line .now) (a .out .now) (a .table .now) pre _ _ (take-line .ensures) (not-false _ (if1 .left))
     _ _ (answer-line .ensures .0) (c .enum-told .given .1)
 
 same-length-5 : tie.Need-same-length-5
@@ -73,12 +73,12 @@ same-length-7 c = search needs
 
 returns-3 : tie.Need-returns-3
 returns-3 c =
-  let a = c .before .before .before .before .before .before .before .before .before .before .before .before .before .before .before .before .before .before .before .before .before .args in
-  let pre = c .before .before .before .before .before .before .before .before .before .before .before .before .before .before .before .before .before .before .before .before .before .pre in
-  let take-line = c .before .before .before .before .before .before .before .before .before .before .before .before .before .before .before .take-line in
-  let if1 = c .before .before .before .before .before .before .before .before .before .before .before .if1 in
-  let answer-line = c .before .before .before .before .before .before .before .answer-line in
-  turn-ended (a .block .now) (a .at) (a .line .now) (a .out .now) (a .table .now) pre _ _ (take-line .ensures) (not-false _ (if1 .left))
+    let a = c .before .before .before .before .before .before .before .before .before .before .before .before .before .before .before .before .before .before .before .before .before .args in
+    let pre = c .before .before .before .before .before .before .before .before .before .before .before .before .before .before .before .before .before .before .before .before .before .pre in
+    let take-line = c .before .before .before .before .before .before .before .before .before .before .before .before .before .before .before .take-line in
+    let if1 = c .before .before .before .before .before .before .before .before .before .before .before .if1 in
+    let answer-line = c .before .before .before .before .before .before .before .answer-line in
+    turn-ended (a .block .now) (a .at) (a .line .now) (a .out .now) (a .table .now) pre _ _ (take-line .ensures) (not-false _ (if1 .left))
     _ _ (answer-line .ensures .0) _ (c .before .end .given .1) _ (answer-line .ensures .1)
 
 pub turn-spec : {M : Type 1} → statement M

@@ -9,8 +9,8 @@ first-end-requires c κs = search needs
 
 returns : tie.Need-returns
 returns c =
-  let a = c .before .before .before .before .args in
-  lone-and-more (a .line .now) _ (c .before .first-end .ensures) _ (c .if1 .taken)
+    let a = c .before .before .before .before .args in
+    lone-and-more (a .line .now) _ (c .before .first-end .ensures) _ (c .if1 .taken)
 
 read-requires : tie.Need-read-requires
 read-requires c κs = search needs
@@ -20,10 +20,10 @@ same-length c = search needs
 
 returns-2 : tie.Need-returns-2
 returns-2 c =
-  let a = c .before .before .before .before .before .before .before .before .args in
-  let first-end = c .before .before .before .before .before .first-end in
-  let if1 = c .before .before .before .before .if1 in
-  lone-read (a .line .now) _ (first-end .ensures) _ (if1 .left) _ (c .before .before .read .ensures)
+    let a = c .before .before .before .before .before .before .before .before .args in
+    let first-end = c .before .before .before .before .before .first-end in
+    let if1 = c .before .before .before .before .if1 in
+    lone-read (a .line .now) _ (first-end .ensures) _ (if1 .left) _ (c .before .before .read .ensures)
 
 pub read-lone-spec : {M : Type 1} → statement M
 read-lone-spec =

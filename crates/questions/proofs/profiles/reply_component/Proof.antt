@@ -21,24 +21,24 @@ enum-told c = search needs
 
 returns : tie.Need-returns
 returns c =
-  let a = c .before .before .before .before .before .args in
-  none-held _ _ (numbered-none (a .rest .now) _ (c .before .before .read-numbered .ensures) (c .enum-told .given .1))
+    let a = c .before .before .before .before .before .args in
+    none-held _ _ (numbered-none (a .rest .now) _ (c .before .before .read-numbered .ensures) (c .enum-told .given .1))
 
 slice-aggregate-read : tie.Need-slice-aggregate-read
 slice-aggregate-read c =
-  let a = c .before .before .before .before .before .before .before .args in
-  let read-numbered = c .before .before .before .before .read-numbered in
-  sym (length-take-le _ _ (numbered-within (a .rest .now) _ (read-numbered .ensures) _ _ (c .before .before .end .given .1)))
+    let a = c .before .before .before .before .before .before .before .args in
+    let read-numbered = c .before .before .before .before .read-numbered in
+    sym (length-take-le _ _ (numbered-within (a .rest .now) _ (read-numbered .ensures) _ _ (c .before .before .end .given .1)))
 
 slice-aggregate-read-2 : tie.Need-slice-aggregate-read-2
 slice-aggregate-read-2 c = search needs
 
 read-requires : tie.Need-read-requires
 read-requires c κs =
-  let a = c .before .before .before .before .before .before .before .before .args in
-  let read-numbered = c .before .before .before .before .before .read-numbered in
-  let pre = c .before .before .before .before .before .before .before .before .pre in
-  numbered-fits (a .rest .now) _ (read-numbered .ensures) _ _ (c .before .before .before .end .given .1) _ (pre .0)
+    let a = c .before .before .before .before .before .before .before .before .args in
+    let read-numbered = c .before .before .before .before .before .read-numbered in
+    let pre = c .before .before .before .before .before .before .before .before .pre in
+    numbered-fits (a .rest .now) _ (read-numbered .ensures) _ _ (c .before .before .before .end .given .1) _ (pre .0)
 
 enum-known-n : tie.Need-enum-known-n
 enum-known-n c = search needs
@@ -48,20 +48,20 @@ enum-told-2 c = search needs
 
 returns-2 : tie.Need-returns-2
 returns-2 c =
-  let a = c .before .before .before .before .before .before .before .before .before .before .before .before .args in
-  let read-numbered = c .before .before .before .before .before .before .before .before .before .read-numbered in
-  let end = c .before .before .before .before .before .before .before .end in
-  none-held _ _ (numbered-about (a .rest .now) _ (read-numbered .ensures) _ _ (end .given .1) ∙ octets-not (c .before .before .before .read .ensures) (c .enum-told2 .given .1) (λ v. componentIn v (end .given .0 .1 .0)))
+    let a = c .before .before .before .before .before .before .before .before .before .before .before .before .args in
+    let read-numbered = c .before .before .before .before .before .before .before .before .before .read-numbered in
+    let end = c .before .before .before .before .before .before .before .end in
+    none-held _ _ (numbered-about (a .rest .now) _ (read-numbered .ensures) _ _ (end .given .1) ∙ octets-not (c .before .before .before .read .ensures) (c .enum-told2 .given .1) (λ v. componentIn v (end .given .0 .1 .0)))
 
 array-share-prefix-v : tie.Need-array-share-prefix-v
 array-share-prefix-v c =
-  let read = c .before .before .before .before .read in
-  octets-within (read .ensures) _ (c .before .n .given .1)
+    let read = c .before .before .before .before .read in
+    octets-within (read .ensures) _ (c .before .n .given .1)
 
 slice-aggregate-component : tie.Need-slice-aggregate-component
 slice-aggregate-component c =
-  let read = c .before .before .before .before .before .read in
-  sym (length-take-le _ _ (octets-within (read .ensures) _ (c .before .before .n .given .1)))
+    let read = c .before .before .before .before .before .read in
+    sym (length-take-le _ _ (octets-within (read .ensures) _ (c .before .before .n .given .1)))
 
 component-requires : tie.Need-component-requires
 component-requires c κs = search needs
@@ -71,15 +71,15 @@ enum-known-tag c = search needs
 
 array-share-prefix-v-2 : tie.Need-array-share-prefix-v-2
 array-share-prefix-v-2 c =
-  let read = c .before .before .before .before .before .before .before .before .before .before .read in
-  let n = c .before .before .before .before .before .before .before .n in
-  octets-within (read .ensures) _ (n .given .1)
+    let read = c .before .before .before .before .before .before .before .before .before .before .read in
+    let n = c .before .before .before .before .before .before .before .n in
+    octets-within (read .ensures) _ (n .given .1)
 
 slice-aggregate-write-octets : tie.Need-slice-aggregate-write-octets
 slice-aggregate-write-octets c =
-  let read = c .before .before .before .before .before .before .before .before .before .before .before .read in
-  let n = c .before .before .before .before .before .before .before .before .n in
-  sym (length-take-le _ _ (octets-within (read .ensures) _ (n .given .1)))
+    let read = c .before .before .before .before .before .before .before .before .before .before .before .read in
+    let n = c .before .before .before .before .before .before .before .before .n in
+    sym (length-take-le _ _ (octets-within (read .ensures) _ (n .given .1)))
 
 write-octets-requires : tie.Need-write-octets-requires
 write-octets-requires c κs = search needs
@@ -95,25 +95,25 @@ same-length c = search needs
 
 returns-3 : tie.Need-returns-3
 returns-3 c =
-  let a = c .before .before .before .before .before .before .before .before .before .before .before .before .before .before .before .before .before .before .before .before .before .before .before .args in
-  let read-numbered = c .before .before .before .before .before .before .before .before .before .before .before .before .before .before .before .before .before .before .before .before .read-numbered in
-  let end = c .before .before .before .before .before .before .before .before .before .before .before .before .before .before .before .before .before .before .end in
-  let read = c .before .before .before .before .before .before .before .before .before .before .before .before .before .before .read in
-  let n = c .before .before .before .before .before .before .before .before .before .before .before .n in
-  let component = c .before .before .before .before .before .before .before .before .component in
-  let tag = c .before .before .before .before .before .before .tag in
-  let pre = c .before .before .before .before .before .before .before .before .before .before .before .before .before .before .before .before .before .before .before .before .before .before .before .pre in
-  rw (numbered-about (a .rest .now) _ (read-numbered .ensures) _ _ (end .given .1) ∙ octets-asked (read .ensures) _ (n .given .1) (λ v. componentIn v (end .given .0 .1 .0))) (component-held _ (end .given .0 .1 .0) _ (component .ensures) _ _ (tag .given .1) (a .memory .now) (pre .1) _ _ (c .before .before .write-octets .ensures) _ (length-take-le _ _ (octets-within (read .ensures) _ (n .given .1))))
+    let a = c .before .before .before .before .before .before .before .before .before .before .before .before .before .before .before .before .before .before .before .before .before .before .before .args in
+    let read-numbered = c .before .before .before .before .before .before .before .before .before .before .before .before .before .before .before .before .before .before .before .before .read-numbered in
+    let end = c .before .before .before .before .before .before .before .before .before .before .before .before .before .before .before .before .before .before .end in
+    let read = c .before .before .before .before .before .before .before .before .before .before .before .before .before .before .read in
+    let n = c .before .before .before .before .before .before .before .before .before .before .before .n in
+    let component = c .before .before .before .before .before .before .before .before .component in
+    let tag = c .before .before .before .before .before .before .tag in
+    let pre = c .before .before .before .before .before .before .before .before .before .before .before .before .before .before .before .before .before .before .before .before .before .before .before .pre in
+    rw (numbered-about (a .rest .now) _ (read-numbered .ensures) _ _ (end .given .1) ∙ octets-asked (read .ensures) _ (n .given .1) (λ v. componentIn v (end .given .0 .1 .0))) (component-held _ (end .given .0 .1 .0) _ (component .ensures) _ _ (tag .given .1) (a .memory .now) (pre .1) _ _ (c .before .before .write-octets .ensures) _ (length-take-le _ _ (octets-within (read .ensures) _ (n .given .1))))
 
 returns-4 : tie.Need-returns-4
 returns-4 c =
-  let a = c .before .before .before .before .before .before .before .before .before .before .before .before .before .before .before .before .before .before .before .args in
-  let read-numbered = c .before .before .before .before .before .before .before .before .before .before .before .before .before .before .before .before .read-numbered in
-  let end = c .before .before .before .before .before .before .before .before .before .before .before .before .before .before .end in
-  let read = c .before .before .before .before .before .before .before .before .before .before .read in
-  let n = c .before .before .before .before .before .before .before .n in
-  let component = c .before .before .before .before .component in
-  rw (numbered-about (a .rest .now) _ (read-numbered .ensures) _ _ (end .given .1) ∙ octets-asked (read .ensures) _ (n .given .1) (λ v. componentIn v (end .given .0 .1 .0))) (component-refused _ (end .given .0 .1 .0) _ (component .ensures) _ (c .before .before .refusal .given .1) _ (c .number .ensures) _)
+    let a = c .before .before .before .before .before .before .before .before .before .before .before .before .before .before .before .before .before .before .before .args in
+    let read-numbered = c .before .before .before .before .before .before .before .before .before .before .before .before .before .before .before .before .read-numbered in
+    let end = c .before .before .before .before .before .before .before .before .before .before .before .before .before .before .end in
+    let read = c .before .before .before .before .before .before .before .before .before .before .read in
+    let n = c .before .before .before .before .before .before .before .n in
+    let component = c .before .before .before .before .component in
+    rw (numbered-about (a .rest .now) _ (read-numbered .ensures) _ _ (end .given .1) ∙ octets-asked (read .ensures) _ (n .given .1) (λ v. componentIn v (end .given .0 .1 .0))) (component-refused _ (end .given .0 .1 .0) _ (component .ensures) _ (c .before .before .refusal .given .1) _ (c .number .ensures) _)
 
 pub reply-component-spec : {M : Type 1} → statement M
 reply-component-spec =

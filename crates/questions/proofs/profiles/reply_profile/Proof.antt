@@ -26,13 +26,13 @@ returns c = none-held _ _ (octets-not (c .before .before .before .read-lone .ens
 
 array-share-prefix-v : tie.Need-array-share-prefix-v
 array-share-prefix-v c =
-  let read-lone = c .before .before .before .before .read-lone in
-  octets-within (read-lone .ensures) _ (c .before .n .given .1)
+    let read-lone = c .before .before .before .before .read-lone in
+    octets-within (read-lone .ensures) _ (c .before .n .given .1)
 
 slice-aggregate-read : tie.Need-slice-aggregate-read
 slice-aggregate-read c =
-  let read-lone = c .before .before .before .before .before .read-lone in
-  sym (length-take-le _ _ (octets-within (read-lone .ensures) _ (c .before .before .n .given .1)))
+    let read-lone = c .before .before .before .before .before .read-lone in
+    sym (length-take-le _ _ (octets-within (read-lone .ensures) _ (c .before .before .n .given .1)))
 
 read-requires : tie.Need-read-requires
 read-requires c κs = search needs
@@ -42,15 +42,15 @@ enum-known-said c = search needs
 
 array-share-prefix-v-2 : tie.Need-array-share-prefix-v-2
 array-share-prefix-v-2 c =
-  let read-lone = c .before .before .before .before .before .before .before .before .before .before .read-lone in
-  let n = c .before .before .before .before .before .before .before .n in
-  octets-within (read-lone .ensures) _ (n .given .1)
+    let read-lone = c .before .before .before .before .before .before .before .before .before .before .read-lone in
+    let n = c .before .before .before .before .before .before .before .n in
+    octets-within (read-lone .ensures) _ (n .given .1)
 
 slice-aggregate-write-octets : tie.Need-slice-aggregate-write-octets
 slice-aggregate-write-octets c =
-  let read-lone = c .before .before .before .before .before .before .before .before .before .before .before .read-lone in
-  let n = c .before .before .before .before .before .before .before .before .n in
-  sym (length-take-le _ _ (octets-within (read-lone .ensures) _ (n .given .1)))
+    let read-lone = c .before .before .before .before .before .before .before .before .before .before .before .read-lone in
+    let n = c .before .before .before .before .before .before .before .before .n in
+    sym (length-take-le _ _ (octets-within (read-lone .ensures) _ (n .given .1)))
 
 write-octets-requires : tie.Need-write-octets-requires
 write-octets-requires c κs = search needs
@@ -66,20 +66,20 @@ same-length c = search needs
 
 returns-2 : tie.Need-returns-2
 returns-2 c =
-  let read-lone = c .before .before .before .before .before .before .before .before .before .before .before .before .before .before .read-lone in
-  let n = c .before .before .before .before .before .before .before .before .before .before .before .n in
-  let read = c .before .before .before .before .before .before .before .before .read in
-  let said = c .before .before .before .before .before .before .said in
-  let a = c .before .before .before .before .before .before .before .before .before .before .before .before .before .before .before .before .before .before .args in
-  let pre = c .before .before .before .before .before .before .before .before .before .before .before .before .before .before .before .before .before .before .pre in
-  rw (octets-asked (read-lone .ensures) _ (n .given .1) (λ v. profileIn v)) (profile-held _ _ (read .ensures) _ (said .given .1) (a .memory .now) (pre .1) _ _ (c .before .before .write-octets .ensures) _ (length-take-le _ _ (octets-within (read-lone .ensures) _ (n .given .1))))
+    let read-lone = c .before .before .before .before .before .before .before .before .before .before .before .before .before .before .read-lone in
+    let n = c .before .before .before .before .before .before .before .before .before .before .before .n in
+    let read = c .before .before .before .before .before .before .before .before .read in
+    let said = c .before .before .before .before .before .before .said in
+    let a = c .before .before .before .before .before .before .before .before .before .before .before .before .before .before .before .before .before .before .args in
+    let pre = c .before .before .before .before .before .before .before .before .before .before .before .before .before .before .before .before .before .before .pre in
+    rw (octets-asked (read-lone .ensures) _ (n .given .1) (λ v. profileIn v)) (profile-held _ _ (read .ensures) _ (said .given .1) (a .memory .now) (pre .1) _ _ (c .before .before .write-octets .ensures) _ (length-take-le _ _ (octets-within (read-lone .ensures) _ (n .given .1))))
 
 returns-3 : tie.Need-returns-3
 returns-3 c =
-  let read-lone = c .before .before .before .before .before .before .before .before .before .before .read-lone in
-  let n = c .before .before .before .before .before .before .before .n in
-  let read = c .before .before .before .before .read in
-  rw (octets-asked (read-lone .ensures) _ (n .given .1) (λ v. profileIn v)) (profile-refused _ _ (read .ensures) _ (c .before .before .refusal .given .1) _ (c .number .ensures) _)
+    let read-lone = c .before .before .before .before .before .before .before .before .before .before .read-lone in
+    let n = c .before .before .before .before .before .before .before .n in
+    let read = c .before .before .before .before .read in
+    rw (octets-asked (read-lone .ensures) _ (n .given .1) (λ v. profileIn v)) (profile-refused _ _ (read .ensures) _ (c .before .before .refusal .given .1) _ (c .number .ensures) _)
 
 pub reply-profile-spec : {M : Type 1} → statement M
 reply-profile-spec =

@@ -15,8 +15,8 @@ slice-relend-prefix-rewrite c = search needs
 
 slice-aggregate-rewrite : tie.Need-slice-aggregate-rewrite
 slice-aggregate-rewrite c =
-  let pre = c .before .before .before .before .before .pre in
-  sym (length-take-le _ _ (omega (arith, c .before .least .ensures, pre)))
+    let pre = c .before .before .before .before .before .pre in
+    sym (length-take-le _ _ (omega (arith, c .before .least .ensures, pre)))
 
 rewrite-requires : tie.Need-rewrite-requires
 rewrite-requires c κs = search needs
@@ -32,22 +32,22 @@ same-length c = search needs
 
 returns : tie.Need-returns
 returns c =
-  let a = c .before .before .before .before .before .before .before .before .before .before .before .args in
-  let least = c .before .before .before .before .before .before .before .least in
-  let pre = c .before .before .before .before .before .before .before .before .before .before .before .pre in
-  let rewrite = c .before .before .before .before .before .rewrite in
-  rewrite-accepted (a .t .now) (a .typed) _ _ (a .room) (a .memory .now) _ (least .ensures) pre _ (rewrite .ensures .0) _ (c .before .answer .given .1) _ (rewrite .ensures .1)
+    let a = c .before .before .before .before .before .before .before .before .before .before .before .args in
+    let least = c .before .before .before .before .before .before .before .least in
+    let pre = c .before .before .before .before .before .before .before .before .before .before .before .pre in
+    let rewrite = c .before .before .before .before .before .rewrite in
+    rewrite-accepted (a .t .now) (a .typed) _ _ (a .room) (a .memory .now) _ (least .ensures) pre _ (rewrite .ensures .0) _ (c .before .answer .given .1) _ (rewrite .ensures .1)
 
 same-length-2 : tie.Need-same-length-2
 same-length-2 c = search needs
 
 returns-2 : tie.Need-returns-2
 returns-2 c =
-  let a = c .before .before .before .before .before .before .before .before .before .before .before .args in
-  let least = c .before .before .before .before .before .before .before .least in
-  let pre = c .before .before .before .before .before .before .before .before .before .before .before .pre in
-  let rewrite = c .before .before .before .before .before .rewrite in
-  rewrite-refused (a .t .now) (a .typed) _ _ (a .room) (a .memory .now) _ (least .ensures) pre _ (rewrite .ensures .0) _ (c .before .answer2 .given .1) _
+    let a = c .before .before .before .before .before .before .before .before .before .before .before .args in
+    let least = c .before .before .before .before .before .before .before .least in
+    let pre = c .before .before .before .before .before .before .before .before .before .before .before .pre in
+    let rewrite = c .before .before .before .before .before .rewrite in
+    rewrite-refused (a .t .now) (a .typed) _ _ (a .room) (a .memory .now) _ (least .ensures) pre _ (rewrite .ensures .0) _ (c .before .answer2 .given .1) _
 
 pub rewrite-spec : {M : Type 1} → statement M
 rewrite-spec =

@@ -20,8 +20,8 @@ returns c = rw (← c .before .before .before .check-type .ensures, c .before .a
 
 returns-2 : tie.Need-returns-2
 returns-2 c =
-  let check-type = c .before .before .check-type in
-  rw (← check-type .ensures) (ap Refused (c .number .ensures) ∙ type-refused (check-type .result .answer) (c .before .match .keys2))
+    let check-type = c .before .before .check-type in
+    rw (← check-type .ensures) (ap Refused (c .number .ensures) ∙ type-refused (check-type .result .answer) (c .before .match .keys2))
 
 pub check-spec : {M : Type 1} → statement M
 check-spec =

@@ -22,27 +22,27 @@ enum-told c = search needs
 
 returns : tie.Need-returns
 returns c =
-  let a = c .before .before .before .before .before .before .args in
-  sym (ap replyTo (octets-not (c .before .before .before .read-lone .ensures) (c .enum-told .given .1) (λ v. typeIn (a .order) v)))
+    let a = c .before .before .before .before .before .before .args in
+    sym (ap replyTo (octets-not (c .before .before .before .read-lone .ensures) (c .enum-told .given .1) (λ v. typeIn (a .order) v)))
 
 array-share-prefix-memory : tie.Need-array-share-prefix-memory
 array-share-prefix-memory c =
-  let read-lone = c .before .before .before .before .read-lone in
-  octets-within (read-lone .ensures) _ (c .before .n .given .1)
+    let read-lone = c .before .before .before .before .read-lone in
+    octets-within (read-lone .ensures) _ (c .before .n .given .1)
 
 slice-aggregate-check : tie.Need-slice-aggregate-check
 slice-aggregate-check c =
-  let read-lone = c .before .before .before .before .before .read-lone in
-  sym (length-take-le _ _ (octets-within (read-lone .ensures) _ (c .before .before .n .given .1)))
+    let read-lone = c .before .before .before .before .before .read-lone in
+    sym (length-take-le _ _ (octets-within (read-lone .ensures) _ (c .before .before .n .given .1)))
 
 check-requires : tie.Need-check-requires
 check-requires c κs = search needs
 
 returns-2 : tie.Need-returns-2
 returns-2 c =
-  let read-lone = c .before .before .before .before .before .before .read-lone in
-  let a = c .before .before .before .before .before .before .before .before .before .args in
-  c .check .ensures ∙ sym (ap replyTo (octets-asked (read-lone .ensures) _ (c .before .before .before .n .given .1) (λ v. typeIn (a .order) v)))
+    let read-lone = c .before .before .before .before .before .before .read-lone in
+    let a = c .before .before .before .before .before .before .before .before .before .args in
+    c .check .ensures ∙ sym (ap replyTo (octets-asked (read-lone .ensures) _ (c .before .before .before .n .given .1) (λ v. typeIn (a .order) v)))
 
 pub reply-ordered-spec : {M : Type 1} → statement M
 reply-ordered-spec =

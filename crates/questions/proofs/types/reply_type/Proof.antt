@@ -27,9 +27,9 @@ enum-told c = search needs
 
 returns-2 : tie.Need-returns-2
 returns-2 c =
-  let a = c .before .before .before .before .before .before .before .args in
-  let first-end = c .before .before .before .before .before .first-end in
-  type-no-order (a .rest .now) _ (first-end .ensures) (omega (arith, first-end .ensures .within)) (sym (c .enum-told .given .1) ∙ c .before .before .read-order .ensures)
+    let a = c .before .before .before .before .before .before .before .args in
+    let first-end = c .before .before .before .before .before .first-end in
+    type-no-order (a .rest .now) _ (first-end .ensures) (omega (arith, first-end .ensures .within)) (sym (c .enum-told .given .1) ∙ c .before .before .read-order .ensures)
 
 add-reply-ordered : tie.Need-add-reply-ordered
 add-reply-ordered c = search needs
@@ -48,10 +48,10 @@ reply-ordered-requires c κs = search needs
 
 returns-3 : tie.Need-returns-3
 returns-3 c =
-  let a = c .before .before .before .before .before .before .before .before .before .before .args in
-  let first-end = c .before .before .before .before .before .before .before .before .first-end in
-  let read-order = c .before .before .before .before .before .read-order in
-  c .reply-ordered .ensures
+    let a = c .before .before .before .before .before .before .before .before .before .before .args in
+    let first-end = c .before .before .before .before .before .before .before .before .first-end in
+    let read-order = c .before .before .before .before .before .read-order in
+    c .reply-ordered .ensures
     ∙ type-ordered (a .rest .now) _ (first-end .ensures) (omega (arith, first-end .ensures .within)) _ (sym (c .before .before .before .order .given .1) ∙ read-order .ensures)
 
 pub reply-type-spec : {M : Type 1} → statement M

@@ -24,9 +24,9 @@ enum-known-answer-2 c = search needs
 
 returns : tie.Need-returns
 returns c =
-  let read-item = c .before .before .before .before .before .before .read-item in
-  let answer = c .before .before .before .before .answer in
-  c .shown .ensures ∙ rw (c .before .before .case .ensures, c .before .bits .ensures, ← read-item .ensures, answer .given .1)
+    let read-item = c .before .before .before .before .before .before .read-item in
+    let answer = c .before .before .before .before .answer in
+    c .shown .ensures ∙ rw (c .before .before .case .ensures, c .before .bits .ensures, ← read-item .ensures, answer .given .1)
 
 returns-2 : tie.Need-returns-2
 returns-2 c = rw (← c .before .before .before .read-item .ensures, c .before .answer2 .given .1)

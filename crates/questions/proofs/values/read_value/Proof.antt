@@ -18,8 +18,8 @@ slice-relend-prefix-read-value c = search needs
 
 slice-aggregate-read-value : tie.Need-slice-aggregate-read-value
 slice-aggregate-read-value c =
-  let pre = c .before .before .before .before .before .pre in
-  sym (length-take-le _ _ (omega (arith, c .before .room-of .ensures, pre)))
+    let pre = c .before .before .before .before .before .pre in
+    sym (length-take-le _ _ (omega (arith, c .before .room-of .ensures, pre)))
 
 read-value-requires : tie.Need-read-value-requires
 read-value-requires c κs = search needs
@@ -35,22 +35,22 @@ same-length c = search needs
 
 returns : tie.Need-returns
 returns c =
-  let a = c .before .before .before .before .before .before .before .before .before .before .before .args in
-  let room-of = c .before .before .before .before .before .before .before .room-of in
-  let pre = c .before .before .before .before .before .before .before .before .before .before .before .pre in
-  let read-value = c .before .before .before .before .before .read-value in
-  value-accepted (a .t .now) (a .typed) _ (a .room) (a .table .now) _ (room-of .ensures) (omega (arith, room-of .ensures, pre)) _ (read-value .ensures .0) _ _ _ (c .before .answer .given .1) _ (read-value .ensures .1)
+    let a = c .before .before .before .before .before .before .before .before .before .before .before .args in
+    let room-of = c .before .before .before .before .before .before .before .room-of in
+    let pre = c .before .before .before .before .before .before .before .before .before .before .before .pre in
+    let read-value = c .before .before .before .before .before .read-value in
+    value-accepted (a .t .now) (a .typed) _ (a .room) (a .table .now) _ (room-of .ensures) (omega (arith, room-of .ensures, pre)) _ (read-value .ensures .0) _ _ _ (c .before .answer .given .1) _ (read-value .ensures .1)
 
 same-length-2 : tie.Need-same-length-2
 same-length-2 c = search needs
 
 returns-2 : tie.Need-returns-2
 returns-2 c =
-  let a = c .before .before .before .before .before .before .before .before .before .before .before .args in
-  let room-of = c .before .before .before .before .before .before .before .room-of in
-  let pre = c .before .before .before .before .before .before .before .before .before .before .before .pre in
-  let read-value = c .before .before .before .before .before .read-value in
-  value-refused (a .t .now) (a .typed) _ (a .room) (a .table .now) _ (room-of .ensures) (omega (arith, room-of .ensures, pre)) _ (read-value .ensures .0) _ _ (c .before .answer2 .given .1) _ (read-value .ensures .1)
+    let a = c .before .before .before .before .before .before .before .before .before .before .before .args in
+    let room-of = c .before .before .before .before .before .before .before .room-of in
+    let pre = c .before .before .before .before .before .before .before .before .before .before .before .pre in
+    let read-value = c .before .before .before .before .before .read-value in
+    value-refused (a .t .now) (a .typed) _ (a .room) (a .table .now) _ (room-of .ensures) (omega (arith, room-of .ensures, pre)) _ (read-value .ensures .0) _ _ (c .before .answer2 .given .1) _ (read-value .ensures .1)
 
 pub read-value-spec : {M : Type 1} → statement M
 read-value-spec =

@@ -19,8 +19,8 @@ enum-told c = search needs
 
 returns : tie.Need-returns
 returns c =
-  let a = c .before .before .before .before .before .args in
-  none-replied _ _ (fields-none (a .rest .now) _ (c .before .before .read-fields .ensures) valueIn (c .enum-told .given .1))
+    let a = c .before .before .before .before .before .args in
+    none-replied _ _ (fields-none (a .rest .now) _ (c .before .before .read-fields .ensures) valueIn (c .enum-told .given .1))
 
 slice-aggregate-read : tie.Need-slice-aggregate-read
 slice-aggregate-read c = search needs
@@ -30,11 +30,11 @@ slice-aggregate-read-2 c = search needs
 
 read-requires : tie.Need-read-requires
 read-requires c κs =
-  let a = c .before .before .before .before .before .before .before .before .before .args in
-  let read-fields = c .before .before .before .before .before .before .read-fields in
-  let asked = c .before .before .before .before .asked in
-  let pre = c .before .before .before .before .before .before .before .before .before .pre in
-  (fields-within (a .rest .now) _ (read-fields .ensures) _ (asked .given .1), pre .0, pre .0)
+    let a = c .before .before .before .before .before .before .before .before .before .args in
+    let read-fields = c .before .before .before .before .before .before .read-fields in
+    let asked = c .before .before .before .before .asked in
+    let pre = c .before .before .before .before .before .before .before .before .before .pre in
+    (fields-within (a .rest .now) _ (read-fields .ensures) _ (asked .given .1), pre .0, pre .0)
 
 enum-known-typed : tie.Need-enum-known-typed
 enum-known-typed c = search needs
@@ -44,31 +44,31 @@ enum-told-2 c = search needs
 
 returns-2 : tie.Need-returns-2
 returns-2 c =
-  let a = c .before .before .before .before .before .before .before .before .before .before .before .before .before .before .args in
-  let read-fields = c .before .before .before .before .before .before .before .before .before .before .before .read-fields in
-  let asked = c .before .before .before .before .before .before .before .before .before .asked in
-  let read = c .before .before .before .before .read in
-  none-replied _ _ (fields-about (a .rest .now) _ (read-fields .ensures) valueIn _ (asked .given .1) ∙ about-nothing (read .ensures) (λ order t x. valueIn order t x (asked .given .0 .0 .number)) (c .enum-told2 .given .1))
+    let a = c .before .before .before .before .before .before .before .before .before .before .before .before .before .before .args in
+    let read-fields = c .before .before .before .before .before .before .before .before .before .before .before .read-fields in
+    let asked = c .before .before .before .before .before .before .before .before .before .asked in
+    let read = c .before .before .before .before .read in
+    none-replied _ _ (fields-about (a .rest .now) _ (read-fields .ensures) valueIn _ (asked .given .1) ∙ about-nothing (read .ensures) (λ order t x. valueIn order t x (asked .given .0 .0 .number)) (c .enum-told2 .given .1))
 
 array-share-prefix-t : tie.Need-array-share-prefix-t
 array-share-prefix-t c =
-  let read = c .before .before .before .before .before .read in
-  types-within (read .ensures) _ _ _ _ _ (c .before .typed .given .1)
+    let read = c .before .before .before .before .before .read in
+    types-within (read .ensures) _ _ _ _ _ (c .before .typed .given .1)
 
 slice-aggregate-read-value : tie.Need-slice-aggregate-read-value
 slice-aggregate-read-value c =
-  let read = c .before .before .before .before .before .before .read in
-  sym (length-take-le _ _ (types-within (read .ensures) _ _ _ _ _ (c .before .before .typed .given .1)))
+    let read = c .before .before .before .before .before .before .read in
+    sym (length-take-le _ _ (types-within (read .ensures) _ _ _ _ _ (c .before .before .typed .given .1)))
 
 array-share-prefix-v : tie.Need-array-share-prefix-v
 array-share-prefix-v c =
-  let read = c .before .before .before .before .before .before .read in
-  values-within (read .ensures) _ _ _ _ _ (c .before .before .typed .given .1)
+    let read = c .before .before .before .before .before .before .read in
+    values-within (read .ensures) _ _ _ _ _ (c .before .before .typed .given .1)
 
 slice-aggregate-read-value-2 : tie.Need-slice-aggregate-read-value-2
 slice-aggregate-read-value-2 c =
-  let read = c .before .before .before .before .before .before .before .read in
-  sym (length-take-le _ _ (values-within (read .ensures) _ _ _ _ _ (c .before .before .before .typed .given .1)))
+    let read = c .before .before .before .before .before .before .before .read in
+    sym (length-take-le _ _ (values-within (read .ensures) _ _ _ _ _ (c .before .before .before .typed .given .1)))
 
 read-value-requires : tie.Need-read-value-requires
 read-value-requires c κs = search needs
@@ -78,12 +78,12 @@ same-length c = search needs
 
 returns-3 : tie.Need-returns-3
 returns-3 c =
-  let a = c .before .before .before .before .before .before .before .before .before .before .before .before .before .before .before .before .before .before .before .before .before .args in
-  let read-fields = c .before .before .before .before .before .before .before .before .before .before .before .before .before .before .before .before .before .before .read-fields in
-  let asked = c .before .before .before .before .before .before .before .before .before .before .before .before .before .before .before .before .asked in
-  let read = c .before .before .before .before .before .before .before .before .before .before .before .read in
-  let typed = c .before .before .before .before .before .before .before .typed in
-  rw (fields-about (a .rest .now) _ (read-fields .ensures) valueIn _ (asked .given .1) ∙ sym (about-asks (read .ensures) _ _ _ _ _ (typed .given .1) (λ order t x. valueIn order t x (asked .given .0 .0 .number)))) (c .before .before .read-value .ensures)
+    let a = c .before .before .before .before .before .before .before .before .before .before .before .before .before .before .before .before .before .before .before .before .before .args in
+    let read-fields = c .before .before .before .before .before .before .before .before .before .before .before .before .before .before .before .before .before .before .read-fields in
+    let asked = c .before .before .before .before .before .before .before .before .before .before .before .before .before .before .before .before .asked in
+    let read = c .before .before .before .before .before .before .before .before .before .before .before .read in
+    let typed = c .before .before .before .before .before .before .before .typed in
+    rw (fields-about (a .rest .now) _ (read-fields .ensures) valueIn _ (asked .given .1) ∙ sym (about-asks (read .ensures) _ _ _ _ _ (typed .given .1) (λ order t x. valueIn order t x (asked .given .0 .0 .number)))) (c .before .before .read-value .ensures)
 
 pub reply-value-spec : {M : Type 1} → statement M
 reply-value-spec =

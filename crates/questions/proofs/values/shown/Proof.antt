@@ -14,8 +14,8 @@ returns-3 c = rw (c .match .keys3)
 
 returns-4 : tie.Need-returns-4
 returns-4 c =
-  let a = c .before .args in
-  shown-last (a .case) (a .bits) (c .match .rest .0 .0 .1) (c .match .rest .0 .1) (c .match .rest .1)
+    let a = c .before .args in
+    shown-last (a .case) (a .bits) (c .match .rest .0 .0 .1) (c .match .rest .0 .1) (c .match .rest .1)
 
 pub shown-spec : {M : Type 1} → statement M
 shown-spec = tie.close (tie.spec returns returns-2 returns-3 returns-4)

@@ -18,8 +18,8 @@ add-result c = let g = gap-small (c .before .before .args .size) (c .before .bef
 
 returns : tie.Need-returns
 returns c =
-  let a = c .before .before .args in
-  ap (λ (g : ℕ). a .at + g) (c .gap .ensures ∙ gap-modulo-8 (a .size) (a .index .0) (a .at))
+    let a = c .before .before .args in
+    ap (λ (g : ℕ). a .at + g) (c .gap .ensures ∙ gap-modulo-8 (a .size) (a .index .0) (a .at))
 
 pub behind-gap-spec : {M : Type 1} → statement M
 behind-gap-spec = tie.close (tie.spec add-i gap-requires add-result returns)

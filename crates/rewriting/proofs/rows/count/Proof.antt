@@ -16,8 +16,8 @@ abbrev μ-loop : tie.MeasureT-loop
 
 loop-holds : tie.Need-loop-holds Inv-loop μ-loop
 loop-holds c =
-  let a = c .before .args in
-  (omega arith, reach-none (a .index) (rowOf (a .rows .now)))
+    let a = c .before .args in
+    (omega arith, reach-none (a .index) (rowOf (a .rows .now)))
 
 mul-item-end : tie.Need-mul-item-end Inv-loop μ-loop
 mul-item-end c = search needs
@@ -42,10 +42,10 @@ shared-slice-read-item-end-2 c = search needs
 
 item-end-requires : tie.Need-item-end-requires Inv-loop μ-loop
 item-end-requires c κs =
-  let pre = c .before .before .before .before .before .pre in
-  let loop = c .before .before .before .loop in
-  let a = c .before .before .before .before .before .args in
-  let h = c .before .before .loop-test .taken in let s = pre in let e = loop .inv .1 in let b = reach-small (a .index) (a .rows .now) (a .n) s (loop .k) (omega arith) in (omega (arith, s .few), s .tails (loop .k) h)
+    let pre = c .before .before .before .before .before .pre in
+    let loop = c .before .before .before .loop in
+    let a = c .before .before .before .before .before .args in
+    let h = c .before .before .loop-test .taken in let s = pre in let e = loop .inv .1 in let b = reach-small (a .index) (a .rows .now) (a .n) s (loop .k) (omega arith) in (omega (arith, s .few), s .tails (loop .k) h)
 
 add-k : tie.Need-add-k Inv-loop μ-loop
 add-k c = search needs
@@ -55,15 +55,15 @@ loop-less c = let h = c .before .before .before .loop-test .taken in omega arith
 
 loop-again : tie.Need-loop-again Inv-loop μ-loop
 loop-again c =
-  let a = c .before .before .before .before .before .before .args in
-  let loop = c .before .before .before .before .loop in
-  let h = c .before .before .before .loop-test .taken in (omega arith, c .item-end .ensures ∙ ap (λ (j : ℕ). endOf (a .index) j (rowOf (a .rows .now) (loop .k) .kind) (rowOf (a .rows .now) (loop .k) .content)) (loop .inv .1) ∙ sym (reach-next (a .index) (rowOf (a .rows .now)) (loop .k)))
+    let a = c .before .before .before .before .before .before .args in
+    let loop = c .before .before .before .before .loop in
+    let h = c .before .before .before .loop-test .taken in (omega arith, c .item-end .ensures ∙ ap (λ (j : ℕ). endOf (a .index) j (rowOf (a .rows .now) (loop .k) .kind) (rowOf (a .rows .now) (loop .k) .content)) (loop .inv .1) ∙ sym (reach-next (a .index) (rowOf (a .rows .now)) (loop .k)))
 
 returns : tie.Need-returns Inv-loop μ-loop
 returns c =
-  let loop = c .before .loop in
-  let a = c .before .before .before .args in
-  let h = c .loop-test .left in let e : loop .k ≡ a .n = omega (arith, loop .inv .0) in loop .inv .1 ∙ ap (reach (a .index) (rowOf (a .rows .now))) e
+    let loop = c .before .loop in
+    let a = c .before .before .before .args in
+    let h = c .loop-test .left in let e : loop .k ≡ a .n = omega (arith, loop .inv .0) in loop .inv .1 ∙ ap (reach (a .index) (rowOf (a .rows .now))) e
 
 pub count-spec : {M : Type 1} → statement M
 count-spec =

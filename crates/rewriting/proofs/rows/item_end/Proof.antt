@@ -19,8 +19,8 @@ add-result c = search needs
 
 returns : tie.Need-returns
 returns c =
-  let a = c .before .before .args in
-  octet-ends (a .index) (a .at) (a .kind) (a .content) (c .before .is-octet .ensures (c .if1 .taken))
+    let a = c .before .before .args in
+    octet-ends (a .index) (a .at) (a .kind) (a .content) (c .before .is-octet .ensures (c .if1 .taken))
 
 width-of-requires : tie.Need-width-of-requires
 width-of-requires c κs = search needs
@@ -33,27 +33,27 @@ octets-requires c κs = search needs
 
 add-result-2 : tie.Need-add-result-2
 add-result-2 c =
-  let width-of = c .before .before .width-of in
-  let a = c .before .before .before .before .before .args in
-  let pre = c .before .before .before .before .before .pre in
-  let g = gap-small (width-of .result) (a .index .0 + a .at) in let o = octets-small (width-of .result) in let e = c .before .behind-gap .ensures in let f = c .octets .ensures in omega (arith, pre .0)
+    let width-of = c .before .before .width-of in
+    let a = c .before .before .before .before .before .args in
+    let pre = c .before .before .before .before .before .pre in
+    let g = gap-small (width-of .result) (a .index .0 + a .at) in let o = octets-small (width-of .result) in let e = c .before .behind-gap .ensures in let f = c .octets .ensures in omega (arith, pre .0)
 
 tail-of-requires : tie.Need-tail-of-requires
 tail-of-requires c κs = search needs
 
 add-result-3 : tie.Need-add-result-3
 add-result-3 c =
-  let width-of = c .before .before .before .width-of in
-  let a = c .before .before .before .before .before .before .args in
-  let pre = c .before .before .before .before .before .before .pre in
-  let g = gap-small (width-of .result) (a .index .0 + a .at) in let o = octets-small (width-of .result) in let e = c .before .before .behind-gap .ensures in let f = c .before .octets .ensures in let t = c .tail-of .ensures in omega (arith, pre .0, pre .1)
+    let width-of = c .before .before .before .width-of in
+    let a = c .before .before .before .before .before .before .args in
+    let pre = c .before .before .before .before .before .before .pre in
+    let g = gap-small (width-of .result) (a .index .0 + a .at) in let o = octets-small (width-of .result) in let e = c .before .before .behind-gap .ensures in let f = c .before .octets .ensures in let t = c .tail-of .ensures in omega (arith, pre .0, pre .1)
 
 returns-2 : tie.Need-returns-2
 returns-2 c =
-  let octets2 = c .before .octets in
-  let a = c .before .before .before .before .before .before .args in
-  let width-of = c .before .before .before .width-of in
-  ap (λ (n : ℕ). n + octets2 .result + c .tail-of .result) (c .before .before .behind-gap .ensures) ∙ ap (λ (n : ℕ). behindGap (a .index) (a .at) (octets (width-of .result)) + n + c .tail-of .result) (octets2 .ensures) ∙ ap (λ (z : Size). behindGap (a .index) (a .at) (octets z) + octets z + c .tail-of .result) (width-of .ensures) ∙ ap (λ (n : ℕ). behindGap (a .index) (a .at) (octets (widthOf (a .kind))) + octets (widthOf (a .kind)) + n) (c .tail-of .ensures)
+    let octets2 = c .before .octets in
+    let a = c .before .before .before .before .before .before .args in
+    let width-of = c .before .before .before .width-of in
+    ap (λ (n : ℕ). n + octets2 .result + c .tail-of .result) (c .before .before .behind-gap .ensures) ∙ ap (λ (n : ℕ). behindGap (a .index) (a .at) (octets (width-of .result)) + n + c .tail-of .result) (octets2 .ensures) ∙ ap (λ (z : Size). behindGap (a .index) (a .at) (octets z) + octets z + c .tail-of .result) (width-of .ensures) ∙ ap (λ (n : ℕ). behindGap (a .index) (a .at) (octets (widthOf (a .kind))) + octets (widthOf (a .kind)) + n) (c .tail-of .ensures)
 
 pub item-end-spec : {M : Type 1} → statement M
 item-end-spec =

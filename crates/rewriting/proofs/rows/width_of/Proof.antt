@@ -31,8 +31,8 @@ size-of-requires c κs = search needs
 returns-5 : tie.Need-returns-5
 unfolding widthOf
 returns-5 c =
-  let if1 = c .before .before .before .before .if1 in
-  c .size-of .ensures ∙ simp (ne-eqb _ _ (if1 .left), ne-eqb _ _ (c .before .before .before .if2 .left), ne-eqb _ _ (c .before .before .if3 .left), ne-eqb _ _ (c .before .if4 .left))
+    let if1 = c .before .before .before .before .if1 in
+    c .size-of .ensures ∙ simp (ne-eqb _ _ (if1 .left), ne-eqb _ _ (c .before .before .before .if2 .left), ne-eqb _ _ (c .before .before .if3 .left), ne-eqb _ _ (c .before .if4 .left))
 
 pub width-of-spec : {M : Type 1} → statement M
 width-of-spec =

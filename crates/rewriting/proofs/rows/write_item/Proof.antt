@@ -14,9 +14,9 @@ cast-out c = search needs
 
 slice-write-out : tie.Need-slice-write-out
 slice-write-out c =
-  let a = c .before .before .before .before .args in
-  let pre = c .before .before .before .before .pre in
-  let e = octet-ends (a .index) (a .at) (a .kind) (a .content) (c .before .is-octet .ensures (c .if1 .taken)) in omega (arith, pre .2)
+    let a = c .before .before .before .before .args in
+    let pre = c .before .before .before .before .pre in
+    let e = octet-ends (a .index) (a .at) (a .kind) (a .content) (c .before .is-octet .ensures (c .if1 .taken)) in omega (arith, pre .2)
 
 add-result : tie.Need-add-result
 add-result c = search needs
@@ -26,9 +26,9 @@ same-length c = search needs
 
 returns : tie.Need-returns
 returns c =
-  let a = c .before .before .before .before .args in
-  let is-octet = c .before .is-octet in
-  (octet-ends (a .index) (a .at) (a .kind) (a .content) (is-octet .ensures (c .if1 .taken)), octet-octets (target (a .order) (a .index)) (a .v .now) (a .out .now) (a .at) (a .kind) (a .place) (a .content) (is-octet .ensures (c .if1 .taken)))
+    let a = c .before .before .before .before .args in
+    let is-octet = c .before .is-octet in
+    (octet-ends (a .index) (a .at) (a .kind) (a .content) (is-octet .ensures (c .if1 .taken)), octet-octets (target (a .order) (a .index)) (a .v .now) (a .out .now) (a .at) (a .kind) (a .place) (a .content) (is-octet .ensures (c .if1 .taken)))
 
 write-wide-requires : tie.Need-write-wide-requires
 write-wide-requires c κs = search needs

@@ -22,11 +22,11 @@ octets-requires c κs = search needs
 
 add-end : tie.Need-add-end
 add-end c =
-  let a = c .before .before .before .before .before .args in
-  let width-of = c .before .before .width-of in
-  let behind-gap = c .before .behind-gap in
-  let pre = c .before .before .before .before .before .pre in
-  let f = items.item-fits (target (a .order) (a .index)) (a .v .now) (a .out .now) (a .at) (a .kind) (a .place) (a .content) (width-of .result) (behind-gap .result) (headOf (a .kind) (a .content)) (width-of .ensures) (behind-gap .ensures) refl _ (pre .2) in let e = c .octets .ensures in omega arith
+    let a = c .before .before .before .before .before .args in
+    let width-of = c .before .before .width-of in
+    let behind-gap = c .before .behind-gap in
+    let pre = c .before .before .before .before .before .pre in
+    let f = items.item-fits (target (a .order) (a .index)) (a .v .now) (a .out .now) (a .at) (a .kind) (a .place) (a .content) (width-of .result) (behind-gap .result) (headOf (a .kind) (a .content)) (width-of .ensures) (behind-gap .ensures) refl _ (pre .2) in let e = c .octets .ensures in omega arith
 
 sub-write-zeros : tie.Need-sub-write-zeros
 sub-write-zeros c = search needs
@@ -48,16 +48,16 @@ same-length c = search needs
 
 returns : tie.Need-returns
 returns c =
-  let tail-of = c .before .tail-of in
-  let a = c .before .before .before .before .before .before .before .before .before .before .before .before .before .before .before .before .args in
-  let width-of = c .before .before .before .before .before .before .before .before .before .before .before .before .before .width-of in
-  let behind-gap = c .before .before .before .before .before .before .before .before .before .before .before .before .behind-gap in
-  let head-of = c .before .before .before .before .before .head-of in
-  let octets = c .before .before .before .before .before .before .before .before .before .before .before .octets in
-  let pre = c .before .before .before .before .before .before .before .before .before .before .before .before .before .before .before .before .pre in
-  let write-zeros = c .before .before .before .before .before .before .before .before .before .write-zeros in
-  let write-number = c .before .before .before .before .write-number in
-  (let e : tail-of .result ≡ 0 = c .if1 .taken in let z = items.item-ends (target (a .order) (a .index)) (a .v .now) (a .out .now) (a .at) (a .kind) (a .place) (a .content) (width-of .result) (behind-gap .result) (head-of .result) (width-of .ensures) (behind-gap .ensures) (head-of .ensures) (octets .result) (tail-of .result) (octets .ensures) (tail-of .ensures) in omega arith, items.item-written (target (a .order) (a .index)) (a .v .now) (a .out .now) (a .at) (a .kind) (a .place) (a .content) (width-of .result) (behind-gap .result) (head-of .result) (width-of .ensures) (behind-gap .ensures) (head-of .ensures) (pre .2) (tail-of .result) (octets .result) (tail-of .ensures) (octets .ensures) _ _ _ _ _ (write-zeros .ensures) (write-number .ensures) (items.no-tail _ _ _ _ (c .if1 .taken)))
+    let tail-of = c .before .tail-of in
+    let a = c .before .before .before .before .before .before .before .before .before .before .before .before .before .before .before .before .args in
+    let width-of = c .before .before .before .before .before .before .before .before .before .before .before .before .before .width-of in
+    let behind-gap = c .before .before .before .before .before .before .before .before .before .before .before .before .behind-gap in
+    let head-of = c .before .before .before .before .before .head-of in
+    let octets = c .before .before .before .before .before .before .before .before .before .before .before .octets in
+    let pre = c .before .before .before .before .before .before .before .before .before .before .before .before .before .before .before .before .pre in
+    let write-zeros = c .before .before .before .before .before .before .before .before .before .write-zeros in
+    let write-number = c .before .before .before .before .write-number in
+    (let e : tail-of .result ≡ 0 = c .if1 .taken in let z = items.item-ends (target (a .order) (a .index)) (a .v .now) (a .out .now) (a .at) (a .kind) (a .place) (a .content) (width-of .result) (behind-gap .result) (head-of .result) (width-of .ensures) (behind-gap .ensures) (head-of .ensures) (octets .result) (tail-of .result) (octets .ensures) (tail-of .ensures) in omega arith, items.item-written (target (a .order) (a .index)) (a .v .now) (a .out .now) (a .at) (a .kind) (a .place) (a .content) (width-of .result) (behind-gap .result) (head-of .result) (width-of .ensures) (behind-gap .ensures) (head-of .ensures) (pre .2) (tail-of .result) (octets .result) (tail-of .ensures) (octets .ensures) _ _ _ _ _ (write-zeros .ensures) (write-number .ensures) (items.no-tail _ _ _ _ (c .if1 .taken)))
 
 add-write-octets : tie.Need-add-write-octets
 add-write-octets c = search needs
@@ -82,16 +82,16 @@ same-length-2 c = search needs
 
 returns-2 : tie.Need-returns-2
 returns-2 c =
-  let a = c .before .before .before .before .before .before .before .before .before .before .before .before .before .before .before .before .before .before .before .before .before .args in
-  let width-of = c .before .before .before .before .before .before .before .before .before .before .before .before .before .before .before .before .before .before .width-of in
-  let behind-gap = c .before .before .before .before .before .before .before .before .before .before .before .before .before .before .before .before .before .behind-gap in
-  let head-of = c .before .before .before .before .before .before .before .before .before .before .head-of in
-  let octets = c .before .before .before .before .before .before .before .before .before .before .before .before .before .before .before .before .octets in
-  let tail-of = c .before .before .before .before .before .before .tail-of in
-  let pre = c .before .before .before .before .before .before .before .before .before .before .before .before .before .before .before .before .before .before .before .before .before .pre in
-  let write-zeros = c .before .before .before .before .before .before .before .before .before .before .before .before .before .before .write-zeros in
-  let write-number = c .before .before .before .before .before .before .before .before .before .write-number in
-  (items.item-ends (target (a .order) (a .index)) (a .v .now) (a .out .now) (a .at) (a .kind) (a .place) (a .content) (width-of .result) (behind-gap .result) (head-of .result) (width-of .ensures) (behind-gap .ensures) (head-of .ensures) (octets .result) (tail-of .result) (octets .ensures) (tail-of .ensures), items.item-written (target (a .order) (a .index)) (a .v .now) (a .out .now) (a .at) (a .kind) (a .place) (a .content) (width-of .result) (behind-gap .result) (head-of .result) (width-of .ensures) (behind-gap .ensures) (head-of .ensures) (pre .2) (tail-of .result) (octets .result) (tail-of .ensures) (octets .ensures) _ _ _ _ _ (write-zeros .ensures) (write-number .ensures) (items.tail-written (target (a .order) (a .index)) (a .v .now) (a .out .now) (a .at) (a .kind) (a .place) (a .content) (width-of .result) (behind-gap .result) (head-of .result) (width-of .ensures) (behind-gap .ensures) (head-of .ensures) (pre .2) (pre .1) (tail-of .result) (octets .result) (tail-of .ensures) (octets .ensures) _ _ _ (write-number .kept .0 ∙ write-zeros .kept .0) (c .before .before .write-octets .ensures)))
+    let a = c .before .before .before .before .before .before .before .before .before .before .before .before .before .before .before .before .before .before .before .before .before .args in
+    let width-of = c .before .before .before .before .before .before .before .before .before .before .before .before .before .before .before .before .before .before .width-of in
+    let behind-gap = c .before .before .before .before .before .before .before .before .before .before .before .before .before .before .before .before .before .behind-gap in
+    let head-of = c .before .before .before .before .before .before .before .before .before .before .head-of in
+    let octets = c .before .before .before .before .before .before .before .before .before .before .before .before .before .before .before .before .octets in
+    let tail-of = c .before .before .before .before .before .before .tail-of in
+    let pre = c .before .before .before .before .before .before .before .before .before .before .before .before .before .before .before .before .before .before .before .before .before .pre in
+    let write-zeros = c .before .before .before .before .before .before .before .before .before .before .before .before .before .before .write-zeros in
+    let write-number = c .before .before .before .before .before .before .before .before .before .write-number in
+    (items.item-ends (target (a .order) (a .index)) (a .v .now) (a .out .now) (a .at) (a .kind) (a .place) (a .content) (width-of .result) (behind-gap .result) (head-of .result) (width-of .ensures) (behind-gap .ensures) (head-of .ensures) (octets .result) (tail-of .result) (octets .ensures) (tail-of .ensures), items.item-written (target (a .order) (a .index)) (a .v .now) (a .out .now) (a .at) (a .kind) (a .place) (a .content) (width-of .result) (behind-gap .result) (head-of .result) (width-of .ensures) (behind-gap .ensures) (head-of .ensures) (pre .2) (tail-of .result) (octets .result) (tail-of .ensures) (octets .ensures) _ _ _ _ _ (write-zeros .ensures) (write-number .ensures) (items.tail-written (target (a .order) (a .index)) (a .v .now) (a .out .now) (a .at) (a .kind) (a .place) (a .content) (width-of .result) (behind-gap .result) (head-of .result) (width-of .ensures) (behind-gap .ensures) (head-of .ensures) (pre .2) (pre .1) (tail-of .result) (octets .result) (tail-of .ensures) (octets .ensures) _ _ _ (write-number .kept .0 ∙ write-zeros .kept .0) (c .before .before .write-octets .ensures)))
 
 pub write-wide-spec : {M : Type 1} → statement M
 write-wide-spec =

@@ -17,8 +17,8 @@ enum-told c = search needs
 
 returns : tie.Need-returns
 returns c =
-  let a = c .before .before .before .before .args in
-  number-none (a .line .now) (a .from) _ (c .before .before .word-at .ensures) (c .enum-told .given .1)
+    let a = c .before .before .before .before .args in
+    number-none (a .line .now) (a .from) _ (c .before .before .word-at .ensures) (c .enum-told .given .1)
 
 sub-read-decimal : tie.Need-sub-read-decimal
 sub-read-decimal c = omega (arith, word-within (c .before .before .before .word-at .ensures) _ (c .before .end .given .1))
@@ -40,23 +40,23 @@ enum-told-2 c = search needs
 
 returns-2 : tie.Need-returns-2
 returns-2 c =
-  let a = c .before .before .before .before .before .before .before .before .before .args in
-  let word-at = c .before .before .before .before .before .before .before .word-at in
-  let end = c .before .before .before .before .before .end in
-  number-other (a .line .now) (a .from) _ (word-at .ensures) _ (end .given .1) (sym (c .enum-told2 .given .1) ∙ c .before .before .read-decimal .ensures)
+    let a = c .before .before .before .before .before .before .before .before .before .args in
+    let word-at = c .before .before .before .before .before .before .before .word-at in
+    let end = c .before .before .before .before .before .end in
+    number-other (a .line .now) (a .from) _ (word-at .ensures) _ (end .given .1) (sym (c .enum-told2 .given .1) ∙ c .before .before .read-decimal .ensures)
 
 add-t8 : tie.Need-add-t8
 add-t8 c =
-  let word-at = c .before .before .before .before .before .before .before .before .word-at in
-  let end = c .before .before .before .before .before .before .end in
-  omega (arith, word-within (word-at .ensures) _ (end .given .1))
+    let word-at = c .before .before .before .before .before .before .before .before .word-at in
+    let end = c .before .before .before .before .before .before .end in
+    omega (arith, word-within (word-at .ensures) _ (end .given .1))
 
 returns-3 : tie.Need-returns-3
 returns-3 c =
-  let a = c .before .before .before .before .before .before .before .before .before .before .args in
-  let word-at = c .before .before .before .before .before .before .before .before .word-at in
-  let end = c .before .before .before .before .before .before .end in
-  number-is (a .line .now) (a .from) _ (word-at .ensures) _ (end .given .1) _ (sym (c .before .number .given .1) ∙ c .before .before .before .read-decimal .ensures)
+    let a = c .before .before .before .before .before .before .before .before .before .before .args in
+    let word-at = c .before .before .before .before .before .before .before .before .word-at in
+    let end = c .before .before .before .before .before .before .end in
+    number-is (a .line .now) (a .from) _ (word-at .ensures) _ (end .given .1) _ (sym (c .before .number .given .1) ∙ c .before .before .before .read-decimal .ensures)
 
 pub number-at-spec : {M : Type 1} → statement M
 number-at-spec =

@@ -6,8 +6,8 @@ use Rattle.words.proofs.places.word_at.Tie as tie
 
 returns : tie.Need-returns
 returns c =
-  let a = c .before .before .args in
-  word-none (a .line .now) (a .from) (c .if1 .taken)
+    let a = c .before .before .args in
+    word-none (a .line .now) (a .from) (c .if1 .taken)
 
 sub-first-end : tie.Need-sub-first-end
 sub-first-end c = search needs
@@ -26,8 +26,8 @@ add-t9 c = search needs
 
 returns-2 : tie.Need-returns-2
 returns-2 c =
-  let a = c .before .before .before .before .args in
-  word-there (a .line .now) (a .from) (c .before .before .if1 .left) _ (c .first-end .ensures)
+    let a = c .before .before .before .before .args in
+    word-there (a .line .now) (a .from) (c .before .before .if1 .left) _ (c .first-end .ensures)
 
 pub word-at-spec : {M : Type 1} → statement M
 word-at-spec =

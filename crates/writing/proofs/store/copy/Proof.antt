@@ -45,8 +45,8 @@ same-length c = c .before .loop .inv .1
 
 returns : tie.Need-returns Inv-loop μ-loop
 returns c =
-  let loop = c .before .loop in
-  let o = c .before .before .args in
+    let loop = c .before .loop in
+    let o = c .before .before .args in
     sym (stored-last (o .octets .now) (loop .out) (o .at) (loop .k) (c .loop-test .left)) ∙ loop .inv .2
 
 pub copy-spec : {M : Type 1} → statement M

@@ -41,8 +41,8 @@ same-length c = c .before .loop .inv .1
 
 returns : tie.Need-returns Inv-loop μ-loop
 returns c =
-  let loop = c .before .loop in
-  let o = c .before .before .args in
+    let loop = c .before .loop in
+    let o = c .before .before .args in
     let l = length-replicate {A = ℕ} (o .count) 0 in
     let h = c .loop-test .left in
     sym (stored-last (replicate (o .count) 0) (loop .out) (o .at) (loop .k) (omega arith)) ∙ loop .inv .2
