@@ -216,7 +216,7 @@ fn elements(
             if let Inert::Leaf(kind) = inert {
                 return leaf_elements(v, m, table, kind, count, left, c);
             }
-            each(t, met, v, m, table, e, count, left, c)
+            flat_elements(v, m, table, inert, count, left, c)
         }
         Parameters::Struct(fields) => {
             if count < PLANNED {
@@ -251,6 +251,30 @@ fn leaf_elements(
         return c.refused(refusals::TOO_MANY_OPEN);
     }
     leaves::leaves(v, m, table, kind, count, c)
+}
+
+// Elements that hold no other type, each a visit, without the list of kinds.
+fn flat_elements(
+    v: &[u8],
+    m: Mode,
+    table: &mut [u64],
+    inert: Inert,
+    count: u64,
+    left: u32,
+    c: Cursor,
+) -> Cursor
+    ensures { λ r. ⌜ ((t : Checked) → stateOf r (now (table .exit)) ≡ elementsAt (sinkOf m) (sourceOf m (now (v .entry))) (reads (sinkOf m) (sourceOf m (now (v .entry))) t left) (Shape.flat inert) count (stateOf c (now (table .entry)))) ⌝ }
+{
+    let mut d = c;
+    let mut k: u64 = 0;
+    while k < count {
+        d = plans::flat(v, m, table, inert, left, d);
+        if d.fault != 0 {
+            return d;
+        }
+        k += 1;
+    }
+    d
 }
 
 // So many elements of one type, one after the other.

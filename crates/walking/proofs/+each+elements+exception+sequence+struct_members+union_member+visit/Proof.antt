@@ -37,6 +37,7 @@ use Rattle.met.proofs.inside_of.Reads as inside-of-reads
 use Rattle.plans.proofs.flat.Reads as flat-reads
 use Rattle.plans.proofs.plan_of.Reads as plan-of-reads
 use Rattle.plans.proofs.structs.Reads as structs-reads
+use Rattle.walking.proofs.flat_elements.Reads as flat-elements-reads
 use Rattle.walking.proofs.leaf_elements.Reads as leaf-elements-reads
 use Rattle.walking.proofs.+each+elements+exception+sequence+struct_members+union_member+visit.{statement}
 use Rattle.walking.proofs.+each+elements+exception+sequence+struct_members+union_member+visit.Tie.{close}
@@ -212,6 +213,8 @@ abbrev elements-of : ℕ → elements-lts.Claims
 elements-of t = (
   leaf-elements-reads.Asked,
   leaf-elements-reads.Learnt,
+  flat-elements-reads.Asked,
+  flat-elements-reads.Learnt,
   each-below t,
   each.Post,
   plan-of-reads.Asked,
@@ -246,28 +249,28 @@ elements-returns t c =
     leaf-elements .ensures u
     ∙ ap (λ (p : Shape). elementsAt k x (reads k x u (a .left)) p (a .count) s) (sym (ap (shapeOf (a .t .now) (kindsMet (a .met))) (e1 .given .1) ∙ ap flat (inert .given .1)))
 
-elements-each-requires : (t : ℕ) → elements-lts.Need-each-requires (elements-of t) (elements-at t) elements.Post
-elements-each-requires t c κs = (omega (arith, c .before .before .before .before .before .before .before .before .pre .0), tt)
+elements-flat-elements-requires : (t : ℕ) → elements-lts.Need-flat-elements-requires (elements-of t) (elements-at t) elements.Post
+elements-flat-elements-requires t c κs = search needs
 
 elements-enum-known-e-2 : (t : ℕ) → elements-lts.Need-enum-known-e-2 (elements-of t) (elements-at t) elements.Post
 elements-enum-known-e-2 t c = search needs
 
-elements-each-requires-2 : (t : ℕ) → elements-lts.Need-each-requires-2 (elements-of t) (elements-at t) elements.Post
-elements-each-requires-2 t c κs = (omega (arith, c .before .before .before .before .before .before .before .before .pre .0), tt)
+elements-each-requires : (t : ℕ) → elements-lts.Need-each-requires (elements-of t) (elements-at t) elements.Post
+elements-each-requires t c κs = (omega (arith, c .before .before .before .before .before .before .before .before .pre .0), tt)
 
 elements-same-length-2 : (t : ℕ) → elements-lts.Need-same-length-2 (elements-of t) (elements-at t) elements.Post
-elements-same-length-2 t c = c .before .before .each2 .kept .1 .1 .1 .1 .0
+elements-same-length-2 t c = c .before .before .each .kept .1 .1 .1 .1 .0
 
 elements-returns-2 : (t : ℕ) → elements-lts.Need-returns-2 (elements-of t) (elements-at t) elements.Post
 elements-returns-2 t c =
     let a = c .before .before .before .before .before .before .before .before .before .before .before .args in
-    let each2 = c .before .before .each2 in
+    let each = c .before .before .each in
     let e2 = c .before .before .before .before .before .before .e2 in
     let k = sinkOf (a .m) in
     let x = sourceOf (a .m) (a .v .now) in
     let u = checked (a .t .now) (kindsMet (a .met)) in
     let s = stateOf (a .c) (a .table .now) in
-    each2 .ensures ∙ ap (λ (p : Parameters). elementsAt k x (reads k x u (a .left)) (shapeOf (a .t .now) (kindsMet (a .met)) p) (a .count) s) (sym (e2 .given .1))
+    each .ensures ∙ ap (λ (p : Parameters). elementsAt k x (reads k x u (a .left)) (shapeOf (a .t .now) (kindsMet (a .met)) p) (a .count) s) (sym (e2 .given .1))
 
 elements-plan-of-requires : (t : ℕ) → elements-lts.Need-plan-of-requires (elements-of t) (elements-at t) elements.Post
 elements-plan-of-requires t c κs = search needs
@@ -294,45 +297,47 @@ elements-returns-3 t c =
     ∙ sym (ap (λ (p : Parameters). elementsAt k x (reads k x u (a .left)) (shapeOf (a .t .now) (kindsMet (a .met)) p) (a .count) s) (e2 .given .1)
     ∙ way.elements-planned k x u (a .left) _ _ (plan-of .result) (plan-of .ensures) (if2 .taken) (a .count) s)
 
-elements-each-requires-3 : (t : ℕ) → elements-lts.Need-each-requires-3 (elements-of t) (elements-at t) elements.Post
-elements-each-requires-3 t c κs = (omega (arith, c .before .before .before .before .before .before .before .before .before .before .pre .0), tt)
+elements-each-requires-2 : (t : ℕ) → elements-lts.Need-each-requires-2 (elements-of t) (elements-at t) elements.Post
+elements-each-requires-2 t c κs = (omega (arith, c .before .before .before .before .before .before .before .before .before .before .pre .0), tt)
 
-elements-each-requires-4 : (t : ℕ) → elements-lts.Need-each-requires-4 (elements-of t) (elements-at t) elements.Post
-elements-each-requires-4 t c κs = (omega (arith, c .before .before .before .before .before .pre .0), tt)
+elements-each-requires-3 : (t : ℕ) → elements-lts.Need-each-requires-3 (elements-of t) (elements-at t) elements.Post
+elements-each-requires-3 t c κs = (omega (arith, c .before .before .before .before .before .pre .0), tt)
 
 elements-same-length-4 : (t : ℕ) → elements-lts.Need-same-length-4 (elements-of t) (elements-at t) elements.Post
-elements-same-length-4 t c = c .before .before .each .kept .1 .1 .1 .1 .0
+elements-same-length-4 t c = c .before .before .flat-elements .kept .1 .1 .0
 
 elements-returns-4 : (t : ℕ) → elements-lts.Need-returns-4 (elements-of t) (elements-at t) elements.Post
+unfolding shapeOf
 elements-returns-4 t c =
     let a = c .before .before .before .before .before .before .before .before .before .before .before .args in
-    let each = c .before .before .each in
+    let flat-elements = c .before .before .flat-elements in
     let e1 = c .before .before .before .before .before .before .e in
     let k = sinkOf (a .m) in
     let x = sourceOf (a .m) (a .v .now) in
     let u = checked (a .t .now) (kindsMet (a .met)) in
     let s = stateOf (a .c) (a .table .now) in
-    each .ensures ∙ ap (λ (p : Parameters). elementsAt k x (reads k x u (a .left)) (shapeOf (a .t .now) (kindsMet (a .met)) p) (a .count) s) (sym (e1 .given .1))
+    flat-elements .ensures u
+    ∙ ap (λ (p : Parameters). elementsAt k x (reads k x u (a .left)) (shapeOf (a .t .now) (kindsMet (a .met)) p) (a .count) s) (sym (e1 .given .1))
 
 elements-same-length-5 : (t : ℕ) → elements-lts.Need-same-length-5 (elements-of t) (elements-at t) elements.Post
-elements-same-length-5 t c = c .before .before .each3 .kept .1 .1 .1 .1 .0
+elements-same-length-5 t c = c .before .before .each2 .kept .1 .1 .1 .1 .0
 
 elements-returns-5 : (t : ℕ) → elements-lts.Need-returns-5 (elements-of t) (elements-at t) elements.Post
 elements-returns-5 t c =
     let a = c .before .before .before .before .before .before .before .before .before .before .before .before .before .args in
-    let each3 = c .before .before .each3 in
+    let each2 = c .before .before .each2 in
     let e2 = c .before .before .before .before .before .before .before .before .e2 in
     let k = sinkOf (a .m) in
     let x = sourceOf (a .m) (a .v .now) in
     let u = checked (a .t .now) (kindsMet (a .met)) in
     let s = stateOf (a .c) (a .table .now) in
-    each3 .ensures ∙ ap (λ (p : Parameters). elementsAt k x (reads k x u (a .left)) (shapeOf (a .t .now) (kindsMet (a .met)) p) (a .count) s) (sym (e2 .given .1))
+    each2 .ensures ∙ ap (λ (p : Parameters). elementsAt k x (reads k x u (a .left)) (shapeOf (a .t .now) (kindsMet (a .met)) p) (a .count) s) (sym (e2 .given .1))
 
 elements-same-length-6 : (t : ℕ) → elements-lts.Need-same-length-6 (elements-of t) (elements-at t) elements.Post
-elements-same-length-6 t c = c .before .before .each4 .kept .1 .1 .1 .1 .0
+elements-same-length-6 t c = c .before .before .each3 .kept .1 .1 .1 .1 .0
 
 elements-returns-6 : (t : ℕ) → elements-lts.Need-returns-6 (elements-of t) (elements-at t) elements.Post
-elements-returns-6 t c = c .before .before .each4 .ensures
+elements-returns-6 t c = c .before .before .each3 .ensures
 
 abbrev exception-of : ℕ → exception-lts.Claims
 exception-of t = (text-reads.Asked, text-reads.Learnt, struct-members-below t, struct-members.Post)
@@ -1061,17 +1066,17 @@ pub +each+elements+exception+sequence+struct-members+union-member+visit-spec :
     (elements-leaf-elements-requires t)
     (elements-same-length t)
     (elements-returns t)
-    (elements-each-requires t)
+    (elements-flat-elements-requires t)
     (elements-enum-known-e-2 t)
-    (elements-each-requires-2 t)
+    (elements-each-requires t)
     (elements-same-length-2 t)
     (elements-returns-2 t)
     (elements-plan-of-requires t)
     (elements-structs-requires t)
     (elements-same-length-3 t)
     (elements-returns-3 t)
+    (elements-each-requires-2 t)
     (elements-each-requires-3 t)
-    (elements-each-requires-4 t)
     (elements-same-length-4 t)
     (elements-returns-4 t)
     (elements-same-length-5 t)
