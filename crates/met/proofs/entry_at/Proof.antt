@@ -16,7 +16,9 @@ held-in-requires : tie.Need-held-in-requires
 held-in-requires c κs = search needs
 
 returns : tie.Need-returns
-returns c = sym (kind-past (c .before .before .args .met) (c .before .before .args .j) (omega (arith, c .if1 .taken, c .before .held-in .ensures)))
+returns c =
+    let a = c .before .before .args in
+    sym (kind-past (a .met) (a .j) (omega (arith, c .if1 .taken, c .before .held-in .ensures)))
 
 entry-requires : tie.Need-entry-requires
 entry-requires c κs = search needs
@@ -28,7 +30,11 @@ order-entry-requires : tie.Need-order-entry-requires
 order-entry-requires c κs = search needs
 
 returns-2 : tie.Need-returns-2
-returns-2 c = rw (kind-entry (c .before .before .before .before .before .before .before .before .args .met) (c .before .before .before .before .before .before .before .before .args .j) (omega (arith, c .before .before .before .before .before .before .if1 .left, c .before .before .before .before .before .before .before .held-in .ensures)), c .before .before .entry .ensures, c .before .entry2 .ensures, c .order-entry .ensures)
+returns-2 c =
+    let a = c .before .before .before .before .before .before .before .before .args in
+    let if1 = c .before .before .before .before .before .before .if1 in
+    let held-in = c .before .before .before .before .before .before .before .held-in in
+    rw (kind-entry (a .met) (a .j) (omega (arith, if1 .left, held-in .ensures)), c .before .before .entry .ensures, c .before .entry2 .ensures, c .order-entry .ensures)
 
 pub entry-at-spec : {M : Type 1} → statement M
 entry-at-spec =

@@ -64,14 +64,19 @@ parameters-at-requires c κs = search needs
 returns : tie.Need-returns Inv-loop μ-loop
 unfolding foundAt parametersOf
 returns c =
-    let a = c .before .before .before .before .before .before .before .before .before .before .before .args in
-    let loop = c .before .before .before .before .before .before .before .before .loop in
-    let here = left-here (findIn (a .t2 .places) (a .place .0)) (c .before .before .before .before .before .before .before .before .before .held-in .result) 0 (loop .inv) (c .before .before .before .before .before .before .before .loop-test .taken) (loop .i) (found-here (a .t2 .places) (a .place .0) (loop .i) (c .before .before .before .before .if1 .taken)) in
-    let is : loop .i ≡ _ = here ∙ ap (λ (n : ℕ). findIn (a .t2 .places) (a .place .0) n 0) (c .before .before .before .before .before .before .before .before .before .held-in .ensures) ∙ find-is (a .t2) (a .place) in
-    let low : loop .i < heldIn (a .t2) = omega (arith, c .before .before .before .before .before .before .before .loop-test .taken, c .before .before .before .before .before .before .before .before .before .held-in .ensures) in
+    let a2 = c .before .before .before .before .before .before .before .before .before .before .before .args in
+    let loop2 = c .before .before .before .before .before .before .before .before .loop in
+    let held-in = c .before .before .before .before .before .before .before .before .before .held-in in
+    let loop-test = c .before .before .before .before .before .before .before .loop-test in
+    let if1 = c .before .before .before .before .if1 in
+    let a = a2 in
+    let loop = loop2 in
+    let here = left-here (findIn (a .t2 .places) (a .place .0)) (held-in .result) 0 (loop .inv) (loop-test .taken) (loop .i) (found-here (a .t2 .places) (a .place .0) (loop .i) (if1 .taken)) in
+    let is : loop .i ≡ _ = here ∙ ap (λ (n : ℕ). findIn (a .t2 .places) (a .place .0) n 0) (held-in .ensures) ∙ find-is (a .t2) (a .place) in
+    let low : loop .i < heldIn (a .t2) = omega (arith, loop-test .taken, held-in .ensures) in
     c .parameters-at .ensures
     ∙ ap (λ (o : Order). parametersAt (a .v .now) (writtenAt (a .place) (placeOf (getD (a .t2 .starts) (loop .i) 0)) o)) (c .before .order-in .ensures)
-    ∙ ap (λ (p : ℕ). parametersAt (a .v .now) (writtenAt (placeOf p) (placeOf (getD (a .t2 .starts) (loop .i) 0)) (orderIn (getD (a .t2 .orders) (loop .i) 0)))) (sym (c .before .before .before .before .if1 .taken))
+    ∙ ap (λ (p : ℕ). parametersAt (a .v .now) (writtenAt (placeOf p) (placeOf (getD (a .t2 .starts) (loop .i) 0)) (orderIn (getD (a .t2 .orders) (loop .i) 0)))) (sym (if1 .taken))
     ∙ ap (parametersAt (a .v .now)) (sym (kind-entry (a .t2) (loop .i) low))
     ∙ ap (atPosition (a .v .now) (kindsMet (a .t2))) (sym (position-is (kindsMet (a .t2)) (a .place) (loop .i) (sym is) (omega (arith, low, length-kinds (a .t2)))))
 
@@ -83,19 +88,24 @@ loop-less c = omega arith
 
 loop-again : tie.Need-loop-again Inv-loop μ-loop
 loop-again c =
-    let a = c .before .before .before .before .before .before .before .args in
-    let loop = c .before .before .before .before .loop in
-    left-more (findIn (a .t2 .places) (a .place .0)) (c .before .before .before .before .before .held-in .result) 0 (loop .inv) (c .before .before .before .loop-test .taken) _ (found-on (a .t2 .places) (a .place .0) (loop .i) (c .if1 .left))
+    let a2 = c .before .before .before .before .before .before .before .args in
+    let loop2 = c .before .before .before .before .loop in
+    let held-in = c .before .before .before .before .before .held-in in
+    let a = a2 in
+    let loop = loop2 in
+    left-more (findIn (a .t2 .places) (a .place .0)) (held-in .result) 0 (loop .inv) (c .before .before .before .loop-test .taken) _ (found-on (a .t2 .places) (a .place .0) (loop .i) (c .if1 .left))
 
 returns-2 : tie.Need-returns-2 Inv-loop μ-loop
 unfolding foundAt findIn
 returns-2 c =
-    let a = c .before .before .before .before .args in
+    let a2 = c .before .before .before .before .args in
+    let held-in = c .before .before .held-in in
+    let a = a2 in
     let loop = c .before .loop in
-    let is = left-end (findIn (a .t2 .places) (a .place .0)) (c .before .before .held-in .result) 0 (loop .inv) (c .loop-test .left) ∙ ap (λ (n : ℕ). findIn (a .t2 .places) (a .place .0) n 0) (c .before .before .held-in .ensures) ∙ find-is (a .t2) (a .place) in
+    let is = left-end (findIn (a .t2 .places) (a .place .0)) (held-in .result) 0 (loop .inv) (c .loop-test .left) ∙ ap (λ (n : ℕ). findIn (a .t2 .places) (a .place .0) n 0) (held-in .ensures) ∙ find-is (a .t2) (a .place) in
     let few = loop .inv .few in
     ap (atPosition (a .v .now) (kindsMet (a .t2)))
-    (sym (position-none (kindsMet (a .t2)) (a .place) (sym is ∙ omega (arith, few, c .loop-test .left, c .before .before .held-in .ensures, length-kinds (a .t2)))))
+    (sym (position-none (kindsMet (a .t2)) (a .place) (sym is ∙ omega (arith, few, c .loop-test .left, held-in .ensures, length-kinds (a .t2)))))
 
 pub found-at-spec : {M : Type 1} → statement M
 found-at-spec =

@@ -32,12 +32,16 @@ entry-requires c κs = search needs
 
 returns : tie.Need-returns Inv-loop μ-loop
 returns c =
-    let a = c .before .before .before .before .before .before .before .args in
-    let loop = c .before .before .before .before .loop in
-    let here = left-here (findIn (a .self .places) (a .place .0)) (c .before .before .before .before .before .held-in .result) 0 (loop .inv) (c .before .before .before .loop-test .taken) (loop .i)
+    let a2 = c .before .before .before .before .before .before .before .args in
+    let loop2 = c .before .before .before .before .loop in
+    let held-in = c .before .before .before .before .before .held-in in
+    let loop-test = c .before .before .before .loop-test in
+    let a = a2 in
+    let loop = loop2 in
+    let here = left-here (findIn (a .self .places) (a .place .0)) (held-in .result) 0 (loop .inv) (loop-test .taken) (loop .i)
     (found-here (a .self .places) (a .place .0) (loop .i) (sym (c .before .before .entry .ensures) ∙ c .if1 .taken)) in
-    let is : loop .i ≡ _ = here ∙ ap (λ (n : ℕ). findIn (a .self .places) (a .place .0) n 0) (c .before .before .before .before .before .held-in .ensures) ∙ find-is (a .self) (a .place) in
-    sym (position-is (kindsMet (a .self)) (a .place) (loop .i) (sym is) (omega (arith, c .before .before .before .loop-test .taken, c .before .before .before .before .before .held-in .ensures, length-kinds (a .self))))
+    let is : loop .i ≡ _ = here ∙ ap (λ (n : ℕ). findIn (a .self .places) (a .place .0) n 0) (held-in .ensures) ∙ find-is (a .self) (a .place) in
+    sym (position-is (kindsMet (a .self)) (a .place) (loop .i) (sym is) (omega (arith, loop-test .taken, held-in .ensures, length-kinds (a .self))))
 
 add-i : tie.Need-add-i Inv-loop μ-loop
 add-i c = search needs
@@ -47,18 +51,23 @@ loop-less c = omega arith
 
 loop-again : tie.Need-loop-again Inv-loop μ-loop
 loop-again c =
-    let a = c .before .before .before .before .before .before .before .args in
-    let loop = c .before .before .before .before .loop in
-    left-more (findIn (a .self .places) (a .place .0)) (c .before .before .before .before .before .held-in .result) 0 (loop .inv) (c .before .before .before .loop-test .taken) _ (found-on (a .self .places) (a .place .0) (loop .i) (λ e. c .if1 .left (c .before .before .entry .ensures ∙ e)))
+    let a2 = c .before .before .before .before .before .before .before .args in
+    let loop2 = c .before .before .before .before .loop in
+    let held-in = c .before .before .before .before .before .held-in in
+    let a = a2 in
+    let loop = loop2 in
+    left-more (findIn (a .self .places) (a .place .0)) (held-in .result) 0 (loop .inv) (c .before .before .before .loop-test .taken) _ (found-on (a .self .places) (a .place .0) (loop .i) (λ e. c .if1 .left (c .before .before .entry .ensures ∙ e)))
 
 returns-2 : tie.Need-returns-2 Inv-loop μ-loop
 unfolding findIn
 returns-2 c =
-    let a = c .before .before .before .before .args in
+    let a2 = c .before .before .before .before .args in
+    let held-in = c .before .before .held-in in
+    let a = a2 in
     let loop = c .before .loop in
-    let is = left-end (findIn (a .self .places) (a .place .0)) (c .before .before .held-in .result) 0 (loop .inv) (c .loop-test .left) ∙ ap (λ (n : ℕ). findIn (a .self .places) (a .place .0) n 0) (c .before .before .held-in .ensures) ∙ find-is (a .self) (a .place) in
+    let is = left-end (findIn (a .self .places) (a .place .0)) (held-in .result) 0 (loop .inv) (c .loop-test .left) ∙ ap (λ (n : ℕ). findIn (a .self .places) (a .place .0) n 0) (held-in .ensures) ∙ find-is (a .self) (a .place) in
     let few = loop .inv .few in
-    sym (position-none (kindsMet (a .self)) (a .place) (sym is ∙ omega (arith, few, c .loop-test .left, c .before .before .held-in .ensures, length-kinds (a .self))))
+    sym (position-none (kindsMet (a .self)) (a .place) (sym is ∙ omega (arith, few, c .loop-test .left, held-in .ensures, length-kinds (a .self))))
 
 pub position-spec : {M : Type 1} → statement M
 position-spec =

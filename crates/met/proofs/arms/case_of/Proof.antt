@@ -37,18 +37,24 @@ enum-told c = search needs
 
 returns : tie.Need-returns Inv-loop μ-loop
 returns c =
-    let a = c .before .before .before .before .before .before .before .before .args in
-    left-here (seeks (a .labels) (a .v .now) (a .fields .start) (a .fields .order) (a .default) (a .label)) (a .fields .count) (0, a .fields .first) (c .before .before .before .before .loop .inv) (c .before .before .before .loop-test .taken) _
-    (case-cut (a .labels) (a .v .now) (a .fields .start) (a .fields .order) (a .default) (a .label) (c .before .before .before .before .loop .k) (c .before .before .before .before .loop .at) (sym (c .before .before .member-at .ensures) ∙ c .enum-told .given .1))
+    let a2 = c .before .before .before .before .before .before .before .before .args in
+    let loop = c .before .before .before .before .loop in
+    let a = a2 in
+    left-here (seeks (a .labels) (a .v .now) (a .fields .start) (a .fields .order) (a .default) (a .label)) (a .fields .count) (0, a .fields .first) (loop .inv) (c .before .before .before .loop-test .taken) _
+    (case-cut (a .labels) (a .v .now) (a .fields .start) (a .fields .order) (a .default) (a .label) (loop .k) (loop .at) (sym (c .before .before .member-at .ensures) ∙ c .enum-told .given .1))
 
 has-label-requires : tie.Need-has-label-requires Inv-loop μ-loop
 has-label-requires c κs = search needs
 
 returns-2 : tie.Need-returns-2 Inv-loop μ-loop
 returns-2 c =
-    let a = c .before .before .before .before .before .before .before .before .before .before .before .args in
-    left-here (seeks (a .labels) (a .v .now) (a .fields .start) (a .fields .order) (a .default) (a .label)) (a .fields .count) (0, a .fields .first) (c .before .before .before .before .before .before .before .loop .inv) (c .before .before .before .before .before .before .loop-test .taken) _
-    (case-hit (a .labels) (a .v .now) (a .fields .start) (a .fields .order) (a .default) (a .label) (c .before .before .before .before .before .before .before .loop .k) (c .before .before .before .before .before .before .before .loop .at) _ _ (sym (c .before .before .before .before .before .member-at .ensures) ∙ c .before .before .before .inner .given .1) (sym (c .before .has-label .ensures) ∙ c .if1 .taken))
+    let a2 = c .before .before .before .before .before .before .before .before .before .before .before .args in
+    let loop = c .before .before .before .before .before .before .before .loop in
+    let loop-test = c .before .before .before .before .before .before .loop-test in
+    let member-at = c .before .before .before .before .before .member-at in
+    let a = a2 in
+    left-here (seeks (a .labels) (a .v .now) (a .fields .start) (a .fields .order) (a .default) (a .label)) (a .fields .count) (0, a .fields .first) (loop .inv) (loop-test .taken) _
+    (case-hit (a .labels) (a .v .now) (a .fields .start) (a .fields .order) (a .default) (a .label) (loop .k) (loop .at) _ _ (sym (member-at .ensures) ∙ c .before .before .before .inner .given .1) (sym (c .before .has-label .ensures) ∙ c .if1 .taken))
 
 add-k : tie.Need-add-k Inv-loop μ-loop
 add-k c = search needs
@@ -58,14 +64,19 @@ loop-less c = omega arith
 
 loop-again : tie.Need-loop-again Inv-loop μ-loop
 loop-again c =
-    let a = c .before .before .before .before .before .before .before .before .before .before .before .args in
-    left-more (seeks (a .labels) (a .v .now) (a .fields .start) (a .fields .order) (a .default) (a .label)) (a .fields .count) (0, a .fields .first) (c .before .before .before .before .before .before .before .loop .inv) (c .before .before .before .before .before .before .loop-test .taken) _
-    (case-miss (a .labels) (a .v .now) (a .fields .start) (a .fields .order) (a .default) (a .label) (c .before .before .before .before .before .before .before .loop .k) (c .before .before .before .before .before .before .before .loop .at) _ _ (sym (c .before .before .before .before .before .member-at .ensures) ∙ c .before .before .before .inner .given .1) (sym (c .before .has-label .ensures) ∙ c .if1 .left))
+    let a2 = c .before .before .before .before .before .before .before .before .before .before .before .args in
+    let loop = c .before .before .before .before .before .before .before .loop in
+    let loop-test = c .before .before .before .before .before .before .loop-test in
+    let member-at = c .before .before .before .before .before .member-at in
+    let a = a2 in
+    left-more (seeks (a .labels) (a .v .now) (a .fields .start) (a .fields .order) (a .default) (a .label)) (a .fields .count) (0, a .fields .first) (loop .inv) (loop-test .taken) _
+    (case-miss (a .labels) (a .v .now) (a .fields .start) (a .fields .order) (a .default) (a .label) (loop .k) (loop .at) _ _ (sym (member-at .ensures) ∙ c .before .before .before .inner .given .1) (sym (c .before .has-label .ensures) ∙ c .if1 .left))
 
 returns-3 : tie.Need-returns-3 Inv-loop μ-loop
 unfolding caseFrom membersFrom
 returns-3 c =
-    let a = c .before .before .before .before .before .args in
+    let a2 = c .before .before .before .before .before .args in
+    let a = a2 in
     left-end (seeks (a .labels) (a .v .now) (a .fields .start) (a .fields .order) (a .default) (a .label)) (a .fields .count) (0, a .fields .first) (c .before .loop .inv) (c .loop-test .left)
 
 pub case-of-spec : {M : Type 1} → statement M

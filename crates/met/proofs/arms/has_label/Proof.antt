@@ -18,7 +18,9 @@ label-at-requires : tie.Need-label-at-requires
 label-at-requires c κs = search needs
 
 returns : tie.Need-returns
-returns c = ap (λ (x : ℕ). eqb x (c .before .before .before .before .args .label)) (c .label-at .ensures)
+returns c =
+    let a = c .before .before .before .before .args in
+    ap (λ (x : ℕ). eqb x (a .label)) (c .label-at .ensures)
 
 returns-2 : tie.Need-returns-2
 returns-2 c = search needs

@@ -37,16 +37,22 @@ enum-told c = search needs
 
 returns : tie.Need-returns Inv-loop μ-loop
 returns c =
-    let a = c .before .before .before .before .before .before .before .before .args in
-    left-here (counted (a .labels) (a .v .now) (a .fields .start) (a .fields .order) (a .number)) (a .fields .count) (0, a .fields .first) (c .before .before .before .before .loop .inv .1) (c .before .before .before .loop-test .taken) _
-    (number-cut (a .labels) (a .v .now) (a .fields .start) (a .fields .order) (a .number) (c .before .before .before .before .loop .k) (c .before .before .before .before .loop .at) (sym (c .before .before .member-at .ensures) ∙ c .enum-told .given .1))
+    let a2 = c .before .before .before .before .before .before .before .before .args in
+    let loop = c .before .before .before .before .loop in
+    let a = a2 in
+    left-here (counted (a .labels) (a .v .now) (a .fields .start) (a .fields .order) (a .number)) (a .fields .count) (0, a .fields .first) (loop .inv .1) (c .before .before .before .loop-test .taken) _
+    (number-cut (a .labels) (a .v .now) (a .fields .start) (a .fields .order) (a .number) (loop .k) (loop .at) (sym (c .before .before .member-at .ensures) ∙ c .enum-told .given .1))
     ∙ ap (memberNo (membersOf (a .labels) (a .v .now) (a .fields))) (sub-zero (a .number))
 
 returns-2 : tie.Need-returns-2 Inv-loop μ-loop
 returns-2 c =
-    let a = c .before .before .before .before .before .before .before .before .before .before .args in
-    left-here (counted (a .labels) (a .v .now) (a .fields .start) (a .fields .order) (a .number)) (a .fields .count) (0, a .fields .first) (c .before .before .before .before .before .before .loop .inv .1) (c .before .before .before .before .before .loop-test .taken) _
-    (number-hit (a .labels) (a .v .now) (a .fields .start) (a .fields .order) (a .number) (c .before .before .before .before .before .before .loop .k) (c .before .before .before .before .before .before .loop .at) _ _ (sym (c .before .before .before .before .member-at .ensures) ∙ c .before .before .inner .given .1) (c .if1 .taken))
+    let a2 = c .before .before .before .before .before .before .before .before .before .before .args in
+    let loop = c .before .before .before .before .before .before .loop in
+    let loop-test = c .before .before .before .before .before .loop-test in
+    let member-at = c .before .before .before .before .member-at in
+    let a = a2 in
+    left-here (counted (a .labels) (a .v .now) (a .fields .start) (a .fields .order) (a .number)) (a .fields .count) (0, a .fields .first) (loop .inv .1) (loop-test .taken) _
+    (number-hit (a .labels) (a .v .now) (a .fields .start) (a .fields .order) (a .number) (loop .k) (loop .at) _ _ (sym (member-at .ensures) ∙ c .before .before .inner .given .1) (c .if1 .taken))
     ∙ ap (memberNo (membersOf (a .labels) (a .v .now) (a .fields))) (sub-zero (a .number))
 
 add-k : tie.Need-add-k Inv-loop μ-loop
@@ -57,16 +63,21 @@ loop-less c = omega arith
 
 loop-again : tie.Need-loop-again Inv-loop μ-loop
 loop-again c =
-    let a = c .before .before .before .before .before .before .before .before .before .before .args in (
-      omega (arith, c .before .before .before .before .before .before .loop .inv .0, c .if1 .left),
-      left-more (counted (a .labels) (a .v .now) (a .fields .start) (a .fields .order) (a .number)) (a .fields .count) (0, a .fields .first) (c .before .before .before .before .before .before .loop .inv .1) (c .before .before .before .before .before .loop-test .taken) _
-          (number-more (a .labels) (a .v .now) (a .fields .start) (a .fields .order) (a .number) (c .before .before .before .before .before .before .loop .k) (c .before .before .before .before .before .before .loop .at) _ _ (sym (c .before .before .before .before .member-at .ensures) ∙ c .before .before .inner .given .1) (c .before .before .before .before .before .before .loop .inv .0) (c .if1 .left)),
+    let a2 = c .before .before .before .before .before .before .before .before .before .before .args in
+    let loop = c .before .before .before .before .before .before .loop in
+    let loop-test = c .before .before .before .before .before .loop-test in
+    let member-at = c .before .before .before .before .member-at in
+    let a = a2 in (
+      omega (arith, loop .inv .0, c .if1 .left),
+      left-more (counted (a .labels) (a .v .now) (a .fields .start) (a .fields .order) (a .number)) (a .fields .count) (0, a .fields .first) (loop .inv .1) (loop-test .taken) _
+          (number-more (a .labels) (a .v .now) (a .fields .start) (a .fields .order) (a .number) (loop .k) (loop .at) _ _ (sym (member-at .ensures) ∙ c .before .before .inner .given .1) (loop .inv .0) (c .if1 .left)),
     )
 
 returns-3 : tie.Need-returns-3 Inv-loop μ-loop
 unfolding memberNo membersFrom
 returns-3 c =
-    let a = c .before .before .before .before .before .args in
+    let a2 = c .before .before .before .before .before .args in
+    let a = a2 in
     left-end (counted (a .labels) (a .v .now) (a .fields .start) (a .fields .order) (a .number)) (a .fields .count) (0, a .fields .first) (c .before .loop .inv .1) (c .loop-test .left)
     ∙ ap (memberNo (membersOf (a .labels) (a .v .now) (a .fields))) (sub-zero (a .number))
 

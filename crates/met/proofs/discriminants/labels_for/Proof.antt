@@ -31,8 +31,10 @@ enum-told c = search needs
 returns : tie.Need-returns Inv-loop μ-loop
 unfolding labelsFor
 returns c =
-    let a = c .before .before .before .before .before .before .args in
-    let loop = c .before .before .before .before .loop in
+    let a2 = c .before .before .before .before .before .before .args in
+    let loop2 = c .before .before .before .before .loop in
+    let a = a2 in
+    let loop = loop2 in
     labels-nowhere (a .v .now) (kindsMet (a .met)) (loop .at) (loop .left) (sym (c .before .before .position .ensures) ∙ c .enum-told .given .1) ∙ loop .inv .1
 
 parameters-of-requires : tie.Need-parameters-of-requires Inv-loop μ-loop
@@ -53,12 +55,18 @@ enum-known-labels c = search needs
 returns-2 : tie.Need-returns-2 Inv-loop μ-loop
 unfolding labelsFor
 returns-2 c =
-    let a = c .before .before .before .before .before .before .before .before .before .before .before .before .args in
-    let loop = c .before .before .before .before .before .before .before .before .before .before .loop in
-    let loop-test = c .before .before .before .before .before .before .before .before .before .loop-test in
-    let position = c .before .before .before .before .before .before .before .before .position in
-    let j = c .before .before .before .before .before .before .j in
-    let parameters-of = c .before .before .before .before .parameters-of in
+    let a2 = c .before .before .before .before .before .before .before .before .before .before .before .before .args in
+    let loop2 = c .before .before .before .before .before .before .before .before .before .before .loop in
+    let loop-test2 = c .before .before .before .before .before .before .before .before .before .loop-test in
+    let position2 = c .before .before .before .before .before .before .before .before .position in
+    let j2 = c .before .before .before .before .before .before .j in
+    let parameters-of2 = c .before .before .before .before .parameters-of in
+    let a = a2 in
+    let loop = loop2 in
+    let loop-test = loop-test2 in
+    let position = position2 in
+    let j = j2 in
+    let parameters-of = parameters-of2 in
     labels-said (a .v .now) (kindsMet (a .met)) (loop .at) (loop .left) _ (loop-test .taken) (sym (position .ensures) ∙ j .given .1) _ (sym (ap discriminantOf (parameters-of .ensures)) ∙ sym (c .before .before .before .discriminant-of .ensures) ∙ c .before .labels .given .1) ∙ loop .inv .1
 
 sub-left : tie.Need-sub-left Inv-loop μ-loop
@@ -69,10 +77,17 @@ loop-less c = search needs
 
 loop-again : tie.Need-loop-again Inv-loop μ-loop
 loop-again c =
-    let a = c .before .before .before .before .before .before .before .before .before .before .before .before .before .args in
-    let loop = c .before .before .before .before .before .before .before .before .before .before .before .loop in
-    let leads = sym (ap discriminantOf (c .before .before .before .before .before .parameters-of .ensures)) ∙ sym (c .before .before .before .before .discriminant-of .ensures) ∙ c .before .before .next .given .1 in
-    (omega arith, rw (c .place-in .ensures) (labels-through (a .v .now) (kindsMet (a .met)) (loop .at) (loop .left) _ (c .before .before .before .before .before .before .before .before .before .before .loop-test .taken) (sym (c .before .before .before .before .before .before .before .before .before .position .ensures) ∙ c .before .before .before .before .before .before .before .j .given .1) _ leads ∙ loop .inv .1))
+    let a2 = c .before .before .before .before .before .before .before .before .before .before .before .before .before .args in
+    let loop2 = c .before .before .before .before .before .before .before .before .before .before .before .loop in
+    let parameters-of = c .before .before .before .before .before .parameters-of in
+    let discriminant-of = c .before .before .before .before .discriminant-of in
+    let loop-test = c .before .before .before .before .before .before .before .before .before .before .loop-test in
+    let position = c .before .before .before .before .before .before .before .before .before .position in
+    let j = c .before .before .before .before .before .before .before .j in
+    let a = a2 in
+    let loop = loop2 in
+    let leads = sym (ap discriminantOf (parameters-of .ensures)) ∙ sym (discriminant-of .ensures) ∙ c .before .before .next .given .1 in
+    (omega arith, rw (c .place-in .ensures) (labels-through (a .v .now) (kindsMet (a .met)) (loop .at) (loop .left) _ (loop-test .taken) (sym (position .ensures) ∙ j .given .1) _ leads ∙ loop .inv .1))
 
 returns-3 : tie.Need-returns-3 Inv-loop μ-loop
 unfolding labelsFor

@@ -32,7 +32,8 @@ sized-requires-4 c κs = search needs
 returns-4 : tie.Need-returns-4
 unfolding leafLabels
 returns-4 c =
-    let if1 = c .before .before .before .before .if1 in
+    let if1-2 = c .before .before .before .before .if1 in
+    let if1 = if1-2 in
     rw (ne-eqb _ _ (if1 .left), ne-eqb _ _ (c .before .before .before .if2 .left), ne-eqb _ _ (c .before .before .if3 .left), eq-eqb _ _ (c .before .if4 .taken)) (c .sized4 .ensures)
 
 sized-requires-5 : tie.Need-sized-requires-5
@@ -41,8 +42,10 @@ sized-requires-5 c κs = search needs
 returns-5 : tie.Need-returns-5
 unfolding leafLabels
 returns-5 c =
-    let if1 = c .before .before .before .before .before .if1 in
-    let if2 = c .before .before .before .before .if2 in
+    let if1-2 = c .before .before .before .before .before .if1 in
+    let if2-2 = c .before .before .before .before .if2 in
+    let if1 = if1-2 in
+    let if2 = if2-2 in
     rw (ne-eqb _ _ (if1 .left), ne-eqb _ _ (if2 .left), ne-eqb _ _ (c .before .before .before .if3 .left), ne-eqb _ _ (c .before .before .if4 .left), eq-eqb _ _ (c .before .if5 .taken)) (c .sized5 .ensures)
 
 sized-requires-6 : tie.Need-sized-requires-6
@@ -51,9 +54,12 @@ sized-requires-6 c κs = search needs
 returns-6 : tie.Need-returns-6
 unfolding leafLabels
 returns-6 c =
-    let if1 = c .before .before .before .before .before .before .if1 in
-    let if2 = c .before .before .before .before .before .if2 in
-    let if3 = c .before .before .before .before .if3 in
+    let if1-2 = c .before .before .before .before .before .before .if1 in
+    let if2-2 = c .before .before .before .before .before .if2 in
+    let if3-2 = c .before .before .before .before .if3 in
+    let if1 = if1-2 in
+    let if2 = if2-2 in
+    let if3 = if3-2 in
     rw (ne-eqb _ _ (if1 .left), ne-eqb _ _ (if2 .left), ne-eqb _ _ (if3 .left), ne-eqb _ _ (c .before .before .before .if4 .left), ne-eqb _ _ (c .before .before .if5 .left), eq-eqb _ _ (c .before .if6 .taken)) (c .sized6 .ensures)
 
 sized-requires-7 : tie.Need-sized-requires-7
@@ -62,10 +68,14 @@ sized-requires-7 c κs = search needs
 returns-7 : tie.Need-returns-7
 unfolding leafLabels
 returns-7 c =
-    let if1 = c .before .before .before .before .before .before .before .if1 in
-    let if2 = c .before .before .before .before .before .before .if2 in
-    let if3 = c .before .before .before .before .before .if3 in
-    let if4 = c .before .before .before .before .if4 in
+    let if1-2 = c .before .before .before .before .before .before .before .if1 in
+    let if2-2 = c .before .before .before .before .before .before .if2 in
+    let if3-2 = c .before .before .before .before .before .if3 in
+    let if4-2 = c .before .before .before .before .if4 in
+    let if1 = if1-2 in
+    let if2 = if2-2 in
+    let if3 = if3-2 in
+    let if4 = if4-2 in
     rw (ne-eqb _ _ (if1 .left), ne-eqb _ _ (if2 .left), ne-eqb _ _ (if3 .left), ne-eqb _ _ (if4 .left), ne-eqb _ _ (c .before .before .before .if5 .left), ne-eqb _ _ (c .before .before .if6 .left), eq-eqb _ _ (c .before .if7 .taken)) (c .sized7 .ensures)
 
 sized-requires-8 : tie.Need-sized-requires-8
@@ -74,20 +84,29 @@ sized-requires-8 c κs = search needs
 returns-8 : tie.Need-returns-8
 unfolding leafLabels
 returns-8 c =
-    let if1 = c .before .before .before .before .before .before .before .before .if1 in
-    let if2 = c .before .before .before .before .before .before .before .if2 in
-    let if3 = c .before .before .before .before .before .before .if3 in
-    let if4 = c .before .before .before .before .before .if4 in
-    let if5 = c .before .before .before .before .if5 in
+    let if1-2 = c .before .before .before .before .before .before .before .before .if1 in
+    let if2-2 = c .before .before .before .before .before .before .before .if2 in
+    let if3-2 = c .before .before .before .before .before .before .if3 in
+    let if4-2 = c .before .before .before .before .before .if4 in
+    let if5-2 = c .before .before .before .before .if5 in
+    let if1 = if1-2 in
+    let if2 = if2-2 in
+    let if3 = if3-2 in
+    let if4 = if4-2 in
+    let if5 = if5-2 in
     rw (ne-eqb _ _ (if1 .left), ne-eqb _ _ (if2 .left), ne-eqb _ _ (if3 .left), ne-eqb _ _ (if4 .left), ne-eqb _ _ (if5 .left), ne-eqb _ _ (c .before .before .before .if6 .left), ne-eqb _ _ (c .before .before .if7 .left), eq-eqb _ _ (c .before .if8 .taken)) (c .sized8 .ensures)
 
 returns-9 : tie.Need-returns-9
 unfolding leafLabels
 returns-9 c =
-    let if1 = c .before .before .before .before .before .before .before .if1 in
-    let if2 = c .before .before .before .before .before .before .if2 in
-    let if3 = c .before .before .before .before .before .if3 in
-    let if4 = c .before .before .before .before .if4 in
+    let if1-2 = c .before .before .before .before .before .before .before .if1 in
+    let if2-2 = c .before .before .before .before .before .before .if2 in
+    let if3-2 = c .before .before .before .before .before .if3 in
+    let if4-2 = c .before .before .before .before .if4 in
+    let if1 = if1-2 in
+    let if2 = if2-2 in
+    let if3 = if3-2 in
+    let if4 = if4-2 in
     rw (ne-eqb _ _ (if1 .left), ne-eqb _ _ (if2 .left), ne-eqb _ _ (if3 .left), ne-eqb _ _ (if4 .left), ne-eqb _ _ (c .before .before .before .if5 .left), ne-eqb _ _ (c .before .before .if6 .left), ne-eqb _ _ (c .before .if7 .left), ne-eqb _ _ (c .if8 .left))
 
 pub leaf-labels-spec : {M : Type 1} → statement M
