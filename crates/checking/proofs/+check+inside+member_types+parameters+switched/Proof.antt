@@ -126,7 +126,8 @@ check-refused-requires t c κs = search needs
 
 check-returns : (t : ℕ) → check-lts.Need-returns (check-of t) (check-at t) check.Post
 check-returns t c =
-    let a = c .before .before .before .before .before .before .args in
+    let a2 = c .before .before .before .before .before .before .args in
+    let a = a2 in
     c .refused .ensures ∙ type-ends (a .v .now) (a .left) (a .s .now) (a .start) (a .order) (a .at) (seen (a .walk)) (sym (c .before .before .before .read-field .ensures) ∙ c .before .enum-told .given .1)
 
 check-indirection-requires : (t : ℕ) → check-lts.Need-indirection-requires (check-of t) (check-at t) check.Post
@@ -134,8 +135,10 @@ check-indirection-requires t c κs = search needs
 
 check-returns-2 : (t : ℕ) → check-lts.Need-returns-2 (check-of t) (check-at t) check.Post
 check-returns-2 t c =
-    let a = c .before .before .before .before .before .before .before .before .args in
-    let read-field = c .before .before .before .before .before .read-field in
+    let a2 = c .before .before .before .before .before .before .before .before .args in
+    let read-field2 = c .before .before .before .before .before .read-field in
+    let a = a2 in
+    let read-field = read-field2 in
     c .indirection .ensures ∙ type-indirection (a .v .now) (a .left) (a .s .now) (a .start) (a .order) (a .at) (seen (a .walk)) _ _ (sym (read-field .ensures) ∙ c .before .before .before .kind .given .1) (c .before .if1 .taken)
 
 check-form-of-requires : (t : ℕ) → check-lts.Need-form-of-requires (check-of t) (check-at t) check.Post
@@ -158,56 +161,89 @@ check-enum-told-2 t c = search needs
 
 check-behind-requires : (t : ℕ) → check-lts.Need-behind-requires (check-of t) (check-at t) check.Post
 check-behind-requires t c κs =
-    let a = c .before .before .before .before .before .before .before .before .before .before .before .before .args in
-    let f = field-facts (a .s .now) (a .at) Four (a .order) _ _ (sym (c .before .before .before .before .before .before .before .before .before .read-field .ensures) ∙ c .before .before .before .before .before .before .before .kind .given .1) in
-    (omega (arith, f .ends), omega (arith, f .fits, f .ends, c .before .before .before .before .before .before .before .before .before .before .before .before .pre .1))
+    let a2 = c .before .before .before .before .before .before .before .before .before .before .before .before .args in
+    let read-field = c .before .before .before .before .before .before .before .before .before .read-field in
+    let kind = c .before .before .before .before .before .before .before .kind in
+    let pre = c .before .before .before .before .before .before .before .before .before .before .before .before .pre in
+    let a = a2 in
+    let f = field-facts (a .s .now) (a .at) Four (a .order) _ _ (sym (read-field .ensures) ∙ kind .given .1) in
+    (omega (arith, f .ends), omega (arith, f .fits, f .ends, pre .1))
 
 check-enter-requires : (t : ℕ) → check-lts.Need-enter-requires (check-of t) (check-at t) check.Post
 check-enter-requires t c κs =
-    let a = c .before .before .before .before .before .before .before .before .before .before .before .before .before .args in
-    let e = entry-facts (c .before .before .before .before .before .form-of .result) _ (a .left) (c .before .before .before .before .count .result) (sym (c .before .before .before .entry-of .ensures) ∙ c .before .enum-told2 .given .1) in
-    let f = field-facts (a .s .now) (a .at) Four (a .order) _ _ (sym (c .before .before .before .before .before .before .before .before .before .before .read-field .ensures) ∙ c .before .before .before .before .before .before .before .before .kind .given .1) in
+    let a2 = c .before .before .before .before .before .before .before .before .before .before .before .before .before .args in
+    let form-of = c .before .before .before .before .before .form-of in
+    let count = c .before .before .before .before .count in
+    let read-field = c .before .before .before .before .before .before .before .before .before .before .read-field in
+    let kind = c .before .before .before .before .before .before .before .before .kind in
+    let pre = c .before .before .before .before .before .before .before .before .before .before .before .before .before .pre in
+    let a = a2 in
+    let e = entry-facts (form-of .result) _ (a .left) (count .result) (sym (c .before .before .before .entry-of .ensures) ∙ c .before .enum-told2 .given .1) in
+    let f = field-facts (a .s .now) (a .at) Four (a .order) _ _ (sym (read-field .ensures) ∙ kind .given .1) in
     let place = ap (λ (p : Place). p .0) (c .behind .ensures) in
-    (omega (arith, e .room, c .before .before .before .before .count .ensures), omega (arith, place, f .fits, f .ends, c .before .before .before .before .before .before .before .before .before .before .before .before .before .pre .1), omega (arith, f .fits, f .ends, c .before .before .before .before .before .before .before .before .before .before .before .before .before .pre .1))
+    (omega (arith, e .room, count .ensures), omega (arith, place, f .fits, f .ends, pre .1), omega (arith, f .fits, f .ends, pre .1))
 
 check-sub-inside : (t : ℕ) → check-lts.Need-sub-inside (check-of t) (check-at t) check.Post
 check-sub-inside t c =
-    let form-of = c .before .before .before .before .before .before .form-of in
-    let a = c .before .before .before .before .before .before .before .before .before .before .before .before .before .before .args in
-    let count = c .before .before .before .before .before .count in
-    let entry-of = c .before .before .before .before .entry-of in
+    let form-of2 = c .before .before .before .before .before .before .form-of in
+    let a2 = c .before .before .before .before .before .before .before .before .before .before .before .before .before .before .args in
+    let count2 = c .before .before .before .before .before .count in
+    let entry-of2 = c .before .before .before .before .entry-of in
+    let form-of = form-of2 in
+    let a = a2 in
+    let count = count2 in
+    let entry-of = entry-of2 in
     omega (arith, entry-facts (form-of .result) _ (a .left) (count .result) (sym (entry-of .ensures) ∙ c .before .before .enum-told2 .given .1) .some)
 
 check-inside-requires : (t : ℕ) → check-lts.Need-inside-requires (check-of t) (check-at t) check.Post
 check-inside-requires t c κs =
-    let form-of = c .before .before .before .before .before .before .form-of in
-    let a = c .before .before .before .before .before .before .before .before .before .before .before .before .before .before .args in
-    let count = c .before .before .before .before .before .count in
-    let entry-of = c .before .before .before .before .entry-of in
+    let form-of2 = c .before .before .before .before .before .before .form-of in
+    let a2 = c .before .before .before .before .before .before .before .before .before .before .before .before .before .before .args in
+    let count2 = c .before .before .before .before .before .count in
+    let entry-of2 = c .before .before .before .before .entry-of in
+    let pre2 = c .before .before .before .before .before .before .before .before .before .before .before .before .before .before .pre in
+    let form-of = form-of2 in
+    let a = a2 in
+    let count = count2 in
+    let entry-of = entry-of2 in
     let enum-told2 = c .before .before .enum-told2 in
-    let pre = c .before .before .before .before .before .before .before .before .before .before .before .before .before .before .pre in
+    let pre = pre2 in
     (omega (arith, entry-facts (form-of .result) _ (a .left) (count .result) (sym (entry-of .ensures) ∙ enum-told2 .given .1) .some, pre .0), (omega (arith, pre .1), omega (arith, entry-facts (form-of .result) _ (a .left) (count .result) (sym (entry-of .ensures) ∙ enum-told2 .given .1) .room)))
 
 check-returns-3 : (t : ℕ) → check-lts.Need-returns-3 (check-of t) (check-at t) check.Post
 check-returns-3 t c =
-    let a = c .before .before .before .before .before .before .before .before .before .before .before .before .before .before .args in
-    let read-field = c .before .before .before .before .before .before .before .before .before .before .before .read-field in
-    let kind = c .before .before .before .before .before .before .before .before .before .kind in
-    let if1 = c .before .before .before .before .before .before .before .if1 in
-    let form-of = c .before .before .before .before .before .before .form-of in
-    let count = c .before .before .before .before .before .count in
-    let entry-of = c .before .before .before .before .entry-of in
+    let a2 = c .before .before .before .before .before .before .before .before .before .before .before .before .before .before .args in
+    let read-field2 = c .before .before .before .before .before .before .before .before .before .before .before .read-field in
+    let kind2 = c .before .before .before .before .before .before .before .before .before .kind in
+    let if1-2 = c .before .before .before .before .before .before .before .if1 in
+    let form-of2 = c .before .before .before .before .before .before .form-of in
+    let count2 = c .before .before .before .before .before .count in
+    let entry-of2 = c .before .before .before .before .entry-of in
+    let a = a2 in
+    let read-field = read-field2 in
+    let kind = kind2 in
+    let if1 = if1-2 in
+    let form-of = form-of2 in
+    let count = count2 in
+    let entry-of = entry-of2 in
     c .refused2 .ensures ∙ type-barred (a .v .now) (a .left) (a .s .now) (a .start) (a .order) (a .at) (seen (a .walk)) _ _ (sym (read-field .ensures) ∙ kind .given .1) (if1 .left) (form-of .result) (form-of .ensures) (count .result) (count .ensures) _ (sym (entry-of .ensures) ∙ c .before .before .refusal .given .1)
 
 check-returns-4 : (t : ℕ) → check-lts.Need-returns-4 (check-of t) (check-at t) check.Post
 check-returns-4 t c =
-    let a = c .before .before .before .before .before .before .before .before .before .before .before .before .before .before .before .args in
-    let read-field = c .before .before .before .before .before .before .before .before .before .before .before .before .read-field in
-    let kind = c .before .before .before .before .before .before .before .before .before .before .kind in
-    let if1 = c .before .before .before .before .before .before .before .before .if1 in
-    let form-of = c .before .before .before .before .before .before .before .form-of in
-    let count = c .before .before .before .before .before .before .count in
-    let entry-of = c .before .before .before .before .before .entry-of in
+    let a2 = c .before .before .before .before .before .before .before .before .before .before .before .before .before .before .before .args in
+    let read-field2 = c .before .before .before .before .before .before .before .before .before .before .before .before .read-field in
+    let kind2 = c .before .before .before .before .before .before .before .before .before .before .kind in
+    let if1-2 = c .before .before .before .before .before .before .before .before .if1 in
+    let form-of2 = c .before .before .before .before .before .before .before .form-of in
+    let count2 = c .before .before .before .before .before .before .count in
+    let entry-of2 = c .before .before .before .before .before .entry-of in
+    let a = a2 in
+    let read-field = read-field2 in
+    let kind = kind2 in
+    let if1 = if1-2 in
+    let form-of = form-of2 in
+    let count = count2 in
+    let entry-of = entry-of2 in
     let enum-told2 = c .before .before .before .enum-told2 in
     let enter = c .before .enter in
     c .inside .ensures ∙ type-enters (a .v .now) (a .left) (a .s .now) (a .start) (a .order) (a .at) (seen (a .walk)) _ _ (sym (read-field .ensures) ∙ kind .given .1) (if1 .left) (form-of .result) (form-of .ensures) (count .result) (count .ensures) (sym (entry-of .ensures) ∙ enum-told2 .given .1) (seen (enter .result))
@@ -254,43 +290,58 @@ inside-enum-known-from t c = search needs
 
 inside-add-parameters : (t : ℕ) → inside-lts.Need-add-parameters (inside-of t) (inside-at t) inside.Post
 inside-add-parameters t c =
-    let pre = c .before .before .before .before .before .before .before .before .before .before .pre in
-    let a = c .before .before .before .before .before .before .before .before .before .before .args in
-    let part-at = c .before .before .before .before .part-at in
+    let pre2 = c .before .before .before .before .before .before .before .before .before .before .pre in
+    let a2 = c .before .before .before .before .before .before .before .before .before .before .args in
+    let part-at2 = c .before .before .before .before .part-at in
+    let pre = pre2 in
+    let a = a2 in
+    let part-at = part-at2 in
     let from2 = c .before .before .from in
     omega (arith, pre .1 .0, part-facts (a .s .now) (a .at) (a .order) _ _ _ (sym (part-at .ensures) ∙ from2 .given .1) .ends, part-facts (a .s .now) (a .at) (a .order) _ _ _ (sym (part-at .ensures) ∙ from2 .given .1) .some)
 
 inside-sub-parameters : (t : ℕ) → inside-lts.Need-sub-parameters (inside-of t) (inside-at t) inside.Post
 inside-sub-parameters t c =
-    let a = c .before .before .before .before .before .before .before .before .before .before .args in
-    let part-at = c .before .before .before .before .part-at in
+    let a2 = c .before .before .before .before .before .before .before .before .before .before .args in
+    let part-at2 = c .before .before .before .before .part-at in
+    let a = a2 in
+    let part-at = part-at2 in
     omega (arith, part-facts (a .s .now) (a .at) (a .order) _ _ _ (sym (part-at .ensures) ∙ c .before .before .from .given .1) .some)
 
 inside-part-parameters-start : (t : ℕ) → inside-lts.Need-part-parameters-start (inside-of t) (inside-at t) inside.Post
 inside-part-parameters-start t c =
-    let a = c .before .before .before .before .before .before .before .before .before .before .args in
-    let part-at = c .before .before .before .before .part-at in
+    let a2 = c .before .before .before .before .before .before .before .before .before .before .args in
+    let part-at2 = c .before .before .before .before .part-at in
+    let a = a2 in
+    let part-at = part-at2 in
     omega (arith, part-facts (a .s .now) (a .at) (a .order) _ _ _ (sym (part-at .ensures) ∙ c .before .before .from .given .1) .some)
 
 inside-part-parameters-end : (t : ℕ) → inside-lts.Need-part-parameters-end (inside-of t) (inside-at t) inside.Post
 inside-part-parameters-end t c =
-    let a = c .before .before .before .before .before .before .before .before .before .before .args in
-    let part-at = c .before .before .before .before .part-at in
+    let a2 = c .before .before .before .before .before .before .before .before .before .before .args in
+    let part-at2 = c .before .before .before .before .part-at in
+    let a = a2 in
+    let part-at = part-at2 in
     omega (arith, part-facts (a .s .now) (a .at) (a .order) _ _ _ (sym (part-at .ensures) ∙ c .before .before .from .given .1) .ends)
 
 inside-parameters-requires : (t : ℕ) → inside-lts.Need-parameters-requires (inside-of t) (inside-at t) inside.Post
 inside-parameters-requires t c κs =
-    let pre = c .before .before .before .before .before .before .before .before .before .before .before .pre in
-    let a = c .before .before .before .before .before .before .before .before .before .before .before .args in
-    let part-at = c .before .before .before .before .before .part-at in
+    let pre2 = c .before .before .before .before .before .before .before .before .before .before .before .pre in
+    let a2 = c .before .before .before .before .before .before .before .before .before .before .before .args in
+    let part-at2 = c .before .before .before .before .before .part-at in
+    let pre = pre2 in
+    let a = a2 in
+    let part-at = part-at2 in
     let from2 = c .before .before .before .from in
     (omega (arith, pre .0), omega (arith, pre .1 .0, c .parameters-arg .given, part-facts (a .s .now) (a .at) (a .order) _ _ _ (sym (part-at .ensures) ∙ from2 .given .1) .ends, part-facts (a .s .now) (a .at) (a .order) _ _ _ (sym (part-at .ensures) ∙ from2 .given .1) .some))
 
 inside-sub-ended : (t : ℕ) → inside-lts.Need-sub-ended (inside-of t) (inside-at t) inside.Post
 inside-sub-ended t c =
-    let a = c .before .before .before .before .before .before .before .before .before .before .before .before .args in
-    let part-at = c .before .before .before .before .before .before .part-at in
-    let from2 = c .before .before .before .before .from in
+    let a2 = c .before .before .before .before .before .before .before .before .before .before .before .before .args in
+    let part-at2 = c .before .before .before .before .before .before .part-at in
+    let from3 = c .before .before .before .before .from in
+    let a = a2 in
+    let part-at = part-at2 in
+    let from2 = from3 in
     omega (arith, part-facts (a .s .now) (a .at) (a .order) _ _ _ (sym (part-at .ensures) ∙ from2 .given .1) .some)
 
 inside-ended-requires : (t : ℕ) → inside-lts.Need-ended-requires (inside-of t) (inside-at t) inside.Post
@@ -308,16 +359,21 @@ inside-returns-3 t c = rw (c .before .enum-told3 .given .1) (c .bounded .ensures
 inside-returns-4 : (t : ℕ) → inside-lts.Need-returns-4 (inside-of t) (inside-at t) inside.Post
 unfolding compositeAt
 inside-returns-4 t c =
-    let form = c .before .before .before .before .before .before .form in
-    let part-at = c .before .before .before .before .part-at in
+    let form2 = c .before .before .before .before .before .before .form in
+    let part-at2 = c .before .before .before .before .part-at in
+    let form = form2 in
+    let part-at = part-at2 in
     rw (form .given .1, sym (part-at .ensures) ∙ c .before .before .refusal .given .1) (c .refused2 .ensures)
 
 inside-returns-5 : (t : ℕ) → inside-lts.Need-returns-5 (inside-of t) (inside-at t) inside.Post
 unfolding compositeAt
 inside-returns-5 t c =
-    let form = c .before .before .before .before .before .before .before .before .before .form in
-    let part-at = c .before .before .before .before .before .before .before .part-at in
-    let from2 = c .before .before .before .before .before .from in
+    let form2 = c .before .before .before .before .before .before .before .before .before .form in
+    let part-at2 = c .before .before .before .before .before .before .before .part-at in
+    let from3 = c .before .before .before .before .before .from in
+    let form = form2 in
+    let part-at = part-at2 in
+    let from2 = from3 in
     rw (form .given .1, sym (part-at .ensures) ∙ from2 .given .1, ← c .before .parameters .ensures) (c .ended .ensures)
 
 abbrev member-types-of : ℕ → member-types-lts.Claims
@@ -346,10 +402,14 @@ member-types-refused-requires t c κs = search needs
 
 member-types-returns : (t : ℕ) → member-types-lts.Need-returns (member-types-of t) (member-types-at t) member-types.Post member-types-Inv-loop member-types-μ-loop
 member-types-returns t c =
-    let a = c .before .before .before .before .before .before .before .before .before .args in
-    let loop = c .before .before .before .before .before .before .loop in
-    c .refused .ensures ∙ left-here (membersFor (a .v .now) (typeAt (a .v .now) (a .left)) (a .labels) (a .default) (a .s .now) (a .start) (a .order) (a .first)) (a .count) (0, a .first, seen (a .walk)) (loop .inv) (c .before .before .before .before .before .loop-test .taken) _
-    (members-refused (a .v .now) (typeAt (a .v .now) (a .left)) (a .labels) (a .default) (a .s .now) (a .start) (a .order) (a .first) (loop .k) (loop .at) (seen (loop .w)) _ (sym (c .before .before .before .before .name-after .ensures) ∙ c .before .before .name .given .1))
+    let a2 = c .before .before .before .before .before .before .before .before .before .args in
+    let loop2 = c .before .before .before .before .before .before .loop in
+    let loop-test = c .before .before .before .before .before .loop-test in
+    let name-after = c .before .before .before .before .name-after in
+    let a = a2 in
+    let loop = loop2 in
+    c .refused .ensures ∙ left-here (membersFor (a .v .now) (typeAt (a .v .now) (a .left)) (a .labels) (a .default) (a .s .now) (a .start) (a .order) (a .first)) (a .count) (0, a .first, seen (a .walk)) (loop .inv) (loop-test .taken) _
+    (members-refused (a .v .now) (typeAt (a .v .now) (a .left)) (a .labels) (a .default) (a .s .now) (a .start) (a .order) (a .first) (loop .k) (loop .at) (seen (loop .w)) _ (sym (name-after .ensures) ∙ c .before .before .name .given .1))
 
 member-types-enum-known-name-2 : (t : ℕ) → member-types-lts.Need-enum-known-name-2 (member-types-of t) (member-types-at t) member-types.Post member-types-Inv-loop member-types-μ-loop
 member-types-enum-known-name-2 t c = search needs
@@ -365,10 +425,16 @@ member-types-refused-requires-2 t c κs = search needs
 
 member-types-returns-2 : (t : ℕ) → member-types-lts.Need-returns-2 (member-types-of t) (member-types-at t) member-types.Post member-types-Inv-loop member-types-μ-loop
 member-types-returns-2 t c =
-    let a = c .before .before .before .before .before .before .before .before .before .before .before .before .before .before .args in
-    let loop = c .before .before .before .before .before .before .before .before .before .before .before .loop in
-    c .refused2 .ensures ∙ left-here (membersFor (a .v .now) (typeAt (a .v .now) (a .left)) (a .labels) (a .default) (a .s .now) (a .start) (a .order) (a .first)) (a .count) (0, a .first, seen (a .walk)) (loop .inv) (c .before .before .before .before .before .before .before .before .before .before .loop-test .taken) _
-    (members-cut (a .v .now) (typeAt (a .v .now) (a .left)) (a .labels) (a .default) (a .s .now) (a .start) (a .order) (a .first) (loop .k) (loop .at) (seen (loop .w)) _ (sym (c .before .before .before .before .before .before .before .before .before .name-after .ensures) ∙ c .before .before .before .before .before .before .before .name2 .given .1) (seenAs (c .before .before .before .before .before .check .result)) (c .before .before .before .before .before .check .ensures) _ (c .before .before .step .given .1))
+    let a2 = c .before .before .before .before .before .before .before .before .before .before .before .before .before .before .args in
+    let loop2 = c .before .before .before .before .before .before .before .before .before .before .before .loop in
+    let loop-test = c .before .before .before .before .before .before .before .before .before .before .loop-test in
+    let name-after = c .before .before .before .before .before .before .before .before .before .name-after in
+    let name2 = c .before .before .before .before .before .before .before .name2 in
+    let check = c .before .before .before .before .before .check in
+    let a = a2 in
+    let loop = loop2 in
+    c .refused2 .ensures ∙ left-here (membersFor (a .v .now) (typeAt (a .v .now) (a .left)) (a .labels) (a .default) (a .s .now) (a .start) (a .order) (a .first)) (a .count) (0, a .first, seen (a .walk)) (loop .inv) (loop-test .taken) _
+    (members-cut (a .v .now) (typeAt (a .v .now) (a .left)) (a .labels) (a .default) (a .s .now) (a .start) (a .order) (a .first) (loop .k) (loop .at) (seen (loop .w)) _ (sym (name-after .ensures) ∙ name2 .given .1) (seenAs (check .result)) (check .ensures) _ (c .before .before .step .given .1))
 
 member-types-enum-known-step-2 : (t : ℕ) → member-types-lts.Need-enum-known-step-2 (member-types-of t) (member-types-at t) member-types.Post member-types-Inv-loop member-types-μ-loop
 member-types-enum-known-step-2 t c = search needs
@@ -381,10 +447,16 @@ member-types-loop-less t c = search needs
 
 member-types-loop-again : (t : ℕ) → member-types-lts.Need-loop-again (member-types-of t) (member-types-at t) member-types.Post member-types-Inv-loop member-types-μ-loop
 member-types-loop-again t c =
-    let a = c .before .before .before .before .before .before .before .before .before .before .before .before .before .args in
-    let loop = c .before .before .before .before .before .before .before .before .before .before .loop in
-    left-more (membersFor (a .v .now) (typeAt (a .v .now) (a .left)) (a .labels) (a .default) (a .s .now) (a .start) (a .order) (a .first)) (a .count) (0, a .first, seen (a .walk)) (loop .inv) (c .before .before .before .before .before .before .before .before .before .loop-test .taken) _
-    (members-on (a .v .now) (typeAt (a .v .now) (a .left)) (a .labels) (a .default) (a .s .now) (a .start) (a .order) (a .first) (loop .k) (loop .at) (seen (loop .w)) _ (sym (c .before .before .before .before .before .before .before .before .name-after .ensures) ∙ c .before .before .before .before .before .before .name2 .given .1) (seenAs (c .before .before .before .before .check .result)) (c .before .before .before .before .check .ensures) _ (c .before .step2 .given .1))
+    let a2 = c .before .before .before .before .before .before .before .before .before .before .before .before .before .args in
+    let loop2 = c .before .before .before .before .before .before .before .before .before .before .loop in
+    let loop-test = c .before .before .before .before .before .before .before .before .before .loop-test in
+    let name-after = c .before .before .before .before .before .before .before .before .name-after in
+    let name2 = c .before .before .before .before .before .before .name2 in
+    let check = c .before .before .before .before .check in
+    let a = a2 in
+    let loop = loop2 in
+    left-more (membersFor (a .v .now) (typeAt (a .v .now) (a .left)) (a .labels) (a .default) (a .s .now) (a .start) (a .order) (a .first)) (a .count) (0, a .first, seen (a .walk)) (loop .inv) (loop-test .taken) _
+    (members-on (a .v .now) (typeAt (a .v .now) (a .left)) (a .labels) (a .default) (a .s .now) (a .start) (a .order) (a .first) (loop .k) (loop .at) (seen (loop .w)) _ (sym (name-after .ensures) ∙ name2 .given .1) (seenAs (check .result)) (check .ensures) _ (c .before .step2 .given .1))
 
 member-types-goes-on-requires : (t : ℕ) → member-types-lts.Need-goes-on-requires (member-types-of t) (member-types-at t) member-types.Post member-types-Inv-loop member-types-μ-loop
 member-types-goes-on-requires t c κs = search needs
@@ -392,7 +464,8 @@ member-types-goes-on-requires t c κs = search needs
 member-types-returns-3 : (t : ℕ) → member-types-lts.Need-returns-3 (member-types-of t) (member-types-at t) member-types.Post member-types-Inv-loop member-types-μ-loop
 unfolding membersAt
 member-types-returns-3 t c =
-    let a = c .before .before .before .before .before .args in
+    let a2 = c .before .before .before .before .before .args in
+    let a = a2 in
     let loop = c .before .before .loop in
     c .goes-on .ensures ∙ left-end (membersFor (a .v .now) (typeAt (a .v .now) (a .left)) (a .labels) (a .default) (a .s .now) (a .start) (a .order) (a .first)) (a .count) (0, a .first, seen (a .walk)) (loop .inv) (c .before .loop-test .left)
 
@@ -515,26 +588,34 @@ parameters-returns-2 t c = rw (c .before .before .enum-told2 .given .1, ← c .b
 
 parameters-returns-3 : (t : ℕ) → parameters-lts.Need-returns-3 (parameters-of t) (parameters-at t) parameters.Post
 parameters-returns-3 t c =
-    let enum-told3 = c .before .before .before .before .before .enum-told3 in
-    let head-step = c .before .before .before .before .head-step in
+    let enum-told3-2 = c .before .before .before .before .before .enum-told3 in
+    let head-step2 = c .before .before .before .before .head-step in
+    let enum-told3 = enum-told3-2 in
+    let head-step = head-step2 in
     rw (enum-told3 .given .1, sym (head-step .ensures) ∙ c .before .before .refusal .given .1) (c .refused .ensures)
 
 parameters-returns-4 : (t : ℕ) → parameters-lts.Need-returns-4 (parameters-of t) (parameters-at t) parameters.Post
 parameters-returns-4 t c =
-    let enum-told3 = c .before .before .before .before .before .enum-told3 in
-    let head-step = c .before .before .before .before .head-step in
+    let enum-told3-2 = c .before .before .before .before .before .enum-told3 in
+    let head-step2 = c .before .before .before .before .head-step in
+    let enum-told3 = enum-told3-2 in
+    let head-step = head-step2 in
     rw (enum-told3 .given .1, sym (head-step .ensures) ∙ c .before .before .count .given .1) (c .member-types .ensures)
 
 parameters-returns-5 : (t : ℕ) → parameters-lts.Need-returns-5 (parameters-of t) (parameters-at t) parameters.Post
 parameters-returns-5 t c =
-    let enum-told4 = c .before .before .before .before .before .enum-told4 in
-    let exception-step = c .before .before .before .before .exception-step in
+    let enum-told4-2 = c .before .before .before .before .before .enum-told4 in
+    let exception-step2 = c .before .before .before .before .exception-step in
+    let enum-told4 = enum-told4-2 in
+    let exception-step = exception-step2 in
     rw (enum-told4 .given .1, sym (exception-step .ensures) ∙ c .before .before .refusal2 .given .1) (c .refused2 .ensures)
 
 parameters-returns-6 : (t : ℕ) → parameters-lts.Need-returns-6 (parameters-of t) (parameters-at t) parameters.Post
 parameters-returns-6 t c =
-    let enum-told4 = c .before .before .before .before .before .enum-told4 in
-    let exception-step = c .before .before .before .before .exception-step in
+    let enum-told4-2 = c .before .before .before .before .before .enum-told4 in
+    let exception-step2 = c .before .before .before .before .exception-step in
+    let enum-told4 = enum-told4-2 in
+    let exception-step = exception-step2 in
     rw (enum-told4 .given .1, sym (exception-step .ensures) ∙ c .before .before .count2 .given .1) (c .member-types2 .ensures)
 
 parameters-returns-7 : (t : ℕ) → parameters-lts.Need-returns-7 (parameters-of t) (parameters-at t) parameters.Post
@@ -545,26 +626,34 @@ parameters-returns-8 t c = rw (c .before .before .enum-told6 .given .1, ← c .b
 
 parameters-returns-9 : (t : ℕ) → parameters-lts.Need-returns-9 (parameters-of t) (parameters-at t) parameters.Post
 parameters-returns-9 t c =
-    let enum-told7 = c .before .before .before .before .before .enum-told7 in
-    let names-step2 = c .before .before .before .before .names-step2 in
+    let enum-told7-2 = c .before .before .before .before .before .enum-told7 in
+    let names-step2-2 = c .before .before .before .before .names-step2 in
+    let enum-told7 = enum-told7-2 in
+    let names-step2 = names-step2-2 in
     rw (enum-told7 .given .1, sym (names-step2 .ensures) ∙ c .before .before .refusal3 .given .1) (c .refused3 .ensures)
 
 parameters-returns-10 : (t : ℕ) → parameters-lts.Need-returns-10 (parameters-of t) (parameters-at t) parameters.Post
 parameters-returns-10 t c =
-    let enum-told7 = c .before .before .before .before .before .enum-told7 in
-    let names-step2 = c .before .before .before .before .names-step2 in
+    let enum-told7-2 = c .before .before .before .before .before .enum-told7 in
+    let names-step2-2 = c .before .before .before .before .names-step2 in
+    let enum-told7 = enum-told7-2 in
+    let names-step2 = names-step2-2 in
     rw (enum-told7 .given .1, sym (names-step2 .ensures) ∙ c .before .before .i .given .1) (c .check3 .ensures)
 
 parameters-returns-11 : (t : ℕ) → parameters-lts.Need-returns-11 (parameters-of t) (parameters-at t) parameters.Post
 parameters-returns-11 t c =
-    let enum-told8 = c .before .before .before .before .before .enum-told8 in
-    let names-step3 = c .before .before .before .before .names-step3 in
+    let enum-told8-2 = c .before .before .before .before .before .enum-told8 in
+    let names-step3-2 = c .before .before .before .before .names-step3 in
+    let enum-told8 = enum-told8-2 in
+    let names-step3 = names-step3-2 in
     rw (enum-told8 .given .1, sym (names-step3 .ensures) ∙ c .before .before .refusal4 .given .1) (c .refused4 .ensures)
 
 parameters-returns-12 : (t : ℕ) → parameters-lts.Need-returns-12 (parameters-of t) (parameters-at t) parameters.Post
 parameters-returns-12 t c =
-    let enum-told8 = c .before .before .before .before .before .enum-told8 in
-    let names-step3 = c .before .before .before .before .names-step3 in
+    let enum-told8-2 = c .before .before .before .before .before .enum-told8 in
+    let names-step3-2 = c .before .before .before .before .names-step3 in
+    let enum-told8 = enum-told8-2 in
+    let names-step3 = names-step3-2 in
     rw (enum-told8 .given .1, sym (names-step3 .ensures) ∙ c .before .before .i2 .given .1) (c .switched .ensures)
 
 abbrev switched-of : ℕ → switched-lts.Claims
@@ -602,26 +691,38 @@ switched-member-types-requires t c κs = search needs
 
 switched-returns : (t : ℕ) → switched-lts.Need-returns (switched-of t) (switched-at t) switched.Post
 switched-returns t c =
-    let a = c .before .before .before .before .before .before .before .before .before .args in
-    let check = c .before .before .before .before .before .before .check in
+    let a2 = c .before .before .before .before .before .before .before .before .before .args in
+    let check2 = c .before .before .before .before .before .before .check in
+    let a = a2 in
+    let check = check2 in
     c .refused .ensures ∙ switched-refused (a .v .now) (typeAt (a .v .now) (a .left)) (a .s .now) (a .start) (a .order) (a .at) (seen (a .walk)) (seenAs (check .result)) (check .ensures) _ (c .before .before .step .given .1)
 
 switched-returns-2 : (t : ℕ) → switched-lts.Need-returns-2 (switched-of t) (switched-at t) switched.Post
 switched-returns-2 t c =
-    let a = c .before .before .before .before .before .before .before .before .before .before .before .before .before .before .args in
-    let check = c .before .before .before .before .before .before .before .before .before .before .before .check in
-    let step2 = c .before .before .before .before .before .before .before .step2 in
-    let labels-at = c .before .before .before .before .before .labels-at in
-    let switch-head = c .before .before .before .before .switch-head in
+    let a2 = c .before .before .before .before .before .before .before .before .before .before .before .before .before .before .args in
+    let check2 = c .before .before .before .before .before .before .before .before .before .before .before .check in
+    let step2-2 = c .before .before .before .before .before .before .before .step2 in
+    let labels-at2 = c .before .before .before .before .before .labels-at in
+    let switch-head2 = c .before .before .before .before .switch-head in
+    let a = a2 in
+    let check = check2 in
+    let step2 = step2-2 in
+    let labels-at = labels-at2 in
+    let switch-head = switch-head2 in
     c .refused2 .ensures ∙ switched-wrong (a .v .now) (typeAt (a .v .now) (a .left)) (a .s .now) (a .start) (a .order) (a .at) (seen (a .walk)) (seenAs (check .result)) (check .ensures) _ (step2 .given .1) (labels-at .result) (labels-at .ensures) _ (sym (switch-head .ensures) ∙ c .before .before .refusal .given .1)
 
 switched-returns-3 : (t : ℕ) → switched-lts.Need-returns-3 (switched-of t) (switched-at t) switched.Post
 switched-returns-3 t c =
-    let a = c .before .before .before .before .before .before .before .before .before .before .before .before .before .before .args in
-    let check = c .before .before .before .before .before .before .before .before .before .before .before .check in
-    let step2 = c .before .before .before .before .before .before .before .step2 in
-    let labels-at = c .before .before .before .before .before .labels-at in
-    let switch-head = c .before .before .before .before .switch-head in
+    let a2 = c .before .before .before .before .before .before .before .before .before .before .before .before .before .before .args in
+    let check2 = c .before .before .before .before .before .before .before .before .before .before .before .check in
+    let step2-2 = c .before .before .before .before .before .before .before .step2 in
+    let labels-at2 = c .before .before .before .before .before .labels-at in
+    let switch-head2 = c .before .before .before .before .switch-head in
+    let a = a2 in
+    let check = check2 in
+    let step2 = step2-2 in
+    let labels-at = labels-at2 in
+    let switch-head = switch-head2 in
     c .member-types .ensures ∙ switched-on (a .v .now) (typeAt (a .v .now) (a .left)) (a .s .now) (a .start) (a .order) (a .at) (seen (a .walk)) (seenAs (check .result)) (check .ensures) _ (step2 .given .1) (labels-at .result) (labels-at .ensures) _ _ _ (sym (switch-head .ensures) ∙ c .before .before .default .given .1)
 
 pub +check+inside+member-types+parameters+switched-spec : {M : Type 1} → statement M

@@ -26,9 +26,11 @@ returns c = rw (sym (c .before .before .before .read-field .ensures) ∙ c .befo
 
 behind-requires : tie.Need-behind-requires
 behind-requires c κs =
-    let a = c .before .before .before .before .before .args in
+    let a2 = c .before .before .before .before .before .args in
+    let pre = c .before .before .before .before .before .pre in
+    let a = a2 in
     let f = field-facts (a .s .now) (a .at) Four (a .order) _ _ (sym (c .before .before .before .read-field .ensures) ∙ c .before .offset .given .1) in
-    (omega (arith, f .ends), omega (arith, f .fits, f .ends, c .before .before .before .before .before .pre))
+    (omega (arith, f .ends), omega (arith, f .fits, f .ends, pre))
 
 target-of-requires : tie.Need-target-of-requires
 target-of-requires c κs = search needs
@@ -48,17 +50,24 @@ refused-requires-2 c κs = search needs
 returns-2 : tie.Need-returns-2
 unfolding indirectionAt
 returns-2 c =
-    let read-field = c .before .before .before .before .before .before .before .before .before .read-field in
-    let offset = c .before .before .before .before .before .before .before .offset in
-    let target-of = c .before .before .before .before .target-of in
-    rw (sym (read-field .ensures) ∙ offset .given .1, ← c .before .before .before .before .before .behind .ensures, sym (target-of .ensures) ∙ c .before .before .place .given .1) (c .target-step .ensures)
+    let read-field2 = c .before .before .before .before .before .before .before .before .before .read-field in
+    let offset2 = c .before .before .before .before .before .before .before .offset in
+    let target-of2 = c .before .before .before .before .target-of in
+    let behind = c .before .before .before .before .before .behind in
+    let read-field = read-field2 in
+    let offset = offset2 in
+    let target-of = target-of2 in
+    rw (sym (read-field .ensures) ∙ offset .given .1, ← behind .ensures, sym (target-of .ensures) ∙ c .before .before .place .given .1) (c .target-step .ensures)
 
 returns-3 : tie.Need-returns-3
 unfolding indirectionAt
 returns-3 c =
-    let read-field = c .before .before .before .before .before .before .before .before .read-field in
-    let offset = c .before .before .before .before .before .before .offset in
-    rw (sym (read-field .ensures) ∙ offset .given .1, ← c .before .before .before .before .behind .ensures, sym (c .before .before .before .target-of .ensures) ∙ c .before .enum-told2 .given .1) (c .refused2 .ensures)
+    let read-field2 = c .before .before .before .before .before .before .before .before .read-field in
+    let offset2 = c .before .before .before .before .before .before .offset in
+    let behind = c .before .before .before .before .behind in
+    let read-field = read-field2 in
+    let offset = offset2 in
+    rw (sym (read-field .ensures) ∙ offset .given .1, ← behind .ensures, sym (c .before .before .before .target-of .ensures) ∙ c .before .enum-told2 .given .1) (c .refused2 .ensures)
 
 pub indirection-spec : {M : Type 1} → statement M
 indirection-spec =

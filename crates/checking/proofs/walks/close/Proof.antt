@@ -9,7 +9,9 @@ array-write-barred : tie.Need-array-write-barred
 array-write-barred c = search needs
 
 returns : tie.Need-returns
-returns c = seen-closed (c .before .before .args .walk) _ (c .before .before .args .here) refl refl
+returns c =
+    let a = c .before .before .args in
+    seen-closed (a .walk) _ (a .here) refl refl
 
 pub close-spec : {M : Type 1} → statement M
 close-spec = tie.close (tie.spec array-write-barred returns)

@@ -23,7 +23,9 @@ is-barred-requires : tie.Need-is-barred-requires
 is-barred-requires c κs = search needs
 
 array-write-barred : tie.Need-array-write-barred
-array-write-barred c = omega (arith, c .before .held .ensures, c .before .before .before .before .pre .0)
+array-write-barred c =
+    let pre = c .before .before .before .before .pre in
+    omega (arith, c .before .held .ensures, pre .0)
 
 add-requires : tie.Need-add-requires
 add-requires c κs = search needs

@@ -24,7 +24,8 @@ refused-requires c κs = search needs
 returns : tie.Need-returns
 unfolding targetStep
 returns c =
-    let a = c .before .before .before .before .before .before .args in
+    let a2 = c .before .before .before .before .before .before .args in
+    let a = a2 in
     rw (position-nowhere (kindsMet (a .walk .met)) (a .place) (sym (c .before .before .before .position .ensures) ∙ c .before .enum-told .given .1)) (c .refused .ensures)
 
 barred-at-requires : tie.Need-barred-at-requires
@@ -36,8 +37,11 @@ refused-requires-2 c κs = search needs
 returns-2 : tie.Need-returns-2
 unfolding targetStep
 returns-2 c =
-    let a = c .before .before .before .before .before .before .before .before .before .args in
-    let f = position-facts (kindsMet (a .walk .met)) (a .place) _ (sym (c .before .before .before .before .before .before .position .ensures) ∙ c .before .before .before .before .i .given .1) in
+    let a2 = c .before .before .before .before .before .before .before .before .before .args in
+    let position = c .before .before .before .before .before .before .position in
+    let i = c .before .before .before .before .i in
+    let a = a2 in
+    let f = position-facts (kindsMet (a .walk .met)) (a .place) _ (sym (position .ensures) ∙ i .given .1) in
     rw (f .0, lt-ltb _ _ (f .1), seen-barred (a .walk) _ (f .1) ∙ sym (c .before .before .barred-at .ensures) ∙ c .before .if1 .taken) (c .refused2 .ensures)
 
 goes-on-requires : tie.Need-goes-on-requires
@@ -46,8 +50,11 @@ goes-on-requires c κs = search needs
 returns-3 : tie.Need-returns-3
 unfolding targetStep
 returns-3 c =
-    let a = c .before .before .before .before .before .before .before .before .before .args in
-    let f = position-facts (kindsMet (a .walk .met)) (a .place) _ (sym (c .before .before .before .before .before .before .position .ensures) ∙ c .before .before .before .before .i .given .1) in
+    let a2 = c .before .before .before .before .before .before .before .before .before .args in
+    let position = c .before .before .before .before .before .before .position in
+    let i = c .before .before .before .before .i in
+    let a = a2 in
+    let f = position-facts (kindsMet (a .walk .met)) (a .place) _ (sym (position .ensures) ∙ i .given .1) in
     rw (f .0, lt-ltb _ _ (f .1), seen-barred (a .walk) _ (f .1) ∙ sym (c .before .before .barred-at .ensures) ∙ c .before .if1 .left) (c .goes-on .ensures)
 
 pub target-step-spec : {M : Type 1} → statement M
