@@ -16,7 +16,7 @@ use Rattle.kinds.specs.declared.Kind.{Kind}
 use Rattle.kinds.specs.Parts.{placeOf, placeIn}
 use Rattle.kinds.specs.Parameters.{parametersAt}
 use Rattle.met.specs.Met.{findKind, kindNo, parametersOf, insideOf}
-use Rattle.accepted.specs.Sound.{Entry, Known}
+use Rattle.accepted.proofs.Sound.{Entry, Known}
 use Rattle.accepted.proofs.Lists.{find-at, found-low}
 use Rattle.accepted.proofs.Known.{Complete}
 

@@ -2,11 +2,11 @@
 use mathlib.Core.Path.{_≡_, refl}
 use mathlib.Core.Bool.{Bool, true, false, cond, or-true, false≢true}
 use mathlib.Core.Logic.{_⊎_, ⊎-elim}
-use Prim.Native.Nat.{ℕ, zero, suc, _<_, _≤_}
+use Prim.Native.Nat.{ℕ, zero, suc, _+_, _<_, _≤_}
 use native.Mathlib.Omega.{arith}
 use native.Mathlib.Nat.{eq-or-lt-of-le}
 use Rattle.choices.proofs.Choices.{by-test}
-use Rattle.loops.specs.Loops.{anyBelow, countBelow}
+use Rattle.loops.specs.Loops.{anyBelow}
 
 -- the numbers below suc n
 pub last-or-below : (i n : ℕ) → i < suc n → (i ≡ n) ⊎ (i < n)
@@ -38,6 +38,11 @@ any-same (suc n) f g h = rw (any-same n f g (λ i l. h i (omega arith)), h n (om
 one-le : (a b : Bool) → (a ≡ true → b ≡ true) → cond a 1 0 ≤ cond b 1 0
 one-le true b h = rw (h refl) (omega arith)
 one-le false b h = omega arith
+
+-- of how many numbers below n a test holds
+unfoldable pub countBelow : ℕ → (ℕ → Bool) → ℕ
+countBelow zero f = 0
+countBelow (suc n) f = countBelow n f + cond (f n) 1 0
 
 pub count-le : (n : ℕ) (f g : ℕ → Bool) → ((z : ℕ) → z < n → f z ≡ true → g z ≡ true) → countBelow n f ≤ countBelow n g
 unfolding countBelow

@@ -4,10 +4,18 @@ use mathlib.Core.Bool.{Bool, true}
 use mathlib.Core.Logic.{⊎-elim}
 use Prim.Native.Nat.{ℕ, zero, suc, _<_}
 use native.Mathlib.Nat.{le-refl}
-use Rattle.loops.specs.Loops.{Reaches, Returns, closure, loopFound}
-use Rattle.loops.specs.Loops.Reaches.{once, then}
+use Rattle.loops.specs.Loops.{closure, loopFound}
 use Rattle.loops.proofs.Below.{any-some, some-any, any-same}
 use Rattle.loops.proofs.Closing.{ways, has-step, goes-on, closure-same}
+
+-- from a kind to a kind in one or more steps
+pub data Reaches (step : ℕ → ℕ → Bool) : ℕ → ℕ → Type 0 where
+  once : {i j : ℕ} → step i j ≡ true → Reaches step i j
+  then : {i j k : ℕ} → step i j ≡ true → Reaches step j k → Reaches step i k
+
+-- some kind below n returns to itself
+abbrev pub Returns : ℕ → (ℕ → ℕ → Bool) → Type 0
+Returns n step = (i : ℕ) × (i < n) × Reaches step i i
 
 module _ (step : ℕ → ℕ → Bool) where
   reaches-on : {i m j : ℕ} → Reaches step i m → Reaches step m j → Reaches step i j

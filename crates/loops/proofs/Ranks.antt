@@ -1,12 +1,16 @@
 -- Where no kind returns to itself, each has a rank that falls at each step.
 use mathlib.Core.Path.{_≡_, refl}
 use mathlib.Core.Bool.{Bool, true, false}
-use Prim.Native.Nat.{ℕ, _<_, _≤_}
+use Prim.Native.Nat.{ℕ, _+_, _<_, _≤_}
 use native.Mathlib.Omega.{arith}
 use Rattle.choices.proofs.Choices.{by-test, never-both}
-use Rattle.loops.specs.Loops.{closure, loopFound, rank}
-use Rattle.loops.proofs.Below.{some-any, count-lt, count-all}
+use Rattle.loops.specs.Loops.{closure, loopFound}
+use Rattle.loops.proofs.Below.{some-any, countBelow, count-lt, count-all}
 use Rattle.loops.proofs.Closing.{has-step, goes-on}
+
+-- one more than the number of kinds below n that a kind leads to
+unfoldable pub rank : ℕ → (ℕ → ℕ → Bool) → ℕ → ℕ
+rank n step i = countBelow n (closure step n i) + 1
 
 module _ (n : ℕ) (step : ℕ → ℕ → Bool) (h : loopFound n step ≡ false) where
   never : (i : ℕ) → i < n → closure step n i i ≡ false

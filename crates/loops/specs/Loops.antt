@@ -1,34 +1,22 @@
 -- "Loop: from a kind written at a place one steps to the kinds directly inside it, an indirection counting as its target; from a
 -- sequence there is no step. 39 exactly when some kind returns to itself in one or more steps."
 -- A kind is a number here, and `step i j` says whether there is a step from kind i to kind j.
---   Reaches       from a kind to a kind "in one or more steps"
---   Returns       "some kind returns to itself in one or more steps", of the kinds below n
 --   closure       whether kind i leads to kind j in one or more steps, where those between are below k (Warshall)
 --   anyBelow      whether a test holds of some number below n
 --   loopFound     whether some kind below n leads to itself, where those between are below n
---   countBelow    of how many numbers below n a test holds
---   rank          one more than the number of kinds below n that a kind leads to
 --   mostKinds     "at most 64 kinds"
 --   bitAt         bit j of a number
 --   cell          whether rows of bits have a step from kind i to kind j
 --   noSteps       steps of which there are none
 --   rowWith       a row with bit j set
 --   withStep      the steps and one from kind i to kind j; the steps as they are where i or j is not below 64
-use mathlib.Core.Path.{_≡_}
-use mathlib.Core.Bool.{Bool, true, false, cond, _&&_, _||_}
+use mathlib.Core.Bool.{Bool, false, cond, _&&_, _||_}
 use mathlib.Core.List.{List}
-use Prim.Native.Nat.{ℕ, zero, suc, _+_, _/_, _%_, _^_, _<_}
+use Prim.Native.Nat.{ℕ, zero, suc, _/_, _%_, _^_}
 use lib.Bits.{bitOr}
 use lib.Dec.{ltb, eqb}
 use lib.ListN.{getD, set, replicate}
 use Rattle.loops.specs.declared.Steps.{Steps}
-
-pub data Reaches (step : ℕ → ℕ → Bool) : ℕ → ℕ → Type 0 where
-  once : {i j : ℕ} → step i j ≡ true → Reaches step i j
-  then : {i j k : ℕ} → step i j ≡ true → Reaches step j k → Reaches step i k
-
-abbrev pub Returns : ℕ → (ℕ → ℕ → Bool) → Type 0
-Returns n step = (i : ℕ) × (i < n) × Reaches step i i
 
 unfoldable pub closure : (ℕ → ℕ → Bool) → ℕ → ℕ → ℕ → Bool
 closure step zero i j = step i j
@@ -40,13 +28,6 @@ anyBelow (suc n) f = anyBelow n f || f n
 
 unfoldable pub loopFound : ℕ → (ℕ → ℕ → Bool) → Bool
 loopFound n step = anyBelow n (λ i. closure step n i i)
-
-unfoldable pub countBelow : ℕ → (ℕ → Bool) → ℕ
-countBelow zero f = 0
-countBelow (suc n) f = countBelow n f + cond (f n) 1 0
-
-unfoldable pub rank : ℕ → (ℕ → ℕ → Bool) → ℕ → ℕ
-rank n step i = countBelow n (closure step n i) + 1
 
 abbrev pub mostKinds : ℕ
 mostKinds = 64

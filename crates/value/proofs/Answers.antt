@@ -15,7 +15,7 @@ use Rattle.kinds.specs.declared.Kind.{Kind}
 use Rattle.typecode.specs.declared.TypeAnswer.{TypeAnswer}
 use Rattle.typecode.specs.declared.TypeAnswer.the-variants.{Accepted as accepted, Refused as refused, Loop}
 use Rattle.typecode.specs.TypeCode.{checkedType}
-use Rattle.accepted.specs.Accepted.{AcceptedAs}
+use Rattle.accepted.proofs.Accepted.{AcceptedAs}
 use Rattle.accepted.proofs.Exact.{accepted-as}
 use Rattle.reading.specs.declared.ValueAnswer.{ValueAnswer}
 use Rattle.reading.specs.declared.ValueAnswer.the-variants.{Refused}
