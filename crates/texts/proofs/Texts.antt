@@ -1,18 +1,19 @@
 -- Texts and counted octets: which answer each test leads to, and the zeros found one octet at a time.
 use mathlib.Core.Path.{_≡_, refl, sym}
 use mathlib.Core.List.{List, [], _∷_}
-use mathlib.Core.Bool.{Bool, true, false, cond}
-use Prim.Native.Nat.{ℕ, suc, _+_, _-_, _<_, _≤_}
+use mathlib.Core.Bool.{Bool, true, false, cond, not, _||_, or-true, or-false}
+use Prim.Native.Nat.{ℕ, zero, suc, _+_, _-_, _<_, _≤_}
 use native.Mathlib.Numerals.{add-one}
 use native.Mathlib.Omega.{arith}
 use lib.Dec.{eqb, ltb}
-use lib.ListN.{getD, length, take, drop, length-drop, drop-of-length-le}
+use lib.ListN.{getD, length, take, drop, drop-of-length-le}
 use lib.Seq.{drop-cons}
 use borrow.Author.Tests.{lt-ltb, le-ltb, ltb-true, ltb-false, eq-eqb, ne-eqb}
-use Rattle.choices.proofs.Choices.{clash}
+use Rattle.choices.specs.Lists.{anyOf}
+use Rattle.choices.proofs.Choices.{by-test, clash}
 use Rattle.texts.specs.declared.Text.the-variants.{Chars, Empty, Over, Short, Zeros}
 use Rattle.texts.specs.declared.Run.the-variants.{To, Past}
-use Rattle.texts.specs.Text.{overBound, isNil, endsText, textOf, runOf}
+use Rattle.texts.specs.Text.{overBound, hasZero, isNil, endsText, textOf, runOf}
 
 module _ (v : List ℕ) (at n bound : ℕ) where
   pub text-empty : n ≡ 0 → textOf v at n bound ≡ Empty
@@ -58,20 +59,40 @@ module _ (v : List ℕ) (at n : ℕ) where
   pub run-short : runOf v at n ≡ Past → length v < at + n
   run-short r = short-by _ refl r
 
--- no octets are left exactly where the length is reached
-nil-last : (l : List ℕ) (i n : ℕ) → length l ≡ n - suc i → i < n → isNil l ≡ eqb (i + 1) n
-nil-last [] i n e h = sym (eq-eqb (i + 1) n (omega arith))
-nil-last (x ∷ l) i n e h = sym (ne-eqb (i + 1) n (λ f. omega arith))
+-- ---- zeros, octet by octet
 
-module _ (s : List ℕ) (i : ℕ) (h : i < length s) where
-  pub ends-at-zero : getD s i 0 ≡ 0 → eqb (i + 1) (length s) ≡ endsText (drop i s)
-  unfolding endsText
-  ends-at-zero e = sym (rw (drop-cons s i 0 h, eq-eqb (getD s i 0) 0 e) (nil-last (drop (suc i) s) i (length s) (length-drop (suc i) s) h))
+module _ (s : List ℕ) (i : ℕ) (h : i < length s) (found : Bool) where
+  pub zero-here : getD s i 0 ≡ 0 → (true || hasZero (drop (i + 1) s)) ≡ (found || hasZero (drop i s))
+  unfolding hasZero anyOf
+  zero-here e = sym (rw (drop-cons s i 0 h, eq-eqb (getD s i 0) 0 e) (or-true found))
 
-  pub ends-later : (getD s i 0 ≡ 0 → ⊥) → endsText (drop (i + 1) s) ≡ endsText (drop i s)
-  unfolding endsText
-  ends-later e = rw (add-one i, drop-cons s i 0 h, ne-eqb (getD s i 0) 0 e)
+  pub none-here : (getD s i 0 ≡ 0 → ⊥) → (found || hasZero (drop (i + 1) s)) ≡ (found || hasZero (drop i s))
+  unfolding hasZero anyOf
+  none-here e = rw (add-one i, drop-cons s i 0 h, ne-eqb (getD s i 0) 0 e)
 
-pub ends-never : (s : List ℕ) (i : ℕ) → length s ≤ i → endsText (drop i s) ≡ false
+pub none-left : (s : List ℕ) (i : ℕ) (found : Bool) → length s ≤ i → found ≡ (found || hasZero (drop i s))
+unfolding hasZero anyOf
+none-left s i found h = rw (drop-of-length-le s h) (sym (or-false found))
+
+-- ---- a text is judged by its last octet and those before it
+
+pub ends-by : (s : List ℕ) (m : ℕ) → length s ≡ suc m → getD s m 0 ≡ 0 → endsText s ≡ not (hasZero (take m s))
+unfolding endsText hasZero anyOf
+ends-by [] m n e = absurd (omega (arith, n))
+ends-by (x ∷ []) zero n e = rw (eq-eqb x 0 e)
+ends-by (x ∷ []) (suc m) n e = absurd (omega (arith, n))
+ends-by (x ∷ y ∷ l) zero n e = absurd (omega (arith, n))
+ends-by (x ∷ y ∷ l) (suc m) n e = by-test (eqb x 0) (λ t. rw t) (λ t. rw t (ends-by (y ∷ l) m (omega (arith, n)) e))
+
+pub ends-not : (s : List ℕ) (m : ℕ) → length s ≡ suc m → (getD s m 0 ≡ 0 → ⊥) → endsText s ≡ false
 unfolding endsText
-ends-never s i h = rw (drop-of-length-le s h)
+ends-not [] m n e = refl
+ends-not (x ∷ []) zero n e = rw (ne-eqb x 0 e)
+ends-not (x ∷ []) (suc m) n e = absurd (omega (arith, n))
+ends-not (x ∷ y ∷ l) zero n e = absurd (omega (arith, n))
+ends-not (x ∷ y ∷ l) (suc m) n e = by-test (eqb x 0) (λ t. rw t) (λ t. rw t (ends-not (y ∷ l) m (omega (arith, n)) e))
+
+pub ends-none : (s : List ℕ) → length s ≡ 0 → endsText s ≡ false
+unfolding endsText
+ends-none [] e = refl
+ends-none (x ∷ l) e = absurd (omega (arith, e))

@@ -1,5 +1,6 @@
 -- Texts: "string of length 0, without a last zero octet or with an earlier one"; octets behind their count; bounds.
 --   overBound    more than a bound allows, "0 is none"
+--   hasZero      some octet is zero
 --   isNil        no octets
 --   endsText     a last zero octet, and no earlier one
 --   textOf       a text of n octets: "length 0, bound, end, zeros", the bound "over its bound (a text's final zero not counted)"
@@ -9,6 +10,7 @@ use mathlib.Core.List.{List, [], _∷_}
 use mathlib.Core.Bool.{Bool, true, false, cond}
 use lib.Dec.{ltb, eqb}
 use lib.ListN.{length, take, drop}
+use Rattle.choices.specs.Lists.{anyOf}
 use Rattle.texts.specs.declared.Text.{Text}
 use Rattle.texts.specs.declared.Text.the-variants.{Chars, Empty, Over, Short, Zeros}
 use Rattle.texts.specs.declared.Run.{Run}
@@ -16,6 +18,9 @@ use Rattle.texts.specs.declared.Run.the-variants.{To, Past}
 
 unfoldable pub overBound : ℕ → ℕ → Bool
 overBound count bound = cond (eqb bound 0) false (ltb bound count)
+
+unfoldable pub hasZero : List ℕ → Bool
+hasZero l = anyOf (λ (x : ℕ). eqb x 0) l
 
 abbrev pub isNil : List ℕ → Bool
 isNil [] = true

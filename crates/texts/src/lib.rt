@@ -1,7 +1,7 @@
 // Texts, and octets that a count stands before: the rule of a string, which types, values and profiles share. Every function answers for
 // any slice and length.
 ghost use mathlib.Core.Path.{_≡_};
-ghost use Rattle.texts.specs.Text.{overBound, endsText, textOf, runOf};
+ghost use Rattle.texts.specs.Text.{overBound, hasZero, endsText, textOf, runOf};
 
 // Whether a count is over a bound, of which 0 is none.
 pub fn over_bound(count: usize, bound: usize) -> bool
@@ -58,16 +58,31 @@ pub fn read_run(s: &[u8], at: usize, count: usize) -> Run
     Run::To(at + count)
 }
 
+// Whether an octet is zero. All of them are looked at: without a way out of the loop many are compared at once.
+fn has_zero(s: &[u8]) -> bool
+    ensures { λ r. ⌜ r ≡ hasZero (now (s .entry)) ⌝ }
+{
+    let mut found = false;
+    let mut i = 0;
+    while i < s.len() {
+        if s[i] == 0 {
+            found = true;
+        }
+        i += 1;
+    }
+    found
+}
+
 // Whether the last octet is zero, and no earlier one.
 fn ends_text(s: &[u8]) -> bool
     ensures { λ r. ⌜ r ≡ endsText (now (s .entry)) ⌝ }
 {
-    let mut i = 0;
-    while i < s.len() {
-        if s[i] == 0 {
-            return i + 1 == s.len();
-        }
-        i += 1;
+    if s.len() == 0 {
+        return false;
     }
-    false
+    let last = s.len() - 1;
+    if s[last] != 0 {
+        return false;
+    }
+    if has_zero(&s[0..last]) { false } else { true }
 }

@@ -1,63 +1,70 @@
--- What is left of the octets decides what all of them do.
+-- The last octet is judged first, then those before it.
 use borrow.Author.Needs.{needs}
-use mathlib.Core.Path.{_≡_, refl, sym, _∙_}
-use Prim.Native.Nat.{_≤_, _-_}
+use mathlib.Core.Path.{_≡_, refl, sym, _∙_, ap}
+use mathlib.Core.Bool.{Bool, true, false, not}
+use Prim.Native.Nat.{ℕ, _-_, suc}
 use native.Mathlib.Omega.{arith}
-use lib.ListN.{length, drop}
+use lib.ListN.{length, take}
 use Rattle.texts.proofs.ends_text.Statement.{statement}
 use Rattle.texts.proofs.ends_text.Tie as tie
-use Rattle.texts.specs.Text.{endsText}
-use Rattle.texts.proofs.Texts.{ends-at-zero, ends-later, ends-never}
+use Rattle.texts.specs.Text.{endsText, hasZero}
+use Rattle.texts.proofs.Texts.{ends-by, ends-not, ends-none}
 
-abbrev Inv-loop : tie.InvT-loop
-Inv-loop s i₀ i = (i ≤ length s) × (endsText (drop i s) ≡ endsText s)
+returns : tie.Need-returns
+returns c = let o = c .before .before .args in sym (ends-none (o .s .now) (c .if1 .taken))
 
-abbrev μ-loop : tie.MeasureT-loop
-μ-loop s i₀ i = length s - i
+sub-last : tie.Need-sub-last
+sub-last c = search needs
 
-loop-holds : tie.Need-loop-holds Inv-loop μ-loop
-loop-holds c = (omega arith, refl)
+shared-slice-read-if2 : tie.Need-shared-slice-read-if2
+shared-slice-read-if2 c = search needs
 
-shared-slice-read-if1 : tie.Need-shared-slice-read-if1 Inv-loop μ-loop
-shared-slice-read-if1 c = search needs
-
-add-result : tie.Need-add-result Inv-loop μ-loop
-add-result c = search needs
-
-returns : tie.Need-returns Inv-loop μ-loop
-returns c =
-    let at-loop = c .before .before .before in
-    let at-start = at-loop .before in
-    ends-at-zero (at-start .args .s .now) (at-loop .loop .i) (c .before .before .loop-test .taken) (c .if1 .taken) ∙ at-loop .loop .inv .1
-
-add-i : tie.Need-add-i Inv-loop μ-loop
-add-i c = search needs
-
-loop-less : tie.Need-loop-less Inv-loop μ-loop
-loop-less c = search needs
-
-loop-again : tie.Need-loop-again Inv-loop μ-loop
-loop-again c =
-    let at-loop = c .before .before .before in
-    let at-start = at-loop .before in
-    (omega arith, ends-later (at-start .args .s .now) (at-loop .loop .i) (c .before .before .loop-test .taken) (c .if1 .left) ∙ at-loop .loop .inv .1)
-
-returns-2 : tie.Need-returns-2 Inv-loop μ-loop
+returns-2 : tie.Need-returns-2
 returns-2 c =
-    let loop = c .before .loop in
-    sym (ends-never (c .before .before .args .s .now) (loop .i) (c .loop-test .left)) ∙ loop .inv .1
+    let s = c .before .before .before .before .args .s .now in
+    let some = c .before .before .if1 .left in
+    sym (ends-not s (length s - 1) (omega arith) (c .if2 .taken))
+
+sub-has-zero : tie.Need-sub-has-zero
+sub-has-zero c = search needs
+
+part-has-zero-start : tie.Need-part-has-zero-start
+part-has-zero-start c = search needs
+
+part-has-zero-end : tie.Need-part-has-zero-end
+part-has-zero-end c = search needs
+
+has-zero-requires : tie.Need-has-zero-requires
+has-zero-requires c κs = search needs
+
+-- by what was found before the last octet
+ends-is : (c : tie.After-has-zero) →
+    let s = c .before .before .before .before .before .before .args .s .now in
+    endsText s ≡ not (c .has-zero .result)
+ends-is c =
+    let s = c .before .before .before .before .before .before .args .s .now in
+    let some = c .before .before .before .before .if1 .left in
+    let whole : (length s - 1) - 0 ≡ length s - 1 = omega arith in
+    ends-by s (length s - 1) (omega arith) (c .before .before .if2 .left)
+    ∙ ap not (sym (c .has-zero .ensures ∙ ap (λ (n : ℕ). hasZero (take n s)) whole))
+
+returns-3 : tie.Need-returns-3
+returns-3 c = sym (ends-is (c .before) ∙ ap not (c .if3 .taken))
+
+returns-4 : tie.Need-returns-4
+returns-4 c = sym (ends-is (c .before) ∙ ap not (c .if3 .left))
 
 pub ends-text-spec : {M : Type 1} → statement M
 ends-text-spec =
     tie.close
     (tie.spec
-    Inv-loop
-    μ-loop
-    loop-holds
-    shared-slice-read-if1
-    add-result
     returns
-    add-i
-    loop-less
-    loop-again
-    returns-2)
+    sub-last
+    shared-slice-read-if2
+    returns-2
+    sub-has-zero
+    part-has-zero-start
+    part-has-zero-end
+    has-zero-requires
+    returns-3
+    returns-4)
