@@ -33,7 +33,7 @@ row-long first i x table = by-tests (ltb i first) (leb (rowsIn table) (i - first
     by-tests false false = set3-long table ((i - first) * 3) (x .kind) (x .place) (x .content)
 
 -- a table after items from the number i on
-unfoldable rowsFrom : ℕ → ℕ → List Item → List ℕ → List ℕ
+unfoldable pub rowsFrom : ℕ → ℕ → List Item → List ℕ → List ℕ
 rowsFrom first i [] table = table
 rowsFrom first i (x ∷ xs) table = rowsFrom first (i + 1) xs (rowPut first i x table)
 

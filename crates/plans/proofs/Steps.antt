@@ -44,7 +44,7 @@ use Rattle.plans.specs.Plans.{leafStep, planSteps, mostMembers, noLeaf, 
 -- ---- a struct by the plan that fits it
 
 -- members have the kinds of a plan from the j-th on
-unfoldable Right : Checked → List ℕ → ℕ → List Inner → Type 0
+unfoldable pub Right : Checked → List ℕ → ℕ → List Inner → Type 0
 Right t kinds j [] = Unit {0}
 Right t kinds j (y ∷ ys) = (t .look y ≡ flat (Leaf (getD kinds j 0))) × Right t kinds (j + 1) ys
 
