@@ -15,7 +15,7 @@ use Rattle.reading.specs.Visit.{Checked}
 use Rattle.reading.specs.Reading.{Log, logging, reads, levels, atStart, topOf, reading}
 use Rattle.reading.specs.Value.{flat, itemNo}
 use Rattle.reading.proofs.Sim.{Steps, reads-step}
-use Rattle.leaves.specs.Lent.{Lent, lentOf, rowsIn, set3, rowPut, lent, rowsFrom}
+use Rattle.leaves.specs.Lent.{Lent, lentOf, rowsIn, set3, rowPut, lent}
 
 -- a table keeps its length
 
@@ -31,6 +31,11 @@ row-long first i x table = by-tests (ltb i first) (leb (rowsIn table) (i - first
     by-tests true b = refl
     by-tests false true = refl
     by-tests false false = set3-long table ((i - first) * 3) (x .kind) (x .place) (x .content)
+
+-- a table after items from the number i on
+unfoldable pub rowsFrom : ℕ → ℕ → List Item → List ℕ → List ℕ
+rowsFrom first i [] table = table
+rowsFrom first i (x ∷ xs) table = rowsFrom first (i + 1) xs (rowPut first i x table)
 
 rows-long : (first i : ℕ) (is : List Item) (table : List ℕ) → length (rowsFrom first i is table) ≡ length table
 unfolding rowsFrom

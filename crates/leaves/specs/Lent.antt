@@ -5,9 +5,8 @@
 --   set3       three numbers of a table
 --   rowPut     the table with item i, where the items from `first` on go into it and there is room
 --   lent       the sink: `limited` says that no more items are taken than the table has room for, `fill` that they go into it
---   rowsFrom   a table after items from the number i on
 use Prim.Native.Nat.{ℕ, _+_, _-_, _*_, _/_, _%_, _^_}
-use mathlib.Core.List.{List, [], _∷_}
+use mathlib.Core.List.{List}
 use mathlib.Core.Bool.{Bool, cond, _&&_}
 use lib.Dec.{ltb, leb}
 use lib.ListN.{length, set}
@@ -40,7 +39,3 @@ lent limited fill first = record {
   full = λ a. limited && leb (rowsIn (a .table)) (a .items);
   put = λ x a. lentOf (a .visits) ((a .items + 1) % 2 ^ 64) (cond fill (rowPut first (a .items) x (a .table)) (a .table));
 }
-
-unfoldable pub rowsFrom : ℕ → ℕ → List Item → List ℕ → List ℕ
-rowsFrom first i [] table = table
-rowsFrom first i (x ∷ xs) table = rowsFrom first (i + 1) xs (rowPut first i x table)

@@ -39,9 +39,20 @@ use Rattle.reading.proofs.Ways.{after-same, reads-some, reads-flat, goes-on, st
 use Rattle.leaves.specs.Lent.{Lent}
 use Rattle.leaves.proofs.Loops.{rows}
 use Rattle.plans.specs.declared.Plan.{Plan}
-use Rattle.plans.specs.Plans.{leafStep, planSteps, mostMembers, noLeaf, inertKind, leafKind, plannable, laid, planFound, noPlan, planOf, Right, Fits}
+use Rattle.plans.specs.Plans.{leafStep, planSteps, mostMembers, noLeaf, inertKind, leafKind, plannable, laid, planFound, noPlan, planOf}
 
 -- ---- a struct by the plan that fits it
+
+-- members have the kinds of a plan from the j-th on
+unfoldable pub Right : Checked → List ℕ → ℕ → List Inner → Type 0
+Right t kinds j [] = Unit {0}
+Right t kinds j (y ∷ ys) = (t .look y ≡ flat (Leaf (getD kinds j 0))) × Right t kinds (j + 1) ys
+
+-- a plan is a struct's, and there are levels for the struct and its members
+pub record Fits (t : Checked) (left : ℕ) (ys : List Inner) (plan : Plan) : Type 0 where
+  pub levels : 2 ≤ left
+  pub right : Right t (plan .kinds) 0 ys
+  pub whole : plan .count ≡ length ys
 
 module _ {A : Type 0} (k : Sink A) (x : Source) (t : Checked) (l : ℕ) (some : l ≡ 0 → ⊥) (kinds : List ℕ) where
   leaf-one : (y : Inner) (kind : ℕ) (s : St A) → t .look y ≡ flat (Leaf kind) → reads k x t l (t .look y) s ≡ leafStep k x kind s

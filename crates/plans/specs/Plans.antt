@@ -10,14 +10,11 @@
 --   laid          the kinds of members, laid into a list from the j-th place on
 --   planFound     a plan of these kinds; `noPlan` none
 --   planOf        the plan of a struct of so many members, of which those that are there have these types, with so many levels left
---   Right         members have the kinds of a plan from the j-th on
---   Fits          a plan is a struct's, and there are levels for the struct and its members
-use Prim.Native.Nat.{ℕ, zero, suc, _+_, _≤_}
-use mathlib.Core.Path.{_≡_}
+use Prim.Native.Nat.{ℕ, zero, suc, _+_}
 use mathlib.Core.List.{List, [], _∷_}
 use mathlib.Core.Bool.{Bool, true, false, cond, _&&_}
 use lib.Dec.{eqb, ltb, leb}
-use lib.ListN.{length, getD, set, replicate}
+use lib.ListN.{getD, set, replicate}
 use Rattle.choices.specs.Branch.{choose}
 use Rattle.kinds.specs.declared.Inner.{Inner}
 use Rattle.kinds.specs.declared.Inert.{Inert}
@@ -85,12 +82,3 @@ planOf t left count ys =
     choose (leb count mostMembers && (leb 2 left && plannable t count ys))
     (λ _. planFound (laid t (replicate mostMembers 0) 0 ys) count)
     (λ _. noPlan)
-
-unfoldable pub Right : Checked → List ℕ → ℕ → List Inner → Type 0
-Right t kinds j [] = Unit {0}
-Right t kinds j (y ∷ ys) = (t .look y ≡ flat (Leaf (getD kinds j 0))) × Right t kinds (j + 1) ys
-
-pub record Fits (t : Checked) (left : ℕ) (ys : List Inner) (plan : Plan) : Type 0 where
-  pub levels : 2 ≤ left
-  pub right : Right t (plan .kinds) 0 ys
-  pub whole : plan .count ≡ length ys

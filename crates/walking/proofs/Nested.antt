@@ -22,9 +22,29 @@ use Rattle.reading.specs.Opens.Next.{over, into}
 use Rattle.reading.specs.Reading.{reads}
 use Rattle.reading.proofs.Ways.{after-same, after-none, goes-on, stops, repeats-same, unless-is, reads-none, reads-some, reads-flat}
 use Rattle.plans.specs.declared.Plan.{Plan}
-use Rattle.plans.specs.Plans.{planSteps, planOf, Fits}
-use Rattle.plans.proofs.Steps.{plan-reads, plan-fits}
-use Rattle.walking.specs.Nested.{elementsAt, sequenceAt, membersAt, exceptionAt, armAt, unionAt, enter, readsNested}
+use Rattle.plans.specs.Plans.{planSteps, planOf}
+use Rattle.plans.proofs.Steps.{Fits, plan-reads, plan-fits}
+use Rattle.walking.specs.Nested.{elementsAt, sequenceAt, membersAt, exceptionAt, armAt, unionAt}
+
+-- ---- the nested visit
+
+-- what a visit does, by the type's shape; an accepted type has no fault
+module _ {A : Type 0} (k : Sink A) (x : Source) (f : Shape → St A → St A) (t : Checked) where
+  unfoldable pub enter : Shape → St A → St A
+  enter fault s = s
+  enter (flat i) s = inertAt k x i s
+  enter (struct ys) s = membersAt k x f t ys s
+  enter (exception ys) s = exceptionAt k x f t ys s
+  enter (union d ms default) s = unionAt k x f t d ms default s
+  enter (sequence y bound) s = sequenceAt k x f (t .look y) bound s
+  enter (array y n) s = elementsAt k x f (t .look y) n s
+  enter (alias y) s = f (t .look y) s
+
+-- a visit with so many levels left
+module _ {A : Type 0} (k : Sink A) (x : Source) (t : Checked) where
+  unfoldable pub readsNested : ℕ → Shape → St A → St A
+  readsNested zero p s = failed 55 s
+  readsNested (suc l) p s = enter k x (readsNested l) t p (begun k s)
 
 -- ---- a visit is the nested one
 

@@ -5,8 +5,6 @@
 --   exceptionAt    "exception: a text id, then members"; "an exception's id none"
 --   armAt          the chosen member, if there is one
 --   unionAt        "union: discriminant, then the member"
---   enter          what a visit does, by the type's shape; an accepted type has no fault
---   readsNested    a visit with so many levels left
 use Prim.Native.Nat.{ℕ, zero, suc}
 use mathlib.Core.List.{List, [], _∷_}
 use Rattle.kinds.specs.declared.Inner.{Inner}
@@ -15,9 +13,8 @@ use Rattle.met.specs.declared.Arm.{Arm}
 use Rattle.met.specs.declared.Arm.the-variants.{Chosen, NoneChosen}
 use Rattle.met.specs.Arms.{chosenOf}
 use Rattle.met.specs.Shapes.{Shape}
-use Rattle.met.specs.Shapes.Shape.{fault, flat, struct, exception, union, sequence, array, alias}
-use Rattle.reading.specs.Sinks.{Source, Sink, St, failed, after, repeats, begun}
-use Rattle.reading.specs.Visit.{Checked, textAt, countAt, inertAt}
+use Rattle.reading.specs.Sinks.{Source, Sink, St, after, repeats}
+use Rattle.reading.specs.Visit.{Checked, textAt, countAt}
 
 module _ {A : Type 0} (k : Sink A) (x : Source) (f : Shape → St A → St A) where
   unfoldable pub elementsAt : Shape → ℕ → St A → St A
@@ -40,18 +37,3 @@ module _ {A : Type 0} (k : Sink A) (x : Source) (f : Shape → St A → St A) wh
 
     unfoldable pub unionAt : Inner → List Member → ℕ → St A → St A
     unionAt d ms default s = after (f (t .look d) s) (λ u. armAt (chosenOf ms default (u .last)) u)
-
-    unfoldable pub enter : Shape → St A → St A
-    enter fault s = s
-    enter (flat i) s = inertAt k x i s
-    enter (struct ys) s = membersAt ys s
-    enter (exception ys) s = exceptionAt ys s
-    enter (union d ms default) s = unionAt d ms default s
-    enter (sequence y bound) s = sequenceAt (t .look y) bound s
-    enter (array y n) s = elementsAt (t .look y) n s
-    enter (alias y) s = f (t .look y) s
-
-module _ {A : Type 0} (k : Sink A) (x : Source) (t : Checked) where
-  unfoldable pub readsNested : ℕ → Shape → St A → St A
-  readsNested zero p s = failed 55 s
-  readsNested (suc l) p s = enter k x (readsNested l) t p (begun k s)

@@ -66,8 +66,9 @@ use Rattle.leaves.specs.declared.Mode.{Mode}
 use Rattle.leaves.specs.Lent.{Lent}
 use Rattle.leaves.specs.Walk.{sinkOf, sourceOf, stateOf}
 use Rattle.leaves.proofs.Loops.{Going, going-none, going-all, going-stop, going-more}
-use Rattle.walking.specs.Nested.{elementsAt, enter}
+use Rattle.walking.specs.Nested.{elementsAt}
 use Rattle.walking.proofs.Nested as way
+use Rattle.walking.proofs.Nested.{enter}
 use Rattle.walking.proofs.Onward.{Onward, onward-none, onward-all, onward-cut, onward-stop, onward-more}
 use Rattle.met.specs.Arrays.{kindsMet}
 
