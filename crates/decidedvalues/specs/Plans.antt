@@ -6,7 +6,6 @@
 --   unmet-is-fault     where no kind was met, there are no parameters
 --   flat-is-visit      a visit that enters nothing counts as one
 --   no-level-is-55     a visit that enters nothing needs a level too
---   member-is-octet    a plan has the kind of its member, here of an octet
 --   plan-is-found      a struct of an octet has a plan where two levels are left,
 --   plan-needs-two     and none where one is left, which its member has none of,
 --   plan-is-whole      or where fewer members are there than it counts
@@ -42,7 +41,7 @@ use Rattle.reading.specs.Opens.{readsNode, enterNode, ownOf, opens, closes, shu
 use Rattle.leaves.specs.Lent.{lentOf, rowPut}
 use Rattle.leaves.specs.Walk.{sinkOf, sourceOf}
 use Rattle.plans.specs.declared.Plan.{Plan}
-use Rattle.plans.specs.Plans.{planSteps, planVisit, inertKind, leafKind, plannable, laid, planFound, noPlan, planOf, Right}
+use Rattle.plans.specs.Plans.{planSteps, planVisit, inertKind, leafKind, plannable, laid, planFound, noPlan, planOf}
 use Rattle.decidedvalues.specs.Leaves.{filling, from-start}
 
 abbrev pub pair : Plan
@@ -69,10 +68,6 @@ flat-is-visit t = refl
 pub no-level-is-55 : (t : Checked) → reads (sinkOf filling) (sourceOf filling (7 ∷ [])) t 0 (flat (Leaf 10)) (from-start (replicate 3 9)) .fault ≡ 55
 unfolding reads readsNode
 no-level-is-55 t = refl
-
-pub member-is-octet : Right lone-type (10 ∷ []) 0 (lone-members 1)
-unfolding choose littleNumber littleOctets numberOf octetsOf numberAt readOf runOf fieldOf countedOf formOf fieldIn skipCounted spotAt memberAt membersFrom typesOf parametersAt insideOf shapeOf look Right
-member-is-octet = (refl, tt)
 
 pub plan-is-found : planOf lone-type 2 1 (lone-members 1) ≡ planFound (10 ∷ replicate 15 0) 1
 unfolding choose littleNumber littleOctets numberOf octetsOf numberAt readOf runOf fieldOf countedOf formOf fieldIn skipCounted spotAt memberAt membersFrom typesOf parametersAt insideOf shapeOf look inertKind leafKind plannable laid planOf
