@@ -7,16 +7,15 @@ use Rattle.fields.specs.declared.Refusal.{Refusal}
 use Rattle.fields.specs.Refusals.{refusalNumber}
 use Rattle.typecode.specs.declared.TypeAnswer.the-variants.{Accepted as TypeAccepted, Refused as TypeRefused, Loop}
 use Rattle.met.specs.declared.Met.{Met}
-use Rattle.met.specs.Arrays.{noKinds, gathered}
 use Rattle.typecode.specs.TypeCode.{CheckedType, checkedType}
-use Rattle.cvalues.specs.Types.{orderIs, ChecksC}
+use Rattle.cvalues.specs.Types.{orderIs, Entries, ChecksC}
 
 -- a type: what its answer tells
 module _ (v : List ℕ) (little : Bool) (places starts orders numbers : List ℕ) (c : CheckedType) (e : c ≡ checkedType v (orderIs little)) where
-  pub checks-accepted : (m : Met) → m ≡ gathered noKinds (c .kinds) → (used k : ℕ) → c .answer ≡ TypeAccepted used k
+  pub checks-accepted : (m : Met) → Entries (c .kinds) m → (used k : ℕ) → c .answer ≡ TypeAccepted used k
       → ChecksC v little places starts orders numbers 0 (m .places) (m .starts) (m .orders) (used ∷ k ∷ [])
   checks-accepted m g used k a =
-      record { number = rw (← e, a); places-are = rw (← e, a, g); starts-are = rw (← e, a, g); orders-are = rw (← e, a, g); numbers-are = rw (← e, a) }
+      record { number = rw (← e, a); places-are = rw (← e, a) (g .places); starts-are = rw (← e, a) (g .starts); orders-are = rw (← e, a) (g .orders); numbers-are = rw (← e, a) }
 
   pub checks-refused : (r : Refusal) → c .answer ≡ TypeRefused r → (n : ℕ) → n ≡ refusalNumber r
       → ChecksC v little places starts orders numbers n places starts orders numbers

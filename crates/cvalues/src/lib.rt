@@ -2,11 +2,12 @@
 // value's visits.
 ghost use mathlib.Core.Path.{_≡_};
 ghost use Rattle.cdr.specs.Align.{indexOf};
-ghost use Rattle.met.specs.Arrays.{kindsMet, noKinds, gathered};
+ghost use Rattle.cdr.specs.Orders.{orderOctet};
+ghost use Rattle.met.specs.Arrays.{orderIn, kindsMet};
 ghost use Rattle.written.specs.Written.{target, unnamedOrder};
 ghost use Rattle.written.specs.Rewriting.{rewriteNumber, writtenCount};
 ghost use Rattle.cvalues.specs.Values.{valueAt, ReadsC, PicksC, RewritesC};
-ghost use Rattle.cvalues.specs.Types.{orderIs, ChecksC};
+ghost use Rattle.cvalues.specs.Types.{orderIs, Entries, ChecksC};
 use cdr::Index;
 use cdr::Order;
 use met::Met;
@@ -22,17 +23,24 @@ fn order_is(little: bool) -> Order
     if little { Order::Little } else { Order::Big }
 }
 
-// The kinds met, with 0 past the last.
+// The order octet of an entry: what is not 1 is big.
+fn octet_of(order: u8) -> u8
+    ensures { λ r. ⌜ r ≡ orderOctet (orderIn order) ⌝ }
+{
+    if order == 1 { 1 } else { 0 }
+}
+
+// The arrays of the kinds met, with 0 past the last, filled in place: `Met::add` would copy them for each kind.
 fn gather(met: Met) -> Met
-    ensures { λ r. ⌜ r ≡ gathered noKinds (kindsMet met) ⌝ }
+    ensures { λ r. ⌜ Entries (kindsMet met) r ⌝ }
 {
     let n = met.held();
     let mut all = Met::none();
-    let mut i = 0;
+    let mut i: usize = 0;
     while i < n {
-        let kind = met::entry_at(met, i);
-        let order = kind.order;
-        all = all.add(kind.place, kind.start, order);
+        all.places[i] = met.places[i];
+        all.starts[i] = met.starts[i];
+        all.orders[i] = octet_of(met.orders[i]);
         i += 1;
     }
     all
@@ -52,13 +60,13 @@ pub extern "C" fn haulspar_type(
     ensures { λ r. ⌜ ChecksC (now (octets .entry)) little (now (places .entry)) (now (starts .entry)) (now (orders .entry)) (now (numbers .entry)) r (now (places .exit)) (now (starts .exit)) (now (orders .exit)) (now (numbers .exit)) ⌝ }
 {
     let c = typecode::check_type(octets, order_is(little));
-    let met = gather(c.met);
-    let at = met.places;
-    let from = met.starts;
-    let in_order = met.orders;
     let answer = c.answer;
     match answer {
         TypeAnswer::Accepted { used, kinds } => {
+            let met = gather(c.met);
+            let at = met.places;
+            let from = met.starts;
+            let in_order = met.orders;
             *places = at;
             *starts = from;
             *orders = in_order;

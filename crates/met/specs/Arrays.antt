@@ -9,7 +9,6 @@
 --   hasRoom      there is room for one more kind, at a place and in an encapsulation that the entries can hold, as every one of a type of at
 --                most 16,384 octets is
 --   added        the struct with one more kind
---   gathered     the struct with more kinds, one after the other; from `noKinds` on, its entries past the last are 0
 use Prim.Native.Nat.{ℕ, zero, suc, min, _+_}
 use mathlib.Core.List.{List, [], _∷_}
 use mathlib.Core.Bool.{Bool, cond, _&&_}
@@ -55,7 +54,3 @@ added m p b order =
       count = m .count + 1;
     })
     m
-
-unfoldable pub gathered : Met → List Kind → Met
-gathered m [] = m
-gathered m (k ∷ ks) = gathered (added m (k .place) (k .start) (k .order)) ks

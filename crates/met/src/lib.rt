@@ -3,7 +3,7 @@ ghost use mathlib.Core.Path.{_≡_};
 ghost use Rattle.met.specs.Met.{kindNo, positionOf, parametersOf, foundAt, insideOf};
 ghost use Rattle.met.specs.Arrays.{orderIn, heldIn, kindsMet, noKinds, added};
 ghost use Prim.Native.Nat.{min};
-ghost use lib.ListN.{getD, length};
+ghost use lib.ListN.{length};
 use cdr::Order;
 use cdr::Place;
 use kinds::Inner;
@@ -59,23 +59,15 @@ fn held_in(count: usize) -> usize
     KINDS_LIMIT
 }
 
-// A place of the list, 0 past its end.
-fn entry(list: [u16; KINDS_LIMIT], i: usize) -> usize
-    ensures { λ r. ⌜ r ≡ getD list i 0 ⌝ }
+// The order that an entry of the list says.
+fn order_in(octet: u8) -> Order
+    ensures { λ r. ⌜ r ≡ orderIn octet ⌝ }
 {
-    if i < KINDS_LIMIT { list[i] as usize } else { 0 }
-}
-
-// An order of the list, big past its end.
-fn order_entry(list: [u8; KINDS_LIMIT], i: usize) -> Order
-    ensures { λ r. ⌜ r ≡ orderIn (getD list i 0) ⌝ }
-{
-    if i < KINDS_LIMIT {
-        if list[i] == 1 {
-            return Order::Little;
-        }
+    if octet == 1 {
+        Order::Little
+    } else {
+        Order::Big
     }
-    Order::Big
 }
 
 impl Met {
@@ -126,11 +118,10 @@ impl Met {
     pub fn position(self, place: Place) -> Position
         ensures { λ r. ⌜ r ≡ positionOf (kindsMet self) place ⌝ }
     {
-        let places = self.places;
         let n = held_in(self.count);
-        let mut i = 0;
+        let mut i: usize = 0;
         while i < n {
-            if entry(places, i) == place.0 {
+            if self.places[i] as usize == place.0 {
                 return Position::Is(i);
             }
             i += 1;
@@ -150,13 +141,13 @@ pub fn entry_at(met: Met, j: usize) -> Kind
             order: Order::Big,
         };
     }
-    let starts = met.starts;
-    let orders = met.orders;
-    let places = met.places;
+    let place = Place(met.places[j] as usize);
+    let start = Place(met.starts[j] as usize);
+    let order = order_in(met.orders[j]);
     Kind {
-        place: Place(entry(places, j)),
-        start: Place(entry(starts, j)),
-        order: order_entry(orders, j),
+        place,
+        start,
+        order,
     }
 }
 
@@ -167,19 +158,7 @@ pub fn parameters_of(v: &[u8], met: Met, j: usize) -> Parameters
     kinds::parameters_at(v, entry_at(met, j))
 }
 
-// The order that an entry of the list says.
-fn order_in(octet: u8) -> Order
-    ensures { λ r. ⌜ r ≡ orderIn octet ⌝ }
-{
-    if octet == 1 {
-        Order::Little
-    } else {
-        Order::Big
-    }
-}
-
-// The parameters of the kind at a place, a fault where the list has none there. The lists are indexed here, since a function would copy
-// them for each entry.
+// The parameters of the kind at a place, a fault where the list has none there.
 fn found_at(v: &[u8], met: Met, place: Place) -> Parameters
     ensures { λ r. ⌜ r ≡ foundAt (now (v .entry)) (kindsMet met) place ⌝ }
 {

@@ -3,8 +3,9 @@
 use borrow.Author.Needs.{needs}
 use Rattle.cvalues.proofs.haulspar_type.Statement.{statement}
 use Rattle.cvalues.proofs.haulspar_type.Tie as tie
-use mathlib.Core.Path.{_∙_, ap}
+use mathlib.Core.Path.{_≡_, _∙_, ap}
 use Rattle.typecode.specs.TypeCode.{checkedType, toldBy}
+use Rattle.cvalues.specs.Types.{orderIs}
 use Rattle.cvalues.proofs.Types.{checks-accepted, checks-refused, checks-loop}
 
 order-is-requires : tie.Need-order-is-requires
@@ -28,27 +29,35 @@ number-requires c κs = search needs
 enum-told : tie.Need-enum-told
 enum-told c = search needs
 
+-- the check, in the order that the flag says
+checked-is : (c : tie.After-check-type) →
+    let a = c .before .before .before .args in
+    toldBy (c .check-type .result) ≡ checkedType (a .octets .now) (orderIs (a .little))
+checked-is c =
+    let a = c .before .before .before .args in
+    c .check-type .ensures ∙ ap (checkedType (a .octets .now)) (c .before .order-is .ensures)
+
 returns : tie.Need-returns
 returns c =
-    let a = c .before .before .before .before .before .before .before .before .before .before .before .args in
-    let check-type = c .before .before .before .before .before .before .before .before .check-type in
-    let gather = c .before .before .before .before .before .before .before .gather in
-    let order-is = c .before .before .before .before .before .before .before .before .before .order-is in
-    checks-accepted (a .octets .now) (a .little) _ _ _ _ (toldBy (check-type .result)) (check-type .ensures ∙ ap (checkedType (a .octets .now)) (order-is .ensures)) (gather .result) (gather .ensures) _ _ (c .before .before .answer .given .1)
+    let checked = c .before .before .before .before .before .before .before .before in
+    let a = checked .before .before .before .args in
+    let gather = c .before .before .before .before .gather in
+    let answer = c .before .before .before .before .before .before .answer in
+    checks-accepted (a .octets .now) (a .little) _ _ _ _ (toldBy (checked .check-type .result)) (checked-is checked)
+    (gather .result) (gather .ensures) _ _ (answer .given .1)
 
 returns-2 : tie.Need-returns-2
 returns-2 c =
-    let a = c .before .before .before .before .before .before .before .before .before .before .before .args in
-    let check-type = c .before .before .before .before .before .before .before .before .check-type in
-    let order-is = c .before .before .before .before .before .before .before .before .before .order-is in
-    checks-refused (a .octets .now) (a .little) _ _ _ _ (toldBy (check-type .result)) (check-type .ensures ∙ ap (checkedType (a .octets .now)) (order-is .ensures)) _ (c .before .before .answer2 .given .1) _ (c .number .ensures)
+    let checked = c .before .before .before .before in
+    let a = checked .before .before .before .args in
+    checks-refused (a .octets .now) (a .little) _ _ _ _ (toldBy (checked .check-type .result)) (checked-is checked)
+    _ (c .before .before .answer2 .given .1) _ (c .number .ensures)
 
 returns-3 : tie.Need-returns-3
 returns-3 c =
-    let a = c .before .before .before .before .before .before .before .before .before .args in
-    let check-type = c .before .before .before .before .before .before .check-type in
-    let order-is = c .before .before .before .before .before .before .before .order-is in
-    checks-loop (a .octets .now) (a .little) _ _ _ _ (toldBy (check-type .result)) (check-type .ensures ∙ ap (checkedType (a .octets .now)) (order-is .ensures)) (c .enum-told .given .1)
+    let checked = c .before .before in
+    let a = checked .before .before .before .args in
+    checks-loop (a .octets .now) (a .little) _ _ _ _ (toldBy (checked .check-type .result)) (checked-is checked) (c .enum-told .given .1)
 
 pub haulspar-type-spec : {M : Type 1} → statement M
 haulspar-type-spec =
@@ -56,8 +65,8 @@ haulspar-type-spec =
     (tie.spec
     order-is-requires
     check-type-requires
-    gather-requires
     enum-known-answer
+    gather-requires
     enum-known-answer-2
     number-requires
     enum-told
