@@ -1,4 +1,4 @@
--- What the private functions of the crate promise each other; nothing that a caller is told rests on these names.
+-- What private functions promise each other; nothing that a caller is told rests on these names.
 --   firstHalf     a number whose last n octets are the first half of another's 2n, with base 256 ^ n
 --   secondHalf    the same of the second half
 --   Loaded        a number that was read from n octets

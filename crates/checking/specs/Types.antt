@@ -25,42 +25,17 @@
 --   enterAt           a kind of a form with so many levels left; with none left no kind may stand there
 --   typeAt            a TypeCode with so many levels left
 --   walkedOf          the check of octets as a TypeCode: "42 over 16,384 octets (before all else)"
-use Prim.Native.Nat.{ℕ, zero, suc, _+_, _-_}
-use mathlib.Core.List.{List}
-use mathlib.Core.Bool.{false, cond}
-use lib.Dec.{ltb, eqb}
-use lib.ListN.{length, getD, take, drop}
-use Rattle.choices.specs.Branch.{choose}
-use Rattle.cdr.specs.Limit.{octetsLimit}
-use Rattle.cdr.specs.declared.Index.{Index}
-use Rattle.cdr.specs.declared.Place.{Place}
-use Rattle.cdr.specs.declared.Order.{Order}
-use Rattle.cdr.specs.declared.Size.the-variants.{Four}
-use Rattle.kinds.specs.declared.Form.{Form}
-use Rattle.kinds.specs.declared.Form.the-variants.{Unlisted, Plain, Bounded, Composite}
-use Rattle.kinds.specs.declared.Layout.{Layout}
+use Rattle.choices.specs.{ℕ, zero, suc, _+_, _-_, List, false, cond, ltb, eqb, length, getD, take, drop, choose}
+use Rattle.cdr.specs.{octetsLimit, Index, Place, Order, Four, indexOf}
+use Rattle.encapsulation.specs.{fieldOf}
+use Rattle.kinds.specs.{Form, Unlisted, Plain, Bounded, Composite, Layout, Target, To, Outside, Labels, Of, NoLabels, Kind, placeOf}
+use Rattle.kinds.specs.{placeIn, onField, Forms.indirectionKind, Forms.formOf, Parts.onSpot, Parts.behind, Parts.targetOf, Parts.spotAt}
 use Rattle.kinds.specs.declared.Layout.the-variants.{Objref, Struct, Union, Enum, Sequence, Array, Alias, Exception}
-use Rattle.kinds.specs.declared.Target.{Target}
-use Rattle.kinds.specs.declared.Target.the-variants.{To, Outside}
-use Rattle.kinds.specs.declared.Labels.{Labels}
-use Rattle.kinds.specs.declared.Labels.the-variants.{Of, NoLabels}
-use Rattle.kinds.specs.declared.Kind.{Kind}
-use Rattle.fields.specs.declared.Refusal.the-variants.{Ends, NoSuchKind, BadEncapsulation, BadUnion, BadTarget, TooDeep, TooLong}
-use Rattle.fields.specs.declared.Entry.{Entry}
-use Rattle.fields.specs.declared.Entry.the-variants.{Barred, Enters}
-use Rattle.fields.specs.declared.Step.{Step}
-use Rattle.fields.specs.declared.Switch.{Switch}
-use Rattle.fields.specs.declared.Switch.the-variants.{NoSwitch, Cases}
-use Rattle.fields.specs.declared.Part.{Part}
-use Rattle.fields.specs.declared.Part.the-variants.{NoPart, Inside}
-use Rattle.cdr.specs.Align.{indexOf}
-use Rattle.encapsulation.specs.Encapsulation.{fieldOf}
-use Rattle.kinds.specs.Forms.{indirectionKind, formOf}
-use Rattle.kinds.specs.Parts.{placeOf, placeIn, onField, onSpot, behind, targetOf, spotAt}
-use Rattle.met.specs.Met.{findKind}
-use Rattle.met.specs.Discriminants.{labelsFor}
-use Rattle.met.specs.Arms.{noDefault}
-use Rattle.fields.specs.Fields.{nestingLimit, entryOf, thenStep, textStep, namesStep, numberStep, lengthStep, headStep, exceptionStep, enumStep, switchStep, labelStep, partOf}
+use Rattle.met.specs.{Met.findKind, Discriminants.labelsFor, Arms.noDefault}
+use Rattle.fields.specs.{Ends, NoSuchKind, BadEncapsulation, BadUnion, BadTarget, TooDeep, TooLong, Entry, Barred, Enters, Step, Switch}
+use Rattle.fields.specs.{NoSwitch, Cases, Part, NoPart, Inside}
+use Rattle.fields.specs.Fields.{nestingLimit, entryOf, thenStep, textStep, namesStep, numberStep, lengthStep, headStep, exceptionStep}
+use Rattle.fields.specs.Fields.{enumStep, switchStep, labelStep, partOf}
 use Rattle.checking.specs.Walk.{Walk, Walked, nothingMet, entered, closed, refusedAs, goesOn, onStep, countThen, after}
 
 unfoldable pub targetStep : Walk → Place → Index → Walked

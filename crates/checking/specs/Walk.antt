@@ -12,27 +12,14 @@
 --   onStep         what follows, unless it is refused
 --   countThen      what follows a count, unless it is refused
 --   after          what follows a type that was checked
-use Prim.Native.Nat.{ℕ}
-use mathlib.Core.List.{List, [], _∷_, _++_}
-use mathlib.Core.Bool.{Bool, true, false}
-use lib.ListN.{length, set, take}
-use Rattle.cdr.specs.declared.Index.{Index}
-use Rattle.cdr.specs.declared.Place.{Place}
-use Rattle.cdr.specs.declared.Order.{Order}
-use Rattle.kinds.specs.declared.Kind.{Kind}
-use Rattle.kinds.specs.declared.Form.{Form}
-use Rattle.kinds.specs.declared.Form.the-variants.{Unlisted, Plain, Bounded, Composite}
-use Rattle.kinds.specs.declared.Layout.{Layout}
+use Rattle.choices.specs.{ℕ, List, [], _∷_, _++_, Bool, true, false, length, set, take}
+use Rattle.cdr.specs.{Index, Place, Order}
+use Rattle.kinds.specs.{Kind, Form, Unlisted, Plain, Bounded, Composite, Layout, writtenAt}
 use Rattle.kinds.specs.declared.Layout.the-variants.{Objref, Struct, Union, Enum, Sequence, Array, Alias, Exception}
-use Rattle.fields.specs.declared.Refusal.{Refusal}
-use Rattle.fields.specs.declared.Step.{Step}
-use Rattle.fields.specs.declared.Step.the-variants.{Refused, Next}
-use Rattle.fields.specs.declared.Count.{Count}
-use Rattle.fields.specs.declared.Count.the-variants.{Wrong, Stands}
+use Rattle.met.specs.Arrays.{kindsMet}
+use Rattle.fields.specs.{Refusal, Step, Refused, Next, Count, Wrong, Stands}
 use Rattle.checking.specs.declared.Walk as kept
 use Rattle.checking.specs.declared.Walked as left
-use Rattle.kinds.specs.Parts.{writtenAt}
-use Rattle.met.specs.Arrays.{kindsMet}
 
 pub record Walk : Type 0 where
   pub kinds : List Kind

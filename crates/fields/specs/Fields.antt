@@ -30,42 +30,19 @@
 --   labelBefore      a label is that of one of the `done` members before it, from `first` on; they were checked, and are read again over the
 --                    whole octets v, from the place b of their encapsulation on
 --   labelStep        a label before a member: 30, then, if it counts, 35 "out of its kind" or equal to one before it
-use Prim.Native.Nat.{ℕ, zero, suc, _+_, _-_, _/_}
-use mathlib.Core.List.{List}
-use mathlib.Core.Bool.{Bool, true, false, cond, not, _||_}
-use lib.Dec.{ltb, leb, eqb}
-use lib.ListN.{length, getD}
-use Rattle.cdr.specs.declared.Index.{Index}
-use Rattle.cdr.specs.declared.Place.{Place}
-use Rattle.cdr.specs.declared.Order.{Order}
-use Rattle.cdr.specs.declared.Named.{Named}
-use Rattle.cdr.specs.declared.Named.the-variants.{Is, NoOrder}
-use Rattle.cdr.specs.declared.Size.the-variants.{Four}
-use Rattle.encapsulation.specs.declared.Str.{Str}
-use Rattle.encapsulation.specs.declared.Str.the-variants.{Characters, BadText as badText, NoText}
-use Rattle.kinds.specs.declared.Form.{Form}
-use Rattle.kinds.specs.declared.Form.the-variants.{Unlisted, Plain, Bounded, Composite}
-use Rattle.kinds.specs.declared.Labels.{Labels}
-use Rattle.kinds.specs.declared.Labels.the-variants.{Of, NoLabels}
-use Rattle.fields.specs.declared.Refusal.the-variants.{Ends, NoSuchKind, BadText, BadEncapsulation, NoCount, BadUnion, TooManyKinds, TooDeep, BelowTop}
-use Rattle.fields.specs.declared.Entry.{Entry}
-use Rattle.fields.specs.declared.Entry.the-variants.{Barred, Enters}
-use Rattle.fields.specs.declared.Step.{Step}
-use Rattle.fields.specs.declared.Step.the-variants.{Refused, Next}
-use Rattle.fields.specs.declared.Count.{Count}
-use Rattle.fields.specs.declared.Count.the-variants.{Wrong, Stands}
-use Rattle.fields.specs.declared.Switch.{Switch}
-use Rattle.fields.specs.declared.Switch.the-variants.{NoSwitch, Cases}
-use Rattle.fields.specs.declared.Part.{Part}
-use Rattle.fields.specs.declared.Part.the-variants.{NoPart, Inside}
-use Rattle.cdr.specs.Align.{indexOf}
-use Rattle.cdr.specs.Orders.{orderOf}
-use Rattle.encapsulation.specs.Encapsulation.{fieldOf, stringOf}
-use Rattle.kinds.specs.Parts.{onField, longRange}
-use Rattle.kinds.specs.Members.{membersOf}
-use Rattle.kinds.specs.Parameters.{fieldsOf}
-use Rattle.met.specs.Discriminants.{outOfKind}
-use Rattle.met.specs.Arms.{counts, caseOf, noDefault, isChosen}
+use Rattle.choices.specs.{ℕ, zero, suc, _+_, _-_, _/_, List, Bool, true, false, cond, not, _||_, ltb, leb, eqb, length, getD}
+use Rattle.cdr.specs.{Index, Place, Order, Named, Is, NoOrder, Four, indexOf, orderOf}
+use Rattle.encapsulation.specs.{Str, Characters, BadText as badText, NoText, fieldOf, stringOf}
+use Rattle.kinds.specs.{Form, Unlisted, Plain, Bounded, Composite, Labels, Of, NoLabels, onField, longRange, membersOf}
+use Rattle.kinds.specs.{Parameters.fieldsOf}
+use Rattle.met.specs.{Discriminants.outOfKind, Arms.counts, Arms.caseOf, Arms.noDefault, Arms.onArm}
+use Rattle.fields.specs.{declared.Entry.Entry, declared.Entry.the-variants.Barred, declared.Entry.the-variants.Enters}
+use Rattle.fields.specs.{declared.Step.Step, declared.Step.the-variants.Refused, declared.Step.the-variants.Next}
+use Rattle.fields.specs.{declared.Count.Count, declared.Count.the-variants.Wrong, declared.Count.the-variants.Stands}
+use Rattle.fields.specs.{declared.Switch.Switch, declared.Switch.the-variants.NoSwitch, declared.Switch.the-variants.Cases}
+use Rattle.fields.specs.{declared.Part.Part, declared.Part.the-variants.NoPart, declared.Part.the-variants.Inside}
+use Rattle.fields.specs.declared.Refusal.the-variants.{Ends, NoSuchKind, BadText, BadEncapsulation, NoCount, BadUnion, TooManyKinds}
+use Rattle.fields.specs.declared.Refusal.the-variants.{TooDeep, BelowTop}
 
 abbrev pub topOnly : ℕ → Bool
 topOnly kind = eqb kind 0 || (eqb kind 1 || eqb kind 22)
@@ -163,7 +140,7 @@ unfoldable pub switchStep : List ℕ → Index → Order → Switch
 switchStep s i order = onField (fieldOf s i Four order) (NoSwitch Ends) (λ d j. judged d (countStep s j order))
 
 unfoldable pub labelBefore : Labels → List ℕ → Place → Order → ℕ → ℕ → Index → ℕ → Bool
-labelBefore labels v b order default done first x = isChosen (caseOf default x (membersOf labels v (fieldsOf b order done first)))
+labelBefore labels v b order default done first x = onArm (caseOf default x (membersOf labels v (fieldsOf b order done first))) (λ _. true) false
 
 abbrev pub labelStep : Labels → List ℕ → List ℕ → Place → Order → ℕ → ℕ → Index → Index → Step
 labelStep NoLabels v s b order default done first i = Next i

@@ -1,9 +1,10 @@
 -- "Type refusals, first fault in octet order: 42 over 16,384 octets (before all else)" and so on: 01's number of each. 39 is none of
 -- these: it comes "last of all", when no octet is at fault.
 --   refusalNumber    the number of a refusal
-use Prim.Native.Nat.{ℕ}
+use Rattle.choices.specs.{ℕ}
 use Rattle.fields.specs.declared.Refusal.{Refusal}
-use Rattle.fields.specs.declared.Refusal.the-variants.{Ends, NoSuchKind, BadText, BadEncapsulation, NoCount, BadUnion, BadTarget, TooManyKinds, TooDeep, BelowTop, TooLong}
+use Rattle.fields.specs.declared.Refusal.the-variants.{Ends, NoSuchKind, BadText, BadEncapsulation, NoCount, BadUnion, BadTarget}
+use Rattle.fields.specs.declared.Refusal.the-variants.{TooManyKinds, TooDeep, BelowTop, TooLong}
 
 abbrev pub refusalNumber : Refusal → ℕ
 refusalNumber Ends = 30

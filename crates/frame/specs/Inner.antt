@@ -1,4 +1,4 @@
--- What the private functions of the crate ask of each other; nothing that a caller is told rests on these names.
+-- What private functions ask of each other; nothing that a caller is told rests on these names.
 --   IdThere    the octets of the header, and those of the request id of a message that has one
 use mathlib.Core.Path.{_≡_}
 use mathlib.Core.Bool.{true}

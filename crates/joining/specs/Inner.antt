@@ -1,4 +1,4 @@
--- What the private functions of the crate ask of each other; nothing that a caller is told rests on these names.
+-- What private functions ask of each other; nothing that a caller is told rests on these names.
 --   Sound       an accepted message, a record that is not refused, and places that have their octets
 --   lacksPlace  whether a message is a first fragment, and no place is free for it
 --   Opening     a first fragment's octets, and places that have theirs

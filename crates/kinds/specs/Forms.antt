@@ -2,11 +2,8 @@
 --   indirectionKind    "kind FFFFFFFF is an indirection"
 --   formOf             nothing follows 0 to 10, 23 and 24; "kind 18 is followed by a bound"; "kinds 14 to 17 and 19 to 22 are followed
 --                      by an encapsulation", whose layout is the kind's own; no other kind is listed
-use Prim.Native.Nat.{ℕ}
-use mathlib.Core.Bool.{cond}
-use lib.Dec.{ltb, eqb}
-use Rattle.kinds.specs.declared.Form.{Form}
-use Rattle.kinds.specs.declared.Form.the-variants.{Unlisted, Plain, Bounded, Composite}
+use Rattle.choices.specs.{ℕ, cond, ltb, eqb}
+use Rattle.kinds.specs.Names.{Form, Unlisted, Plain, Bounded, Composite}
 use Rattle.kinds.specs.declared.Layout.the-variants.{Objref, Struct, Union, Enum, Sequence, Array, Alias, Exception}
 
 abbrev pub indirectionKind : ℕ

@@ -4,15 +4,9 @@
 --   membersFrom    n members from an index on, as far as they are there
 --   membersOf      the members that are listed somewhere
 --   typesOf        their types, in octet order
-use Prim.Native.Nat.{ℕ, zero, suc}
-use mathlib.Core.List.{List, [], _∷_}
-use Rattle.cdr.specs.declared.Index.{Index}
-use Rattle.cdr.specs.declared.Place.{Place}
-use Rattle.cdr.specs.declared.Order.{Order}
-use Rattle.kinds.specs.declared.Inner.{Inner}
-use Rattle.kinds.specs.declared.Labels.{Labels}
-use Rattle.kinds.specs.declared.Labels.the-variants.{Of, NoLabels}
-use Rattle.kinds.specs.declared.Fields.{Fields}
+use Rattle.choices.specs.{ℕ, zero, suc, List, [], _∷_}
+use Rattle.cdr.specs.{Index, Place, Order}
+use Rattle.kinds.specs.Names.{Inner, Labels, Of, NoLabels, Fields}
 use Rattle.kinds.specs.Parts.{onField, onSpot, fieldIn, memberAt}
 
 pub record Member : Type 0 where

@@ -11,36 +11,15 @@
 --   encapsulated        the same behind its order octet
 --   parametersAfter     what follows a kind that was read
 --   parametersAt        the parameters of a kind that is written
-use Prim.Native.Nat.{ℕ, _+_, _-_}
-use mathlib.Core.List.{List}
-use mathlib.Core.Bool.{cond}
-use lib.Dec.{ltb}
-use lib.ListN.{length, getD}
-use Rattle.cdr.specs.declared.Index.{Index}
-use Rattle.cdr.specs.declared.Place.{Place}
-use Rattle.cdr.specs.declared.Order.{Order}
-use Rattle.cdr.specs.declared.Named.{Named}
-use Rattle.cdr.specs.declared.Named.the-variants.{Is, NoOrder}
-use Rattle.cdr.specs.declared.Size.the-variants.{Four}
-use Rattle.encapsulation.specs.declared.Field.{Field}
-use Rattle.encapsulation.specs.declared.Field.the-variants.{NoField}
-use Rattle.kinds.specs.declared.Form.{Form}
-use Rattle.kinds.specs.declared.Form.the-variants.{Unlisted, Plain, Bounded, Composite}
-use Rattle.kinds.specs.declared.Layout.{Layout}
-use Rattle.kinds.specs.declared.Layout.the-variants.{Objref as objref, Struct as struct, Union as union, Enum as enum, Sequence as sequence, Array as array, Alias as alias, Exception as exception}
-use Rattle.kinds.specs.declared.Kind.{Kind}
-use Rattle.kinds.specs.declared.Inner.{Inner}
-use Rattle.kinds.specs.declared.Spot.{Spot}
-use Rattle.kinds.specs.declared.Spot.the-variants.{Nowhere}
-use Rattle.kinds.specs.declared.Element.{Element}
-use Rattle.kinds.specs.declared.Element.the-variants.{Holds, NoElement}
-use Rattle.kinds.specs.declared.Fields.{Fields}
-use Rattle.kinds.specs.declared.Inert.the-variants.{Leaf, Text, Objref, Enum}
-use Rattle.kinds.specs.declared.Parameters.{Parameters}
+use Rattle.choices.specs.{ℕ, _+_, _-_, List, cond, ltb, length, getD}
+use Rattle.cdr.specs.{Index, Place, Order, Named, Is, NoOrder, Four, indexOf, orderOf}
+use Rattle.encapsulation.specs.{Field, NoField}
+use Rattle.kinds.specs.Names.{Form, Unlisted, Plain, Bounded, Composite, Layout, Kind, Inner, Spot, Nowhere, Element, Holds}
+use Rattle.kinds.specs.Names.{NoElement, Fields, Leaf, Text, Objref, Enum}
+use Rattle.kinds.specs.{declared.Parameters.Parameters, Forms.formOf}
+use Rattle.kinds.specs.declared.Layout.the-variants.{Objref as objref, Struct as struct, Union as union, Enum as enum}
+use Rattle.kinds.specs.declared.Layout.the-variants.{Sequence as sequence, Array as array, Alias as alias, Exception as exception}
 use Rattle.kinds.specs.declared.Parameters.the-variants.{Fault, Flat, Struct, Exception, Union, Sequence, Array, Alias}
-use Rattle.cdr.specs.Align.{indexOf}
-use Rattle.cdr.specs.Orders.{orderOf}
-use Rattle.kinds.specs.Forms.{formOf}
 use Rattle.kinds.specs.Parts.{placeOf, onField, onSkip, onSpot, fieldIn, spotAt, namesIn}
 
 abbrev pub fieldsOf : Place → Order → ℕ → Index → Fields

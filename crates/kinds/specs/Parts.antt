@@ -21,35 +21,11 @@
 --   leadIn         the label before a member's name, where members have labels, passed over
 --   memberAt       a member: a label where there are labels, a name, a type
 --   namesIn        id and name passed over, the first two parameters of all but a sequence and an array
-use Prim.Native.Nat.{ℕ, _+_, _-_, _/_, _^_}
-use mathlib.Core.List.{List}
-use mathlib.Core.Bool.{cond}
-use lib.Dec.{ltb, eqb}
-use lib.ListN.{drop}
-use Rattle.cdr.specs.declared.Index.{Index}
-use Rattle.cdr.specs.declared.Place.{Place}
-use Rattle.cdr.specs.declared.Order.{Order}
-use Rattle.cdr.specs.declared.Size.{Size}
-use Rattle.cdr.specs.declared.Size.the-variants.{Four}
-use Rattle.encapsulation.specs.declared.Field.{Field}
-use Rattle.encapsulation.specs.declared.Field.the-variants.{Value, NoField}
-use Rattle.encapsulation.specs.declared.Counted.{Counted}
-use Rattle.encapsulation.specs.declared.Counted.the-variants.{Octets, NoOctets}
-use Rattle.kinds.specs.declared.Form.{Form}
-use Rattle.kinds.specs.declared.Form.the-variants.{Unlisted, Plain, Bounded, Composite}
-use Rattle.kinds.specs.declared.Skip.{Skip}
-use Rattle.kinds.specs.declared.Skip.the-variants.{Past, NoEnd}
-use Rattle.kinds.specs.declared.Target.{Target}
-use Rattle.kinds.specs.declared.Target.the-variants.{To, Outside}
-use Rattle.kinds.specs.declared.Kind.{Kind}
-use Rattle.kinds.specs.declared.Inner.{Inner}
-use Rattle.kinds.specs.declared.Inner.the-variants.{Here, There}
-use Rattle.kinds.specs.declared.Spot.{Spot}
-use Rattle.kinds.specs.declared.Spot.the-variants.{At, Nowhere}
-use Rattle.kinds.specs.declared.Labels.{Labels}
-use Rattle.kinds.specs.declared.Labels.the-variants.{Of, NoLabels}
-use Rattle.cdr.specs.Align.{indexOf}
-use Rattle.encapsulation.specs.Encapsulation.{fieldOf, countedOf}
+use Rattle.choices.specs.{ℕ, _+_, _-_, _/_, _^_, List, cond, ltb, eqb, drop}
+use Rattle.cdr.specs.{Index, Place, Order, Size, Four, indexOf}
+use Rattle.encapsulation.specs.{Field, Value, NoField, Counted, Octets, NoOctets, fieldOf, countedOf}
+use Rattle.kinds.specs.Names.{Form, Unlisted, Plain, Bounded, Composite, Skip, Past, NoEnd, Target, To, Outside, Kind, Inner, Here}
+use Rattle.kinds.specs.Names.{There, Spot, At, Nowhere, Labels, Of, NoLabels}
 use Rattle.kinds.specs.Forms.{indirectionKind, formOf}
 
 abbrev pub placeOf : ℕ → Place

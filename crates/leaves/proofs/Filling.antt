@@ -13,9 +13,9 @@ use Rattle.cdr.specs.Number.{readOf}
 use Rattle.reading.specs.Sinks.{Source, Item, item, St, st, taken}
 use Rattle.reading.specs.Visit.{Checked}
 use Rattle.reading.specs.Reading.{Log, logging, reads, levels, atStart, topOf, reading}
-use Rattle.reading.specs.Value.{flat, itemNo}
+use Rattle.reading.specs.Value.{roomIn, flat, itemNo}
 use Rattle.reading.proofs.Sim.{Steps, reads-step}
-use Rattle.leaves.specs.Lent.{Lent, lentOf, rowsIn, set3, rowPut, lent}
+use Rattle.leaves.specs.Lent.{Lent, lentOf, set3, rowPut, lent}
 
 -- a table keeps its length
 
@@ -24,7 +24,7 @@ set3-long table j a b c = simp length-set
 
 row-long : (first i : ℕ) (x : Item) (table : List ℕ) → length (rowPut first i x table) ≡ length table
 unfolding rowPut
-row-long first i x table = by-tests (ltb i first) (leb (rowsIn table) (i - first))
+row-long first i x table = by-tests (ltb i first) (leb (roomIn table) (i - first))
   where
     by-tests : (a b : Bool)
         → length (cond a table (cond b table (set3 table ((i - first) * 3) (x .kind) (x .place) (x .content)))) ≡ length table
@@ -87,11 +87,11 @@ module _ (fill : Bool) (first : ℕ) (table : List ℕ) where
     pub rows : s′ .kept .table ≡ stored fill first table (s .kept .items)
 
 -- the room of a table, where it counts
-abbrev pub roomIn : Bool → List ℕ → ℕ → Bool
-roomIn limited table n = limited && leb (rowsIn table) n
+abbrev pub fullAt : Bool → List ℕ → ℕ → Bool
+fullAt limited table n = limited && leb (roomIn table) n
 
 module _ (limited fill : Bool) (first : ℕ) (x : Source) (table : List ℕ) where
-  beside : Steps (logging (roomIn limited table)) (lent limited fill first) x x Small (Beside fill first table) _≡_
+  beside : Steps (logging (fullAt limited table)) (lent limited fill first) x x Small (Beside fill first table) _≡_
   unfolding taken
   beside = record {
     q-refl = λ p. refl;
@@ -115,7 +115,7 @@ module _ (limited fill : Bool) (first : ℕ) (x : Source) (table : List ℕ) whe
     };
     same-full = λ i s s′ r e.
         let l : length (s′ .kept .table) ≡ length table = ap length (r .rows) ∙ stored-long fill first table (s .kept .items) in
-        sym (ap (λ (n : ℕ). limited && leb (n / 3) (s′ .kept .items)) l ∙ ap (roomIn limited table) (r .items));
+        sym (ap (λ (n : ℕ). limited && leb (n / 3) (s′ .kept .items)) l ∙ ap (fullAt limited table) (r .items));
     by-put = λ kind p p′ n s s′ q r b e.
         let l : length (s .kept .items ++ (item kind p n ∷ [])) ≡ length (s .kept .items) + 1
         = length-append (s .kept .items) (item kind p n ∷ []) in
@@ -152,32 +152,32 @@ module _ (limited fill : Bool) (first : ℕ) (x : Source) (table : List ℕ) whe
   starts true = refl
   starts false = refl
 
-  pub walked : (t : Checked) → Small (reading (roomIn limited table) x t)
-      → Beside fill first table (reading (roomIn limited table) x t)
+  pub walked : (t : Checked) → Small (reading (fullAt limited table) x t)
+      → Beside fill first table (reading (fullAt limited table) x t)
       (reads (lent limited fill first) x t levels (topOf t) (st 0 0 0 (lentOf 0 0 table)))
   unfolding reading
   walked t e =
-      reads-step (logging (roomIn limited table)) (lent limited fill first) x x Small (Beside fill first table) _≡_ beside t levels (topOf t) .both
+      reads-step (logging (fullAt limited table)) (lent limited fill first) x x Small (Beside fill first table) _≡_ beside t levels (topOf t) .both
       atStart (st 0 0 0 (lentOf 0 0 table))
       (record { at = refl; fault = refl; last = refl; visits = refl; items = refl; rows = starts fill }) e
 
 -- item j from the first on goes into row j, where the table has room for it
-pub row-put : (first i j : ℕ) (x : Item) (table : List ℕ) → i ≡ first + j → j < rowsIn table
+pub row-put : (first i j : ℕ) (x : Item) (table : List ℕ) → i ≡ first + j → j < roomIn table
     → rowPut first i x table ≡ set3 table (j * 3) (x .kind) (x .place) (x .content)
 unfolding rowPut
 row-put first i j x table e room =
     let d : i - first ≡ j = omega arith in
     let h : first ≤ i = omega arith in
-    rw (le-ltb i first h, d, lt-leb (rowsIn table) j room)
+    rw (le-ltb i first h, d, lt-leb (roomIn table) j room)
 
 -- an item before the first, and one that the table has no room for, leave it as it was
 row-before : (first i : ℕ) (x : Item) (table : List ℕ) → i < first → rowPut first i x table ≡ table
 unfolding rowPut
 row-before first i x table h = rw (lt-ltb i first h)
 
-row-behind : (first i : ℕ) (x : Item) (table : List ℕ) → first ≤ i → rowsIn table ≤ i - first → rowPut first i x table ≡ table
+row-behind : (first i : ℕ) (x : Item) (table : List ℕ) → first ≤ i → roomIn table ≤ i - first → rowPut first i x table ≡ table
 unfolding rowPut
-row-behind first i x table h room = rw (le-ltb i first h, le-leb (rowsIn table) (i - first) room)
+row-behind first i x table h room = rw (le-ltb i first h, le-leb (roomIn table) (i - first) room)
 
 set3-sets : (table : List ℕ) (i : ℕ) (x : Item) (rest : List ℕ)
     → sets (set3 table (i * 3) (x .kind) (x .place) (x .content)) ((i + 1) * 3) rest
@@ -188,7 +188,7 @@ set3-sets table i x rest =
     let c : (i + 1) * 3 ≡ suc (suc (suc (i * 3))) = omega arith in
     rw (c, a, b)
 
-filled-from : (i : ℕ) (is : List Item) (table : List ℕ) → i + length is ≤ rowsIn table
+filled-from : (i : ℕ) (is : List Item) (table : List ℕ) → i + length is ≤ roomIn table
     → rowsFrom 0 i is table ≡ sets table (i * 3) (flat is)
 unfolding rowsFrom flat
 filled-from i [] table h = refl
@@ -199,7 +199,7 @@ filled-from i (x ∷ is) table h =
     ap (rowsFrom 0 (i + 1) is) put ∙ filled-from (i + 1) is row (omega arith) ∙ set3-sets table i x (flat is)
 
 -- a table with room for all items has them from its start
-pub filled : (is : List Item) (table : List ℕ) → length is ≤ rowsIn table → rowsFrom 0 0 is table ≡ sets table 0 (flat is)
+pub filled : (is : List Item) (table : List ℕ) → length is ≤ roomIn table → rowsFrom 0 0 is table ≡ sets table 0 (flat is)
 filled is table h = filled-from 0 is table (omega arith)
 
 -- the row of an item

@@ -22,7 +22,8 @@ use Rattle.reading.specs.Visit.{sizeOf, contentOf}
 use Rattle.reading.proofs.Ways as way
 use Rattle.leaves.specs.declared.Mode.{Mode}
 use Rattle.leaves.specs.declared.Cursor.{Cursor}
-use Rattle.leaves.specs.Lent.{Lent, lentOf, rowsIn, set3, rowPut}
+use Rattle.reading.specs.Value.{roomIn}
+use Rattle.leaves.specs.Lent.{Lent, lentOf, set3, rowPut}
 use Rattle.leaves.specs.Walk.{sinkOf, sourceOf, stateOf, leafVisit}
 use Rattle.leaves.specs.Inner.{Plain, Row, Into, Fits, Filled, valueOf}
 use Rattle.leaves.proofs.Filling.{set3-long, row-put}
@@ -92,8 +93,8 @@ row-all {v} {m} {kind} {z} {n} {p} {c} w e r h =
     record { plain = r .plain; sized = r .sized; place = r .place; fits = omega arith }
 
 pub row-into : (m : Mode) (n : ℕ) (c : Cursor) (table : List ℕ) → m .fill ≡ true → m .first ≡ 0
-    → (true && ltb (rowsIn table) (c .items + n)) ≡ false → Into m n c table
-row-into m n c table f g e = record { fill = f; first = g; room = ltb-false (rowsIn table) (c .items + n) e }
+    → (true && ltb (roomIn table) (c .items + n)) ≡ false → Into m n c table
+row-into m n c table f g e = record { fill = f; first = g; room = ltb-false (roomIn table) (c .items + n) e }
 
 pub row-first : {v : List ℕ} {m : Mode} {kind : ℕ} {z : Size} {n p x : ℕ} {c : Cursor} → Plain kind n (c .fault) → z ≡ sizeOf kind
     → readOf v (m .start) (c .at) z (m .order) ≡ Number p x → Row v m kind z n p c 1
@@ -136,12 +137,12 @@ octet-kind kind e = record { sized = rw e; same = λ x. rw e }
 
 -- a row of octets that has room
 module _ {v : List ℕ} {m : Mode} {kind : ℕ} {z : Size} {n p : ℕ} {c : Cursor} (r : Row v m kind z n p c n) (o : OctetKind kind) where
-  pub row-fits : (table : List ℕ) → (true && ltb (rowsIn table) (c .items + n)) ≡ false → Fits v n c table
+  pub row-fits : (table : List ℕ) → (true && ltb (roomIn table) (c .items + n)) ≡ false → Fits v n c table
   row-fits table e =
       let f : p + n * 1 ≤ length v = subst (λ (y : Size). p + n * octets y ≤ length v) (r .sized ∙ sym (o .sized)) (r .fits) in
       let g : p ≡ behindGap (m .start) (c .at) 1
       = subst (λ (y : Size). p ≡ behindGap (m .start) (c .at) (octets y)) (r .sized ∙ sym (o .sized)) (r .place) in
-      let h : c .items + n ≤ rowsIn table = ltb-false (rowsIn table) (c .items + n) e in
+      let h : c .items + n ≤ roomIn table = ltb-false (roomIn table) (c .items + n) e in
       record { octets = omega arith; room = h }
 
   pub row-filled : m .fill ≡ true → m .first ≡ 0 → Filled m kind n c
@@ -166,7 +167,7 @@ module _ (m : Mode) (v : List ℕ) (kind : ℕ) (z : Size) (big : 2 ≤ kind) (o
 
   -- one visit of a number that is there and has room
   pub visit-one : (p : ℕ) (s : St Lent) → p ≡ behindGap (m .start) (s .at) (octets z) → p + octets z ≤ length v
-      → (m .limited && leb (rowsIn (s .kept .table)) (s .kept .items)) ≡ false
+      → (m .limited && leb (roomIn (s .kept .table)) (s .kept .items)) ≡ false
       → leafVisit m v kind s
       ≡ st (p + octets z) (s .fault) (valueAt p)
       (lentOf ((s .kept .visits + 1) % 2 ^ 64) ((s .kept .items + 1) % 2 ^ 64) (tableWith p (s .kept .items) (s .kept .table)))
@@ -182,7 +183,7 @@ module _ (m : Mode) (v : List ℕ) (kind : ℕ) (z : Size) (big : 2 ≤ kind) (o
   -- a row of visits that goes into no table
   module _ (dry : m .fill ≡ false) where
     visit-dry : (p : ℕ) (s : St Lent) → p ≡ behindGap (m .start) (s .at) (octets z) → p + octets z ≤ length v
-        → (m .limited && leb (rowsIn (s .kept .table)) (s .kept .items)) ≡ false
+        → (m .limited && leb (roomIn (s .kept .table)) (s .kept .items)) ≡ false
         → leafVisit m v kind s
         ≡ st (p + octets z) (s .fault) (valueAt p) (lentOf ((s .kept .visits + 1) % 2 ^ 64) ((s .kept .items + 1) % 2 ^ 64) (s .kept .table))
     visit-dry p s e f room =
@@ -191,14 +192,14 @@ module _ (m : Mode) (v : List ℕ) (kind : ℕ) (z : Size) (big : 2 ≤ kind) (o
         (cond b (rowPut (m .first) (s .kept .items) (item kind p (contentOf kind (valueAt p))) (s .kept .table)) (s .kept .table)))) dry
 
     row-dry : (n p : ℕ) (s : St Lent) → s .fault ≡ 0 → p ≡ behindGap (m .start) (s .at) (octets z) → p + suc n * octets z ≤ length v
-        → (m .limited && ltb (rowsIn (s .kept .table)) (s .kept .items + suc n)) ≡ false
+        → (m .limited && ltb (roomIn (s .kept .table)) (s .kept .items + suc n)) ≡ false
         → repeats (leafVisit m v kind) (suc n) s
         ≡ st (p + suc n * octets z) (s .fault) (valueAt (p + n * octets z))
         (lentOf ((s .kept .visits + suc n) % 2 ^ 64) ((s .kept .items + suc n) % 2 ^ 64) (s .kept .table))
     unfolding repeats
     row-dry zero p s fine e f room =
         let o = next-one z 0 in
-        let one = visit-dry p s e (omega arith) (room-now (m .limited) (rowsIn (s .kept .table)) (s .kept .items) 0 room) in
+        let one = visit-dry p s e (omega arith) (room-now (m .limited) (roomIn (s .kept .table)) (s .kept .items) 0 room) in
         way.goes-on (repeats (leafVisit m v kind) 0) (leafVisit m v kind s) _ (sym one) fine
         ∙ st-same (omega arith) (ap valueAt (omega arith)) refl refl
     row-dry (suc n) p s fine e f room =
@@ -208,10 +209,10 @@ module _ (m : Mode) (v : List ℕ) (kind : ℕ) (z : Size) (big : 2 ≤ kind) (o
         = subst (λ (i : ℕ). i + octets z ≡ behindGap (m .start) (i + octets z) (octets z)) (sym e)
         (subst (λ (i : ℕ). behindGap (m .start) (s .at) (octets z) + i ≡ behindGap (m .start) (behindGap (m .start) (s .at) (octets z) + i) (octets z))
         (let w = next-one z 0 in omega arith) (sym (in-row z (m .start) (s .at) 1))) in
-        let one = visit-dry p s e (omega arith) (room-now (m .limited) (rowsIn (s .kept .table)) (s .kept .items) (suc n) room) in
+        let one = visit-dry p s e (omega arith) (room-now (m .limited) (roomIn (s .kept .table)) (s .kept .items) (suc n) room) in
         let s′ : St Lent = st (p + octets z) (s .fault) (valueAt p) (lentOf ((s .kept .visits + 1) % 2 ^ 64) ((s .kept .items + 1) % 2 ^ 64) (s .kept .table)) in
         way.goes-on (repeats (leafVisit m v kind) (suc n)) (leafVisit m v kind s) s′ (sym one) fine
-        ∙ row-dry n (p + octets z) s′ fine q (omega arith) (room-next (m .limited) (rowsIn (s .kept .table)) (s .kept .items) (suc n) room)
+        ∙ row-dry n (p + octets z) s′ fine q (omega arith) (room-next (m .limited) (roomIn (s .kept .table)) (s .kept .items) (suc n) room)
         ∙ st-same (omega arith) (ap valueAt (omega arith)) (omega arith) (omega arith)
 
   -- the last number of a row is there
@@ -233,7 +234,7 @@ module _ (m : Mode) (v : List ℕ) (kind : ℕ) (z : Size) (big : 2 ≤ kind) (o
   pub row-passed : (n p : ℕ) (c : Cursor) → Row v m kind z n p c n → m .fill ≡ false
       → (w : ℕ) → w ≡ octets z → (q x : ℕ) → readOf v (m .start) (p + (n - 1) * w) z (m .order) ≡ Number q x
       → (visits items : ℕ) → visits ≡ (c .visits + n) % 2 ^ 64 → items ≡ (c .items + n) % 2 ^ 64
-      → (table : List ℕ) → (m .limited && ltb (rowsIn table) (c .items + n)) ≡ false
+      → (table : List ℕ) → (m .limited && ltb (roomIn table) (c .items + n)) ≡ false
       → st (q + w) (c .fault) x (lentOf visits items table) ≡ repeats (leafVisit m v kind) n (stateOf c table)
   row-passed zero p c r dry w ew q x e visits items ev ei table room = absurd (let h = r .plain .some in omega arith)
   row-passed (suc n) p c r dry w ew q x e visits items ev ei table room =
@@ -255,7 +256,7 @@ module _ (v : List ℕ) (kind n : ℕ) (c : Cursor) where
   abbrev octetState : ℕ → ℕ → List ℕ → St Lent
   octetState k last table = st (c .at + k) (c .fault) last (lentOf ((c .visits + k) % 2 ^ 64) (c .items + k) table)
 
-  octet-visit : (m : Mode) → Filled m kind n c → (k last : ℕ) (table : List ℕ) → c .at + k < length v → c .items + k < rowsIn table
+  octet-visit : (m : Mode) → Filled m kind n c → (k last : ℕ) (table : List ℕ) → c .at + k < length v → c .items + k < roomIn table
       → length table < 2 ^ 64
       → leafVisit m v kind (octetState k last table)
       ≡ octetState (k + 1) (getD v (c .at + k) 0) (set3 table ((c .items + k) * 3) kind (c .at + k) (getD v (c .at + k) 0))
@@ -268,7 +269,7 @@ module _ (v : List ℕ) (kind n : ℕ) (c : Cursor) where
       ∙ row-put 0 (c .items + k) (c .items + k) (item kind (c .at + k) (contentOf kind (numberAt v (c .at + k) 1 (m .order)))) table (omega arith) room
       ∙ ap (λ (y : ℕ). set3 table ((c .items + k) * 3) kind (c .at + k) y) (h .same (numberAt v (c .at + k) 1 (m .order)) ∙ one) in
       visit-one m v kind One (h .plain .primitive) (h .plain .other) (h .sized) (c .at + k) (octetState k last table) (omega arith) (omega arith)
-      (room-some (m .limited) (rowsIn table) (c .items + k) room)
+      (room-some (m .limited) (roomIn table) (c .items + k) room)
       ∙ ap (λ (l : List ℕ). st (c .at + k + 1) (c .fault) (numberAt v (c .at + k) 1 (m .order))
       (lentOf (((c .visits + k) % 2 ^ 64 + 1) % 2 ^ 64) ((c .items + k + 1) % 2 ^ 64) l)) t
       ∙ st-same (omega arith) one (omega arith) (omega arith)
@@ -292,7 +293,7 @@ module _ (v : List ℕ) (kind n : ℕ) (c : Cursor) where
         let l : length table′ ≡ length table = ap length et ∙ set3-long table ((c .items + k) * 3) kind (c .at + k) x in
         let g = i .long in
         let a = f .octets in
-        let r : c .items + n ≤ rowsIn table = subst (λ (j : ℕ). c .items + n ≤ j / 3) (sym g) (f .room) in
+        let r : c .items + n ≤ roomIn table = subst (λ (j : ℕ). c .items + n ≤ j / 3) (sym g) (f .room) in
         record {
           few = omega arith;
           long = l ∙ g;
@@ -339,7 +340,7 @@ module _ (m : Mode) (v : List ℕ) (kind : ℕ) (z : Size) (n p : ℕ) (c : Curs
     pub going : Going (leafVisit m v kind) n k (firstState table₀) (rowState k last table)
 
   module _ (r : Row v m kind z n p c n) (table₀ : List ℕ) (into : Into m n c table₀) where
-    row-visit : (k last : ℕ) (table : List ℕ) → k < n → c .items + k < rowsIn table → length table < 2 ^ 64
+    row-visit : (k last : ℕ) (table : List ℕ) → k < n → c .items + k < roomIn table → length table < 2 ^ 64
         → leafVisit m v kind (rowState k last table)
         ≡ rowState (k + 1) (valueNo k) (set3 table ((c .items + k) * 3) kind (placeNo k) (contentOf kind (valueNo k)))
     row-visit k last table more room small =
@@ -352,7 +353,7 @@ module _ (m : Mode) (v : List ℕ) (kind : ℕ) (z : Size) (n p : ℕ) (c : Curs
         let o′ : (k + 1) * octets z ≡ suc k * octets z = ap (λ (i : ℕ). i * octets z) (omega arith) in
         visit-one m v kind z (r .plain .primitive) (r .plain .other) (r .sized) (placeNo k) (rowState k last table) (place-in-row r k)
         (fits-one z n k p (length v) more (r .fits))
-        (room-some (m .limited) (rowsIn table) (c .items + k) room)
+        (room-some (m .limited) (roomIn table) (c .items + k) room)
         ∙ ap (λ (l : List ℕ). st (placeNo k + octets z) (c .fault) (valueNo k)
         (lentOf (((c .visits + k) % 2 ^ 64 + 1) % 2 ^ 64) ((c .items + k + 1) % 2 ^ 64) l)) t
         ∙ st-same (omega arith) refl (omega arith) (omega arith)
@@ -370,7 +371,7 @@ module _ (m : Mode) (v : List ℕ) (kind : ℕ) (z : Size) (n p : ℕ) (c : Curs
     storing-more k last w q x y table table′ i small more ew eq ex ey et =
         let l : length table′ ≡ length table = ap length et ∙ set3-long table ((c .items + k) * 3) kind q y in
         let g = i .long in
-        let room : c .items + n ≤ rowsIn table = subst (λ (j : ℕ). c .items + n ≤ j / 3) (sym g) (into .room) in
+        let room : c .items + n ≤ roomIn table = subst (λ (j : ℕ). c .items + n ≤ j / 3) (sym g) (into .room) in
         let at : q ≡ placeNo k = eq ∙ ap (λ (j : ℕ). p + k * j) ew in
         let value : x ≡ valueNo k = ex ∙ ap (λ (j : ℕ). numberAt v j (octets z) (m .order)) at in
         let step : rowState (k + 1) x table′ ≡ leafVisit m v kind (rowState k last table)
@@ -390,7 +391,7 @@ module _ (m : Mode) (v : List ℕ) (kind : ℕ) (z : Size) (n p : ℕ) (c : Curs
         let o = next-one z j in
         let f : p + suc j * octets z ≤ length v = subst (λ (i : ℕ). p + i * octets z ≤ length v) e (r .fits) in
         let g = into .room in
-        let room = room-some (m .limited) (rowsIn table₀) (c .items) (omega arith) in
+        let room = room-some (m .limited) (roomIn table₀) (c .items) (omega arith) in
         let a = visit-one m v kind z (r .plain .primitive) (r .plain .other) (r .sized) p (firstState table₀) place (omega arith) room in
         let b = visit-one m v kind z (r .plain .primitive) (r .plain .other) (r .sized) p (stateOf c table₀) (r .place) (omega arith) room in
         ap (λ (u : St Lent). after u (repeats (leafVisit m v kind) j)) (a ∙ sym b)

@@ -1,24 +1,14 @@
--- What the private functions of the crate promise each other; nothing that a caller is told rests on these names.
+-- What private functions promise each other; nothing that a caller is told rests on these names.
 --   Plain    visits that may go at once: of numbers that are not tested, few enough that no place wraps, and nothing is refused yet
 --   Row      plain visits of n numbers of a size, the first at p, of which k fit the octets
 --   Into     n items go into the table, from its start on, and have room
 --   Fits     n octets from a cursor on fit the octets, and their items the table
 --   Filled   plain visits of n octets that go into the table as they are
 --   valueOf  a number that was read, or 0
-use mathlib.Core.Path.{_≡_}
-use mathlib.Core.Bool.{true}
-use mathlib.Core.List.{List}
-use Prim.Native.Nat.{ℕ, _+_, _*_, _≤_, _<_}
-use lib.ListN.{length}
-use Rattle.cdr.specs.declared.Size.{Size}
-use Rattle.cdr.specs.declared.Size.the-variants.{One}
-use Rattle.cdr.specs.declared.Read.{Read}
-use Rattle.cdr.specs.declared.Read.the-variants.{Number, Ends}
-use Rattle.cdr.specs.Align.{octets, behindGap}
-use Rattle.reading.specs.Visit.{sizeOf, contentOf}
-use Rattle.leaves.specs.declared.Mode.{Mode}
-use Rattle.leaves.specs.declared.Cursor.{Cursor}
-use Rattle.leaves.specs.Lent.{rowsIn}
+use Rattle.choices.specs.{_≡_, true, List, ℕ, _+_, _*_, _≤_, _<_, length}
+use Rattle.cdr.specs.{Size, One, Read, Ends, octets, behindGap, declared.Read.the-variants.Number}
+use Rattle.reading.specs.{Visit.sizeOf, Visit.contentOf, Value.roomIn}
+use Rattle.leaves.specs.{declared.Mode.Mode, declared.Cursor.Cursor}
 
 pub record Plain (kind count fault : ℕ) : Type 0 where
   pub primitive : 2 ≤ kind
@@ -36,11 +26,11 @@ pub record Row (v : List ℕ) (m : Mode) (kind : ℕ) (size : Size) (n p : ℕ) 
 pub record Into (m : Mode) (n : ℕ) (c : Cursor) (table : List ℕ) : Type 0 where
   pub fill : m .fill ≡ true
   pub first : m .first ≡ 0
-  pub room : c .items + n ≤ rowsIn table
+  pub room : c .items + n ≤ roomIn table
 
 pub record Fits (v : List ℕ) (n : ℕ) (c : Cursor) (table : List ℕ) : Type 0 where
   pub octets : c .at + n ≤ length v
-  pub room : c .items + n ≤ rowsIn table
+  pub room : c .items + n ≤ roomIn table
 
 pub record Filled (m : Mode) (kind n : ℕ) (c : Cursor) : Type 0 where
   pub plain : Plain kind n (c .fault)

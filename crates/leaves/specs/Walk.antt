@@ -4,13 +4,9 @@
 --   stateOf     a cursor with the table as a state of the reading
 --   startOf     the cursor before the first octet
 --   leafVisit   a visit of a kind without parameters
-use Prim.Native.Nat.{ℕ}
-use mathlib.Core.List.{List}
-use Rattle.reading.specs.Sinks.{Source, source, Sink, St, st, begun}
-use Rattle.reading.specs.Visit.{leafAt}
-use Rattle.leaves.specs.declared.Mode.{Mode}
-use Rattle.leaves.specs.declared.Cursor.{Cursor}
-use Rattle.leaves.specs.Lent.{Lent, lentOf, lent}
+use Rattle.choices.specs.{ℕ, List}
+use Rattle.reading.specs.{Source, source, Sink, St, st, begun, Visit.leafAt}
+use Rattle.leaves.specs.{declared.Mode.Mode, declared.Cursor.Cursor, Lent.Lent, Lent.lentOf, Lent.lent}
 
 abbrev pub sinkOf : Mode → Sink Lent
 sinkOf m = lent (m .limited) (m .fill) (m .first)

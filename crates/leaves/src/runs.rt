@@ -8,7 +8,7 @@ ghost use Prim.Native.Nat.{ℕ, _+_, _≤_};
 ghost use Rattle.cdr.specs.Align.{octets, behindGap};
 ghost use Rattle.cdr.specs.Number.{numberAt};
 ghost use Rattle.reading.specs.Sinks.{repeats};
-ghost use Rattle.leaves.specs.Lent.{rowsIn};
+ghost use Rattle.reading.specs.Value.{roomIn};
 ghost use Rattle.leaves.specs.Walk.{stateOf, leafVisit};
 ghost use Rattle.leaves.specs.Inner.{Plain, Row, Into, Fits, Filled, valueOf};
 use crate::Cursor;
@@ -75,7 +75,7 @@ fn lacks_room(limited: bool, room: usize, items: usize, n: usize) -> bool
 // Numbers in a row from p on that go into no table.
 fn passed_over(v: &[u8], m: Mode, kind: u64, size: Size, n: usize, p: usize, c: Cursor) -> Cursor
     requires { ⌜ (Row (now v) m kind size n p c n) × (m .fill ≡ false) ⌝ }
-    ensures { λ r. ⌜ ((table : List ℕ) → (m .limited && ltb (rowsIn table) (c .items + n)) ≡ false → stateOf r table ≡ repeats (leafVisit m (now (v .entry)) kind) n (stateOf c table)) ⌝ }
+    ensures { λ r. ⌜ ((table : List ℕ) → (m .limited && ltb (roomIn table) (c .items + n)) ≡ false → stateOf r table ≡ repeats (leafVisit m (now (v .entry)) kind) n (stateOf c table)) ⌝ }
 {
     let w = size.octets();
     match crate::number_at(v, m, p + (n - 1) * w, size) {

@@ -1,4 +1,4 @@
--- What the private functions of the crate ask of each other; nothing that a caller is told rests on these names.
+-- What private functions ask of each other; nothing that a caller is told rests on these names.
 --   SameLF    a place in the block from which the search for the LF comes to the same place
 use mathlib.Core.Path.{_≡_}
 use mathlib.Core.List.{List}

@@ -1,4 +1,4 @@
--- What the private functions of the crate promise each other; nothing that a caller is told rests on these names.
+-- What private functions promise each other; nothing that a caller is told rests on these names.
 --   Memory         memory for a line's octets and for the message that they are joined to
 --   Room           room for the longest answer, and that memory
 --   Lists          a line's text put, and what the line leaves

@@ -1,14 +1,9 @@
--- What the private functions of the crate ask of each other; nothing that a caller is told rests on these names.
+-- What private functions ask of each other; nothing that a caller is told rests on these names.
 --   throughRow     a row after the round for kind k, whose own row is given
 --   RoundDone      the rows below n after the round for kind k
 --   Closed         the rows below n after the rounds for the kinds below k
 --   someReturns    whether some kind below n has a step to itself
-use mathlib.Core.Path.{_≡_}
-use mathlib.Core.Bool.{Bool, cond}
-use mathlib.Core.List.{List}
-use Prim.Native.Nat.{ℕ, _<_}
-use lib.Bits.{bitOr}
-use lib.ListN.{getD, length}
+use Rattle.choices.specs.{_≡_, Bool, cond, List, ℕ, _<_, bitOr, getD, length}
 use Rattle.loops.specs.Loops.{closure, anyBelow, mostKinds, bitAt, cell}
 
 unfoldable pub throughRow : ℕ → ℕ → ℕ → ℕ

@@ -10,12 +10,7 @@
 --   noSteps       steps of which there are none
 --   rowWith       a row with bit j set
 --   withStep      the steps and one from kind i to kind j; the steps as they are where i or j is not below 64
-use mathlib.Core.Bool.{Bool, false, cond, _&&_, _||_}
-use mathlib.Core.List.{List}
-use Prim.Native.Nat.{ℕ, zero, suc, _/_, _%_, _^_}
-use lib.Bits.{bitOr}
-use lib.Dec.{ltb, eqb}
-use lib.ListN.{getD, set, replicate}
+use Rattle.choices.specs.{Bool, false, cond, _&&_, _||_, List, ℕ, zero, suc, _/_, _%_, _^_, bitOr, ltb, eqb, getD, set, replicate}
 use Rattle.loops.specs.declared.Steps.{Steps}
 
 unfoldable pub closure : (ℕ → ℕ → Bool) → ℕ → ℕ → ℕ → Bool

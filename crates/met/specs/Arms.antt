@@ -8,18 +8,10 @@
 --   noDefault    "-1 for none", as an unsigned long
 --   defaultOf    the default member, if there is one
 --   onArm        what follows a member, and what follows none
---   isChosen     a member is chosen
 --   chosenOf     "the member with that label, else the default, else none"
-use Prim.Native.Nat.{ℕ, zero, suc, _+_, _-_}
-use mathlib.Core.List.{List, [], _∷_}
-use mathlib.Core.Bool.{Bool, true, false, _&&_}
-use lib.Dec.{eqb}
-use Rattle.choices.specs.Branch.{choose}
-use Rattle.kinds.specs.declared.Inner.{Inner}
-use Rattle.kinds.specs.Members.{Member}
-use Rattle.kinds.specs.Parts.{longRange}
-use Rattle.met.specs.declared.Arm.{Arm}
-use Rattle.met.specs.declared.Arm.the-variants.{Chosen, NoneChosen}
+use Rattle.choices.specs.{ℕ, zero, suc, _+_, _-_, List, [], _∷_, Bool, true, _&&_, eqb, choose}
+use Rattle.kinds.specs.{Inner, Member, longRange}
+use Rattle.met.specs.{declared.Arm.Arm, declared.Arm.the-variants.Chosen, declared.Arm.the-variants.NoneChosen}
 
 abbrev pub counts : ℕ → ℕ → Bool
 counts default j = true
@@ -49,10 +41,6 @@ defaultOf ms default = choose (eqb default noDefault) (λ _. NoneChosen) (λ _. 
 abbrev pub onArm : {A : Type 0} → Arm → (Inner → A) → A → A
 onArm (Chosen x) f a = f x
 onArm NoneChosen f a = a
-
-abbrev pub isChosen : Arm → Bool
-isChosen (Chosen x) = true
-isChosen NoneChosen = false
 
 unfoldable pub chosenOf : List Member → ℕ → ℕ → Arm
 chosenOf ms default x = onArm (caseOf default x ms) Chosen (defaultOf ms default)

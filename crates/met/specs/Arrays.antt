@@ -9,18 +9,10 @@
 --   hasRoom      there is room for one more kind, at a place and in an encapsulation that the entries can hold, as every one of a type of at
 --                most 16,384 octets is
 --   added        the struct with one more kind
-use Prim.Native.Nat.{ℕ, zero, suc, min, _+_}
-use mathlib.Core.List.{List, [], _∷_}
-use mathlib.Core.Bool.{Bool, cond, _&&_}
-use lib.Dec.{ltb, eqb}
-use lib.ListN.{getD, set, replicate}
-use Rattle.cdr.specs.declared.Place.{Place}
-use Rattle.cdr.specs.declared.Order.{Order}
-use Rattle.cdr.specs.declared.Order.the-variants.{Big, Little}
-use Rattle.kinds.specs.declared.Kind.{Kind}
+use Rattle.choices.specs.{ℕ, zero, suc, min, _+_, List, [], _∷_, Bool, cond, _&&_, ltb, eqb, getD, set, replicate}
+use Rattle.cdr.specs.{Place, Order, Big, Little, Orders.orderOctet}
+use Rattle.kinds.specs.{Kind, placeOf, writtenAt}
 use Rattle.met.specs.declared.Met.{Met}
-use Rattle.cdr.specs.Orders.{orderOctet}
-use Rattle.kinds.specs.Parts.{placeOf, writtenAt}
 
 abbrev pub orderIn : ℕ → Order
 orderIn octet = cond (eqb octet 1) Little Big

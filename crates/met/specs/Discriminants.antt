@@ -8,26 +8,12 @@
 --   aliasLimit         the most kinds, which is enough: a way that ends meets no kind twice (`resolved-exactly`, in `accepted`)
 --   labelsFor          the labels of a discriminant at a place, if its kind is one that a discriminant may have
 --   outOfKind          a label is not below its limit, of which 0 is none
-use Prim.Native.Nat.{ℕ, zero, suc}
-use mathlib.Core.List.{List}
-use mathlib.Core.Bool.{Bool, false, cond}
-use lib.Dec.{ltb, leb, eqb}
-use lib.ListN.{length}
-use Rattle.choices.specs.Branch.{choose}
-use Rattle.cdr.specs.declared.Place.{Place}
-use Rattle.cdr.specs.declared.Size.the-variants.{One, Two, Four, Eight}
-use Rattle.kinds.specs.declared.Inner.{Inner}
-use Rattle.kinds.specs.declared.Inert.{Inert}
-use Rattle.kinds.specs.declared.Inert.the-variants.{Leaf, Text, Objref, Enum}
-use Rattle.kinds.specs.declared.Parameters.{Parameters}
+use Rattle.choices.specs.{ℕ, zero, suc, List, Bool, false, cond, ltb, leb, eqb, length, choose}
+use Rattle.cdr.specs.{Place, One, Two, Four, Eight}
+use Rattle.kinds.specs.{Inner, Inert, Leaf, Text, Objref, Enum, Labels, Of, NoLabels, Kind, placeIn, declared.Parameters.Parameters}
 use Rattle.kinds.specs.declared.Parameters.the-variants.{Fault, Flat, Struct, Exception, Union, Sequence, Array, Alias}
-use Rattle.kinds.specs.declared.Labels.{Labels}
-use Rattle.kinds.specs.declared.Labels.the-variants.{Of, NoLabels}
-use Rattle.kinds.specs.declared.Kind.{Kind}
-use Rattle.met.specs.declared.Discriminant.{Discriminant}
+use Rattle.met.specs.{declared.Discriminant.Discriminant, Met.findKind, Met.parametersOf}
 use Rattle.met.specs.declared.Discriminant.the-variants.{Through, Says}
-use Rattle.kinds.specs.Parts.{placeIn}
-use Rattle.met.specs.Met.{findKind, parametersOf}
 
 unfoldable pub leafLabels : ℕ → Labels
 leafLabels kind =

@@ -4,3 +4,5 @@ pub mod Arrays
 pub mod Discriminants
 pub mod Arms
 pub mod Shapes
+pub use Shapes.{Shape, look}
+pub use Shapes.Shape.{fault, flat, struct, exception, union, sequence, array, alias}

@@ -8,23 +8,12 @@
 --   foundAt         the parameters of the kind at a place
 --   insideOf        the parameters of a type inside another: of a kind that is written there by its own octets, of an indirection's target by
 --                   the list; where the list has none there, which no accepted type leads to, a fault
-use Prim.Native.Nat.{ℕ, suc}
-use mathlib.Core.List.{List, [], _∷_}
-use mathlib.Core.Bool.{cond}
-use lib.Dec.{ltb, eqb}
-use lib.ListN.{length, getD}
-use Rattle.choices.specs.Branch.{choose}
-use Rattle.cdr.specs.declared.Place.{Place}
-use Rattle.cdr.specs.declared.Order.the-variants.{Big}
-use Rattle.kinds.specs.declared.Kind.{Kind}
-use Rattle.kinds.specs.declared.Inner.{Inner}
-use Rattle.kinds.specs.declared.Inner.the-variants.{Here, There}
-use Rattle.kinds.specs.declared.Parameters.{Parameters}
-use Rattle.kinds.specs.declared.Parameters.the-variants.{Fault}
+use Rattle.choices.specs.{ℕ, suc, List, [], _∷_, cond, ltb, eqb, length, getD, choose}
+use Rattle.cdr.specs.{Place, Big}
+use Rattle.kinds.specs.{Kind, Inner, Here, There, placeOf, writtenAt, declared.Parameters.Parameters}
+use Rattle.kinds.specs.{declared.Parameters.the-variants.Fault, Parameters.parametersAt}
 use Rattle.met.specs.declared.Position.{Position}
 use Rattle.met.specs.declared.Position.the-variants.{Is, NoPosition}
-use Rattle.kinds.specs.Parts.{placeOf, writtenAt}
-use Rattle.kinds.specs.Parameters.{parametersAt}
 
 abbrev pub noKind : Kind
 noKind = writtenAt (placeOf 0) (placeOf 0) Big

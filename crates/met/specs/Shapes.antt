@@ -6,18 +6,10 @@
 --               sequence, array, alias   its type; a bound, a length
 --   shapeOf     the shape of parameters
 --   look        what a type inside another looks like
-use Prim.Native.Nat.{ℕ}
-use mathlib.Core.List.{List}
-use Rattle.kinds.specs.declared.Kind.{Kind}
-use Rattle.kinds.specs.declared.Inner.{Inner}
-use Rattle.kinds.specs.declared.Inert.{Inert}
-use Rattle.kinds.specs.declared.Labels.the-variants.{NoLabels}
-use Rattle.kinds.specs.declared.Parameters.{Parameters}
+use Rattle.choices.specs.{ℕ, List}
+use Rattle.kinds.specs.{Kind, Inner, Inert, NoLabels, placeIn, Member, membersOf, typesOf, declared.Parameters.Parameters}
 use Rattle.kinds.specs.declared.Parameters.the-variants.{Fault, Flat, Struct, Exception, Union, Sequence, Array, Alias}
-use Rattle.kinds.specs.Parts.{placeIn}
-use Rattle.kinds.specs.Members.{Member, membersOf, typesOf}
-use Rattle.met.specs.Met.{insideOf}
-use Rattle.met.specs.Discriminants.{labelsFor}
+use Rattle.met.specs.{Met.insideOf, Discriminants.labelsFor}
 
 pub data Shape : Type 0 where
   fault : Shape

@@ -10,22 +10,11 @@
 --   laid          the kinds of members, laid into a list from the j-th place on
 --   planFound     a plan of these kinds; `noPlan` none
 --   planOf        the plan of a struct of so many members, of which those that are there have these types, with so many levels left
-use Prim.Native.Nat.{ℕ, zero, suc, _+_}
-use mathlib.Core.List.{List, [], _∷_}
-use mathlib.Core.Bool.{Bool, true, false, cond, _&&_}
-use lib.Dec.{eqb, ltb, leb}
-use lib.ListN.{getD, set, replicate}
-use Rattle.choices.specs.Branch.{choose}
-use Rattle.kinds.specs.declared.Inner.{Inner}
-use Rattle.kinds.specs.declared.Inert.{Inert}
-use Rattle.kinds.specs.declared.Inert.the-variants.{Leaf, Text, Objref, Enum}
-use Rattle.met.specs.Shapes.{Shape}
-use Rattle.met.specs.Shapes.Shape.{fault, flat, struct, exception, union, sequence, array, alias}
-use Rattle.reading.specs.Sinks.{Source, Sink, St, after, begun}
-use Rattle.reading.specs.Visit.{Checked, leafAt}
-use Rattle.leaves.specs.declared.Mode.{Mode}
-use Rattle.leaves.specs.Lent.{Lent}
-use Rattle.leaves.specs.Walk.{sinkOf, sourceOf}
+use Rattle.choices.specs.{ℕ, zero, suc, _+_, List, [], _∷_, Bool, true, false, cond, _&&_, eqb, ltb, leb, getD, set, replicate, choose}
+use Rattle.kinds.specs.{Inner, Inert, Leaf, Text, Objref, Enum}
+use Rattle.met.specs.{Shape, fault, flat, struct, exception, union, sequence, array, alias}
+use Rattle.reading.specs.{Source, Sink, St, after, begun, Visit.Checked, Visit.leafAt}
+use Rattle.leaves.specs.{declared.Mode.Mode, Lent.Lent, Walk.sinkOf, Walk.sourceOf}
 use Rattle.plans.specs.declared.Plan.{Plan}
 
 module _ {A : Type 0} (k : Sink A) (x : Source) where

@@ -1,4 +1,4 @@
--- What the private functions of the crate promise each other; nothing that a caller is told rests on these names.
+-- What private functions promise each other; nothing that a caller is told rests on these names.
 --   behindAt    the character behind an item, by the number of the next and how many there are
 use Prim.Native.Nat.{ℕ}
 use lib.Dec.{ltb}

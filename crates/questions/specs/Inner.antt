@@ -1,4 +1,4 @@
--- What the private functions of the crate promise each other; nothing that a caller is told rests on these names.
+-- What private functions promise each other; nothing that a caller is told rests on these names.
 --   octetsRead    what a word is as octets, by the answer and the memory that they were written into
 --   countOf       how many octets are written
 --   OctetsRead    octets that words stand for, or that they stand for none, were read and are within the memory

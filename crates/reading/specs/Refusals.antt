@@ -3,11 +3,7 @@
 --   valueRefusals     all of them
 --   isValueRefusal    a number is one of them
 --   roomRefusal       the one that only a lack of room for items gives
-use Prim.Native.Nat.{ℕ}
-use mathlib.Core.List.{List, [], _∷_}
-use mathlib.Core.Bool.{Bool}
-use lib.Dec.{eqb}
-use Rattle.choices.specs.Lists.{anyOf}
+use Rattle.choices.specs.{ℕ, List, [], _∷_, Bool, eqb, anyOf}
 
 abbrev pub valueRefusals : List ℕ
 valueRefusals = 50 ∷ 51 ∷ 52 ∷ 53 ∷ 54 ∷ 55 ∷ 56 ∷ []

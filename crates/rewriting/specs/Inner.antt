@@ -1,4 +1,4 @@
--- What the private functions of the crate promise each other; nothing that a caller is told rests on these names. An accepted reading's
+-- What private functions promise each other; nothing that a caller is told rests on these names. An accepted reading's
 -- octets are those of its items: a number, and behind a text's or a run's length its octets as they are.
 --   widthOf      the size of an item's number: lengths, counts, tags and enums have four octets
 --   headOf       the number that stands for an item: a text's length counts its final zero
@@ -15,31 +15,14 @@
 --                and kinds without parameters are null, void and primitives
 --   Holds        a table with room for as many items as a value has octets
 --   Rewrites     an answer and an output that are those of a reading
-use mathlib.Core.Path.{_≡_}
-use mathlib.Core.Bool.{Bool, cond, _||_}
-use mathlib.Core.List.{List, [], _++_}
-use Prim.Native.Nat.{ℕ, zero, suc, _+_, _*_, _≤_, _<_}
-use lib.Dec.{eqb}
-use lib.ListN.{length, getD, take, drop, replicate}
-use Rattle.cdr.specs.declared.Index.{Index}
-use Rattle.cdr.specs.declared.Size.{Size}
-use Rattle.cdr.specs.declared.Size.the-variants.{One, Four}
-use Rattle.cdr.specs.Align.{octets, gap, behindGap}
-use Rattle.cdr.specs.Number.{octetsOf}
-use Rattle.cdr.specs.declared.Place.{Place}
-use Rattle.kinds.specs.declared.Form.the-variants.{Plain}
-use Rattle.kinds.specs.declared.Inner.{Inner}
-use Rattle.kinds.specs.declared.Inert.the-variants.{Leaf}
-use Rattle.met.specs.Shapes.Shape.{flat}
-use Rattle.kinds.specs.Forms.{formOf}
-use Rattle.cdr.specs.Limit.{octetsLimit}
-use Rattle.reading.specs.Sinks.{Source, Item, item}
-use Rattle.reading.specs.Visit.{Checked, sizeOf}
-use Rattle.reading.specs.Reading.{anyRoom, reading}
+use Rattle.choices.specs.{_≡_, Bool, cond, _||_, List, [], _++_, ℕ, zero, suc, _+_, _*_, _≤_, _<_, eqb, length, getD, take, drop}
+use Rattle.choices.specs.{replicate}
+use Rattle.cdr.specs.{Index, Size, One, Four, octets, gap, behindGap, octetsOf, octetsLimit}
+use Rattle.kinds.specs.{Plain, Inner, Leaf, Forms.formOf}
+use Rattle.met.specs.{flat}
+use Rattle.reading.specs.{Source, Item, item, anyRoom, reading, Visit.Checked, Visit.sizeOf}
 use Rattle.value.specs.Typed.{Bounded}
-use Rattle.written.specs.declared.RewriteAnswer.{RewriteAnswer}
-use Rattle.written.specs.Written.{Target, written}
-use Rattle.written.specs.Rewriting.{rewriteOf, writtenBy}
+use Rattle.written.specs.{declared.RewriteAnswer.RewriteAnswer, Written.Target, Written.written, Rewriting.rewriteOf, Rewriting.writtenBy}
 
 unfoldable pub widthOf : ℕ → Size
 widthOf kind = cond (eqb kind 17 || (eqb kind 18 || (eqb kind 19 || eqb kind 256))) Four (sizeOf kind)

@@ -6,19 +6,11 @@
 --                an alias's type
 --   leads        a shape leads to the kind at the position k
 --   steps        one steps from the kind at i to the kind at j
-use Prim.Native.Nat.{ℕ}
-use mathlib.Core.List.{List, [], _∷_}
-use mathlib.Core.Bool.{Bool}
-use lib.Dec.{eqb}
-use Rattle.choices.specs.Lists.{anyOf}
-use Rattle.cdr.specs.declared.Place.{Place}
-use Rattle.kinds.specs.declared.Inner.{Inner}
-use Rattle.kinds.specs.declared.Kind.{Kind}
-use Rattle.kinds.specs.Parts.{placeIn}
-use Rattle.kinds.specs.Members.{typesOf}
-use Rattle.met.specs.Met.{findKind, parametersOf}
-use Rattle.met.specs.Shapes.{Shape, shapeOf}
-use Rattle.met.specs.Shapes.Shape.{fault, flat, struct, exception, union, sequence, array, alias}
+use Rattle.choices.specs.{ℕ, List, [], _∷_, Bool, eqb, anyOf}
+use Rattle.cdr.specs.{Place}
+use Rattle.kinds.specs.{Inner, Kind, placeIn, typesOf}
+use Rattle.met.specs.{Shape, fault, flat, struct, exception, union, sequence, array, alias, Met.findKind, Met.parametersOf}
+use Rattle.met.specs.{Shapes.shapeOf}
 
 abbrev pub stands : List Kind → Place → ℕ → Bool
 stands ks p k = eqb (findKind ks p) k

@@ -9,23 +9,17 @@
 --   checkedFrom     what the walk over the octets gives
 --   checkedType     the check
 --   toldBy          what the struct that the code gives stands for
-use Prim.Native.Nat.{ℕ}
-use mathlib.Core.List.{List, [], _∷_}
-use lib.ListN.{length}
-use Rattle.choices.specs.Branch.{choose}
-use Rattle.cdr.specs.declared.Index.{Index}
-use Rattle.cdr.specs.declared.Order.{Order}
-use Rattle.kinds.specs.declared.Kind.{Kind}
-use Rattle.fields.specs.declared.Step.{Step}
-use Rattle.fields.specs.declared.Step.the-variants.{Refused as refused, Next}
+use Rattle.choices.specs.{ℕ, List, [], _∷_, length, choose}
+use Rattle.loops.specs.Loops.{loopFound}
+use Rattle.cdr.specs.{Index, Order}
+use Rattle.kinds.specs.{Kind}
+use Rattle.met.specs.Arrays.{kindsMet}
+use Rattle.fields.specs.{Step, Refused as refused, Next, Refusals.refusalNumber}
+use Rattle.checking.specs.Types.{walkedOf}
+use Rattle.steps.specs.Steps.{steps}
 use Rattle.typecode.specs.declared.TypeAnswer.{TypeAnswer}
 use Rattle.typecode.specs.declared.TypeAnswer.the-variants.{Accepted, Refused, Loop}
 use Rattle.typecode.specs.declared.CheckedType as given
-use Rattle.loops.specs.Loops.{loopFound}
-use Rattle.met.specs.Arrays.{kindsMet}
-use Rattle.fields.specs.Refusals.{refusalNumber}
-use Rattle.checking.specs.Types.{walkedOf}
-use Rattle.steps.specs.Steps.{steps}
 
 abbrev pub answerNumber : TypeAnswer → ℕ
 answerNumber (Accepted used kinds) = 0

@@ -13,12 +13,12 @@ use Rattle.reading.specs.declared.ValueAnswer.the-variants.{Accepted, Refused}
 use Rattle.reading.specs.Sinks.{Source, St}
 use Rattle.reading.specs.Visit.{Checked}
 use Rattle.reading.specs.Reading.{Log, reads, levels, topOf, anyRoom, roomFor, reading}
-use Rattle.reading.specs.Value.{filledBy, itemNo}
+use Rattle.reading.specs.Value.{roomIn, filledBy, itemNo}
 use Rattle.reading.proofs.Room.{room-kept}
 use Rattle.leaves.specs.declared.Cursor.{Cursor}
-use Rattle.leaves.specs.Lent.{Lent, rowsIn, lent}
+use Rattle.leaves.specs.Lent.{Lent, lent}
 use Rattle.leaves.specs.Walk.{stateOf, startOf}
-use Rattle.leaves.proofs.Filling.{roomIn, stored, Small, walked, filled, row, picked}
+use Rattle.leaves.proofs.Filling.{fullAt, stored, Small, walked, filled, row, picked}
 use Rattle.value.specs.declared.ItemAnswer.the-variants.{Given, Refused as refusedItem}
 use Rattle.value.specs.Single.{givenBy}
 use Rattle.value.specs.Typed.{Bounded}
@@ -26,17 +26,17 @@ use Rattle.value.specs.Inner.{readInto, Read}
 
 -- a cursor and a table after a walk
 pub record After (limited fill : Bool) (first : ℕ) (x : Source) (t : Checked) (table : List ℕ) (c : Cursor) (after : List ℕ) : Type 0 where
-  pub at : c .at ≡ reading (roomIn limited table) x t .at
-  pub fault : c .fault ≡ reading (roomIn limited table) x t .fault
-  pub visits : c .visits ≡ reading (roomIn limited table) x t .kept .visits
-  pub items : c .items ≡ length (reading (roomIn limited table) x t .kept .items)
-  pub rows : after ≡ stored fill first table (reading (roomIn limited table) x t .kept .items)
+  pub at : c .at ≡ reading (fullAt limited table) x t .at
+  pub fault : c .fault ≡ reading (fullAt limited table) x t .fault
+  pub visits : c .visits ≡ reading (fullAt limited table) x t .kept .visits
+  pub items : c .items ≡ length (reading (fullAt limited table) x t .kept .items)
+  pub rows : after ≡ stored fill first table (reading (fullAt limited table) x t .kept .items)
 
 module _ (t : Checked) (x : Source) (bounded : Bounded t x) where
   pub after-walk : (limited fill : Bool) (first : ℕ) (table : List ℕ) (c : Cursor) (after : List ℕ)
       → stateOf c after ≡ reads (lent limited fill first) x t levels (topOf t) (stateOf startOf table) → After limited fill first x t table c after
   after-walk limited fill first table c after e =
-      let small : Small (reading (roomIn limited table) x t) = record { visits = bounded .visits (roomIn limited table); items = bounded .items (roomIn limited table) } in
+      let small : Small (reading (fullAt limited table) x t) = record { visits = bounded .visits (fullAt limited table); items = bounded .items (fullAt limited table) } in
       let b = walked limited fill first x table t small in
       record {
         at = ap (λ (s : St Lent). s .at) e ∙ b .at;
@@ -48,7 +48,7 @@ module _ (t : Checked) (x : Source) (bounded : Bounded t x) where
 
   module _ (table : List ℕ) where
     abbrev result : St Log
-    result = reading (roomFor (rowsIn table)) x t
+    result = reading (roomFor (roomIn table)) x t
 
     accepted : result .fault ≡ 0 → readInto t x table ≡ Accepted (result .at) (length (result .kept .items)) (result .kept .visits)
     unfolding choose
@@ -84,7 +84,7 @@ module _ (t : Checked) (x : Source) (bounded : Bounded t x) where
           ∙ sym r in
           record {
             answer = a;
-            filled = y .rows ∙ filled (result .kept .items) table (room-kept (rowsIn table) x t) ∙ ap (λ (u : ValueAnswer). filledBy u table (result .kept .items)) (sym r);
+            filled = y .rows ∙ filled (result .kept .items) table (room-kept (roomIn table) x t) ∙ ap (λ (u : ValueAnswer). filledBy u table (result .kept .items)) (sym r);
           }
 
   -- a walk that picks the item of a number

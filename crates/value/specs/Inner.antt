@@ -1,14 +1,9 @@
--- What the private functions of the crate promise each other; nothing that a caller is told rests on these names.
+-- What private functions promise each other; nothing that a caller is told rests on these names.
 --   readInto   what reading into a table answers
 --   Read       an answer and a table that are those of a reading
-use mathlib.Core.Path.{_≡_}
-use mathlib.Core.List.{List}
-use Prim.Native.Nat.{ℕ}
-use Rattle.reading.specs.declared.ValueAnswer.{ValueAnswer}
-use Rattle.reading.specs.Sinks.{Source}
-use Rattle.reading.specs.Visit.{Checked}
-use Rattle.reading.specs.Reading.{roomFor, reading}
-use Rattle.reading.specs.Value.{roomIn, answerOf, filledBy}
+use Rattle.choices.specs.{_≡_, List, ℕ}
+use Rattle.reading.specs.{Source, roomFor, reading, declared.ValueAnswer.ValueAnswer, Visit.Checked, Value.roomIn, Value.answerOf}
+use Rattle.reading.specs.{Value.filledBy}
 
 abbrev pub readInto : Checked → Source → List ℕ → ValueAnswer
 readInto t x table = answerOf (reading (roomFor (roomIn table)) x t)

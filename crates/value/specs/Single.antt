@@ -3,16 +3,10 @@
 --   givenIn          which case an item is, and its 64 bits
 --   givenBy          "one not below the item count is 49, after the refusals of reading without 56"
 --   itemAnswer       the answer
-use Prim.Native.Nat.{ℕ}
-use mathlib.Core.List.{List}
-use lib.Dec.{ltb, eqb}
-use lib.ListN.{length}
-use Rattle.choices.specs.Branch.{choose}
-use Rattle.cdr.specs.declared.Order.{Order}
+use Rattle.choices.specs.{ℕ, List, ltb, eqb, length, choose}
+use Rattle.cdr.specs.{Order}
 use Rattle.items.specs.Items.{itemOf, itemNumbers}
-use Rattle.reading.specs.Sinks.{Source, St}
-use Rattle.reading.specs.Reading.{Log, anyRoom}
-use Rattle.reading.specs.Value.{readingOf, underType, itemNo}
+use Rattle.reading.specs.{Source, St, Log, anyRoom, Value.readingOf, Value.underType, Value.itemNo}
 use Rattle.value.specs.declared.ItemAnswer.{ItemAnswer}
 use Rattle.value.specs.declared.ItemAnswer.the-variants.{Given, Refused}
 

@@ -4,24 +4,13 @@
 --   judgedBy    what a type's check means for a value of it
 --   typedFor    what a value of so many octets is read under
 --   Bounded     a machine word holds the visits and the items of every reading
-use Prim.Native.Nat.{ℕ, _^_, _<_}
-use mathlib.Core.List.{List, []}
-use mathlib.Core.Bool.{Bool, _||_}
-use lib.Dec.{ltb}
-use lib.ListN.{length}
-use Rattle.choices.specs.Branch.{choose}
-use Rattle.cdr.specs.declared.Order.{Order}
-use Rattle.kinds.specs.declared.Kind.{Kind}
+use Rattle.choices.specs.{ℕ, _^_, _<_, List, [], Bool, _||_, ltb, length, choose}
+use Rattle.cdr.specs.{Order, octetsLimit}
+use Rattle.kinds.specs.{Kind}
 use Rattle.met.specs.Arrays.{kindsMet}
-use Rattle.cdr.specs.Limit.{octetsLimit}
-use Rattle.typecode.specs.declared.TypeAnswer.{TypeAnswer}
-use Rattle.typecode.specs.TypeCode.{checkedType}
-use Rattle.reading.specs.Sinks.{Source}
-use Rattle.reading.specs.Visit.{Checked}
-use Rattle.reading.specs.Reading.{reading}
-use Rattle.reading.specs.Value.{onType}
-use Rattle.value.specs.declared.Judged.{Judged}
-use Rattle.value.specs.declared.Judged.the-variants.{Accepted, Refused}
+use Rattle.typecode.specs.{TypeAnswer, TypeCode.checkedType}
+use Rattle.reading.specs.{Source, reading, Visit.Checked, Value.onType}
+use Rattle.value.specs.{declared.Judged.Judged, declared.Judged.the-variants.Accepted, declared.Judged.the-variants.Refused}
 use Rattle.value.specs.declared.Typed as given
 
 pub record Typed : Type 0 where

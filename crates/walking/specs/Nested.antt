@@ -5,16 +5,11 @@
 --   exceptionAt    "exception: a text id, then members"; "an exception's id none"
 --   armAt          the chosen member, if there is one
 --   unionAt        "union: discriminant, then the member"
-use Prim.Native.Nat.{ℕ, zero, suc}
-use mathlib.Core.List.{List, [], _∷_}
-use Rattle.kinds.specs.declared.Inner.{Inner}
-use Rattle.kinds.specs.Members.{Member}
-use Rattle.met.specs.declared.Arm.{Arm}
+use Rattle.choices.specs.{ℕ, List, [], _∷_}
+use Rattle.kinds.specs.{Inner, Member}
+use Rattle.met.specs.{Shape, declared.Arm.Arm, Arms.chosenOf}
 use Rattle.met.specs.declared.Arm.the-variants.{Chosen, NoneChosen}
-use Rattle.met.specs.Arms.{chosenOf}
-use Rattle.met.specs.Shapes.{Shape}
-use Rattle.reading.specs.Sinks.{Source, Sink, St, after, repeats}
-use Rattle.reading.specs.Visit.{Checked, textAt, countAt}
+use Rattle.reading.specs.{Source, Sink, St, after, Sinks.repeats, Visit.Checked, Visit.textAt, Visit.countAt}
 
 module _ {A : Type 0} (k : Sink A) (x : Source) (f : Shape → St A → St A) where
   unfoldable pub elementsAt : Shape → ℕ → St A → St A

@@ -7,19 +7,11 @@
 --   rewritten       the octets of the reading under the type that octets give
 --   writtenBy       lent output that an answer fills or leaves
 --   outputAfter     "lent memory that an answer doesn't fill keeps its contents": the octets from the output's start, or as it was
-use Prim.Native.Nat.{ℕ}
-use mathlib.Core.List.{List, [], _∷_}
-use lib.Dec.{ltb, eqb}
-use lib.ListN.{length}
-use lib.Seq.{sets}
-use Rattle.choices.specs.Branch.{choose}
-use Rattle.cdr.specs.declared.Order.{Order}
-use Rattle.reading.specs.Sinks.{Source, St}
-use Rattle.reading.specs.Reading.{Log, anyRoom}
-use Rattle.reading.specs.Value.{readingOf, underType}
-use Rattle.written.specs.declared.RewriteAnswer.{RewriteAnswer}
+use Rattle.choices.specs.{ℕ, List, [], _∷_, ltb, eqb, length, sets, choose}
+use Rattle.cdr.specs.{Order}
+use Rattle.reading.specs.{Source, St, Log, anyRoom, Value.readingOf, Value.underType}
+use Rattle.written.specs.{declared.RewriteAnswer.RewriteAnswer, Written.Target, Written.written}
 use Rattle.written.specs.declared.RewriteAnswer.the-variants.{Accepted, Refused}
-use Rattle.written.specs.Written.{Target, written}
 
 abbrev pub rewriteNumber : RewriteAnswer → ℕ
 rewriteNumber (Accepted count) = 0

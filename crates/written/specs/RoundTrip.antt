@@ -8,19 +8,12 @@
 --                   there is room for them; and to any order and index it gives what the value gives
 --   ReadsBack       the result of every accepted rewriting, if it is not too long, reads back where there is room for the value's items
 --   RewritesBack    and is rewritten so
-use Prim.Native.Nat.{ℕ, _≤_}
-use mathlib.Core.Path.{_≡_}
-use mathlib.Core.List.{List, map}
-use lib.ListN.{length}
-use Rattle.cdr.specs.declared.Order.{Order}
-use Rattle.cdr.specs.Limit.{octetsLimit}
-use Rattle.reading.specs.declared.ValueAnswer.the-variants.{Accepted}
-use Rattle.reading.specs.Sinks.{Source, source}
-use Rattle.reading.specs.Reading.{anyRoom, roomFor}
-use Rattle.reading.specs.Value.{readingOf, valueAnswer}
-use Rattle.written.specs.declared.RewriteAnswer.the-variants.{Accepted as accepted}
-use Rattle.written.specs.Written.{Target, target, usedZeroed, unplaced, bare}
-use Rattle.written.specs.Rewriting.{rewriteAnswer, rewritten}
+use Rattle.choices.specs.{ℕ, _≤_, _≡_, List, map, length}
+use Rattle.cdr.specs.{Order, octetsLimit}
+use Rattle.reading.specs.{Source, source, anyRoom, roomFor, declared.ValueAnswer.the-variants.Accepted, Value.readingOf}
+use Rattle.reading.specs.{Value.valueAnswer}
+use Rattle.written.specs.{declared.RewriteAnswer.the-variants.Accepted as accepted, Written.Target, Written.target}
+use Rattle.written.specs.{Written.usedZeroed, Written.unplaced, Written.bare, Rewriting.rewriteAnswer, Rewriting.rewritten}
 
 abbrev pub result : List ℕ → Order → Source → Target → Source
 result v order x to = source (rewritten v order x to) (to .order) (to .start)

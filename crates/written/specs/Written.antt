@@ -11,17 +11,9 @@
 --   usedZeroed     "the used octets with gaps zeroed"
 --   unplaced       an item without its place: "the same items except places"
 --   bare           a piece without its place and the gap before it
-use Prim.Native.Nat.{ℕ, _+_, _-_}
-use mathlib.Core.List.{List, [], _∷_, _++_}
-use lib.ListN.{length, take, replicate}
-use lib.Seq.{sets}
-use Rattle.cdr.specs.declared.Index.{Index}
-use Rattle.cdr.specs.declared.Order.{Order}
-use Rattle.cdr.specs.declared.Order.the-variants.{Big}
-use Rattle.cdr.specs.Align.{gap}
-use Rattle.cdr.specs.Number.{octetsOf}
-use Rattle.reading.specs.Sinks.{Source, Item, item, Piece, number, run, St}
-use Rattle.reading.specs.Reading.{Log}
+use Rattle.choices.specs.{ℕ, _+_, _-_, List, [], _∷_, _++_, length, take, replicate, sets}
+use Rattle.cdr.specs.{Index, Order, Big, gap, octetsOf}
+use Rattle.reading.specs.{Source, Item, item, run, St, Log, Sinks.Piece, Sinks.number}
 
 pub record Target : Type 0 where
   pub order : Order
