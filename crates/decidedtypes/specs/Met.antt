@@ -89,7 +89,7 @@ unfolding choose findKind positionOf foundAt insideOf kindsFrom kindsMet added
 missing-is-fault = refl
 
 pub boolean-below-2 : labelsFor (octetsOf Big 4 8) (kindsMet (added noKinds (placeOf 0) (placeOf 0) Big)) (placeOf 0) ≡ Of One 2
-unfolding choose littleNumber littleOctets numberOf octetsOf numberAt readOf fieldOf formOf fieldIn parametersAt findKind parametersOf kindsFrom kindsMet added leafLabels labelsAfter labelsFor
+unfolding choose littleNumber littleOctets numberOf octetsOf numberAt readOf fieldOf formOf fieldIn parametersAt findKind positionOf foundAt parametersOf kindsFrom kindsMet added leafLabels labelsAfter labelsFor
 boolean-below-2 = refl
 
 pub limit-is-out : outOfKind 2 2 ≡ true

@@ -24,7 +24,7 @@ use Rattle.met.specs.declared.Met.{Met}
 use Rattle.met.specs.declared.Position.the-variants.{Is, NoPosition}
 use Rattle.met.specs.declared.Discriminant.{Discriminant}
 use Rattle.met.specs.declared.Discriminant.the-variants.{Through, Says}
-use Rattle.met.specs.Met.{noKind, kindNo, findKind, positionOf, parametersOf}
+use Rattle.met.specs.Met.{noKind, kindNo, findKind, positionOf, foundAt}
 use Rattle.met.specs.Arrays.{orderIn, entryAt, kindsFrom, heldIn, kindsMet, added}
 use Rattle.met.specs.Discriminants.{discriminantOf, onDiscriminant, labelsAfter}
 
@@ -190,25 +190,16 @@ module _ (ks : List Kind) (p : Place) where
   position-nowhere e = by-nowhere _ refl e
 
 module _ (v : List ℕ) (ks : List Kind) (p : Place) where
-  pub labels-nowhere : (l : ℕ) → positionOf ks p ≡ NoPosition → NoLabels ≡ labelsAfter v ks l p
-  unfolding labelsAfter choose
-  labels-nowhere zero e = refl
-  labels-nowhere (suc l) e = rw (position-nowhere ks p e)
-
-  module _ (l j : ℕ) (e : positionOf ks p ≡ Is j) where
+  module _ (l : ℕ) (h : 0 < l) where
     -- one alias on
-    pub labels-on : labelsAfter v ks (suc l) p ≡ onDiscriminant (discriminantOf (parametersOf v ks j)) (λ x. labelsAfter v ks l (placeIn x))
-    unfolding labelsAfter choose
-    labels-on = let f = position-facts ks p j e in rw (f .0, lt-ltb j (length ks) (f .1))
+    on : labelsAfter v ks l p ≡ onDiscriminant (discriminantOf (foundAt v ks p)) (λ x. labelsAfter v ks (l - 1) (placeIn x))
+    unfolding labelsAfter
+    on = let z : suc (l - 1) ≡ l = omega arith in ap (λ (x : ℕ). labelsAfter v ks x p) (sym z)
 
-  module _ (l j : ℕ) (h : 0 < l) (e : positionOf ks p ≡ Is j) where
-    on : labelsAfter v ks l p ≡ onDiscriminant (discriminantOf (parametersOf v ks j)) (λ x. labelsAfter v ks (l - 1) (placeIn x))
-    on = let z : suc (l - 1) ≡ l = omega arith in ap (λ (x : ℕ). labelsAfter v ks x p) (sym z) ∙ labels-on (l - 1) j e
-
-    pub labels-said : (labels : Labels) → discriminantOf (parametersOf v ks j) ≡ Says labels → labels ≡ labelsAfter v ks l p
+    pub labels-said : (labels : Labels) → discriminantOf (foundAt v ks p) ≡ Says labels → labels ≡ labelsAfter v ks l p
     labels-said labels s = sym (on ∙ ap (λ (d : Discriminant). onDiscriminant d (λ x. labelsAfter v ks (l - 1) (placeIn x))) s)
 
-    pub labels-through : (x : Inner) → discriminantOf (parametersOf v ks j) ≡ Through x → labelsAfter v ks (l - 1) (placeIn x) ≡ labelsAfter v ks l p
+    pub labels-through : (x : Inner) → discriminantOf (foundAt v ks p) ≡ Through x → labelsAfter v ks (l - 1) (placeIn x) ≡ labelsAfter v ks l p
     labels-through x s = sym (on ∙ ap (λ (d : Discriminant). onDiscriminant d (λ x. labelsAfter v ks (l - 1) (placeIn x))) s)
 
   pub labels-end : (l : ℕ) → l ≤ 0 → NoLabels ≡ labelsAfter v ks l p

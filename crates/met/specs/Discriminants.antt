@@ -8,11 +8,11 @@
 --   aliasLimit         the most kinds, which is enough: a way that ends meets no kind twice (`resolved-exactly`, in `accepted`)
 --   labelsFor          the labels of a discriminant at a place, if its kind is one that a discriminant may have
 --   outOfKind          a label is not below its limit, of which 0 is none
-use Rattle.choices.specs.{ℕ, zero, suc, List, Bool, false, cond, ltb, leb, eqb, length, choose}
+use Rattle.choices.specs.{ℕ, zero, suc, List, Bool, false, cond, leb, eqb}
 use Rattle.cdr.specs.{Place, One, Two, Four, Eight}
 use Rattle.kinds.specs.{Inner, Inert, Leaf, Text, Objref, Enum, Labels, Of, NoLabels, Kind, placeIn, declared.Parameters.Parameters}
 use Rattle.kinds.specs.declared.Parameters.the-variants.{Fault, Flat, Struct, Exception, Union, Sequence, Array, Alias}
-use Rattle.met.specs.{declared.Discriminant.Discriminant, Met.findKind, Met.parametersOf}
+use Rattle.met.specs.{declared.Discriminant.Discriminant, Met.foundAt}
 use Rattle.met.specs.declared.Discriminant.the-variants.{Through, Says}
 
 unfoldable pub leafLabels : ℕ → Labels
@@ -49,10 +49,7 @@ onDiscriminant (Says labels) f = labels
 
 unfoldable pub labelsAfter : List ℕ → List Kind → ℕ → Place → Labels
 labelsAfter v ks zero p = NoLabels
-labelsAfter v ks (suc l) p =
-    choose (ltb (findKind ks p) (length ks))
-    (λ _. onDiscriminant (discriminantOf (parametersOf v ks (findKind ks p))) (λ x. labelsAfter v ks l (placeIn x)))
-    (λ _. NoLabels)
+labelsAfter v ks (suc l) p = onDiscriminant (discriminantOf (foundAt v ks p)) (λ x. labelsAfter v ks l (placeIn x))
 
 abbrev pub aliasLimit : ℕ
 aliasLimit = 64

@@ -5,7 +5,6 @@ ghost use Rattle.met.specs.Arrays.{kindsMet};
 ghost use Rattle.met.specs.Discriminants.{leafLabels, inertLabels, discriminantOf, labelsFor, outOfKind};
 use crate::Discriminant;
 use crate::Met;
-use crate::Position;
 use cdr::Place;
 use cdr::Size;
 use kinds::Inert;
@@ -95,10 +94,7 @@ pub fn labels_for(v: &[u8], met: Met, place: Place) -> Labels
     let mut at = place;
     let mut left: usize = tags::KINDS_LIMIT;
     while 0 < left {
-        let Position::Is(j) = met.position(at) else {
-            return Labels::NoLabels;
-        };
-        match discriminant_of(crate::parameters_of(v, met, j)) {
+        match discriminant_of(crate::found_at(v, met, at)) {
             Discriminant::Through(next) => {
                 at = kinds::place_in(next);
             }

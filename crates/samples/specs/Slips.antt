@@ -14,7 +14,7 @@ use Rattle.kinds.specs.Forms.{formOf}
 use Rattle.kinds.specs.Parts.{fieldIn, skipField, skipCounted, targetOf, aimed, spotAt, memberAt, namesIn}
 use Rattle.kinds.specs.Members.{membersFrom, typesOf}
 use Rattle.kinds.specs.Parameters.{countIn, typeIn, elementIn, unionIn, encapsulated, parametersAt}
-use Rattle.met.specs.Met.{findKind, parametersOf}
+use Rattle.met.specs.Met.{findKind, positionOf, parametersOf, foundAt}
 use Rattle.met.specs.Discriminants.{leafLabels, labelsAfter, labelsFor, outOfKind}
 use Rattle.met.specs.Arms.{caseFrom}
 use Rattle.met.specs.Shapes.{shapeOf}
@@ -41,5 +41,5 @@ slips =
     ∷ []
 
 pub slips-hold : T (holds slips)
-unfolding littleNumber littleOctets numberOf octetsOf numberAt choose readOf fieldOf stringOf textOf endsText overBound runOf countedOf formOf fieldIn skipField skipCounted targetOf aimed spotAt memberAt namesIn countIn typeIn elementIn unionIn encapsulated parametersAt membersFrom typesOf findKind parametersOf leafLabels labelsAfter labelsFor outOfKind caseFrom shapeOf belowTop entryOf textStep namesStep numberStep countStep anyCount headStep exceptionStep lengthStep textsStep enumStep partOf badDefault switchStep labelBefore entered closed targetStep indirectionAt nameStep membersAt labelsAt switchedAt discriminantAt endedAt compositeAt enteredAt kindAt enterAt typeAt walkedOf closure anyBelow loopFound anyOf stepsOf steps loopLast checkedType slips
+unfolding littleNumber littleOctets numberOf octetsOf numberAt choose readOf fieldOf stringOf textOf endsText overBound runOf countedOf formOf fieldIn skipField skipCounted targetOf aimed spotAt memberAt namesIn countIn typeIn elementIn unionIn encapsulated parametersAt membersFrom typesOf findKind positionOf foundAt parametersOf leafLabels labelsAfter labelsFor outOfKind caseFrom shapeOf belowTop entryOf textStep namesStep numberStep countStep anyCount headStep exceptionStep lengthStep textsStep enumStep partOf badDefault switchStep labelBefore entered closed targetStep indirectionAt nameStep membersAt labelsAt switchedAt discriminantAt endedAt compositeAt enteredAt kindAt enterAt typeAt walkedOf closure anyBelow loopFound anyOf stepsOf steps loopLast checkedType slips
 slips-hold = tt

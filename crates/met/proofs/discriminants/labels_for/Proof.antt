@@ -2,13 +2,12 @@
 use borrow.Author.Needs.{needs}
 use Rattle.met.proofs.discriminants.labels_for.Statement.{statement}
 use Rattle.met.proofs.discriminants.labels_for.Tie as tie
-use mathlib.Core.Path.{_≡_, sym, _∙_, ap}
+use mathlib.Core.Path.{_≡_, refl, sym, _∙_, ap}
 use native.Mathlib.Omega.{arith}
-use mathlib.Core.Path.{refl}
 use Prim.Native.Nat.{_≤_}
 use Rattle.met.specs.Discriminants.{discriminantOf, labelsAfter, labelsFor}
-use Rattle.met.proofs.Finding.{labels-nowhere, labels-said, labels-through, labels-end}
 use Rattle.met.specs.Arrays.{kindsMet}
+use Rattle.met.proofs.Finding.{labels-said, labels-through, labels-end}
 
 abbrev Inv-loop : tie.InvT-loop
 Inv-loop v met at₀ left₀ at left = (left ≤ 64) × (labelsAfter v (kindsMet met) left at ≡ labelsAfter v (kindsMet met) 64 at₀)
@@ -19,26 +18,8 @@ abbrev μ-loop : tie.MeasureT-loop
 loop-holds : tie.Need-loop-holds Inv-loop μ-loop
 loop-holds c = (omega arith, refl)
 
-position-requires : tie.Need-position-requires Inv-loop μ-loop
-position-requires c κs = search needs
-
-enum-known-j : tie.Need-enum-known-j Inv-loop μ-loop
-enum-known-j c = search needs
-
-enum-told : tie.Need-enum-told Inv-loop μ-loop
-enum-told c = search needs
-
-returns : tie.Need-returns Inv-loop μ-loop
-unfolding labelsFor
-returns c =
-    let a2 = c .before .before .before .before .before .before .args in
-    let loop2 = c .before .before .before .before .loop in
-    let a = a2 in
-    let loop = loop2 in
-    labels-nowhere (a .v .now) (kindsMet (a .met)) (loop .at) (loop .left) (sym (c .before .before .position .ensures) ∙ c .enum-told .given .1) ∙ loop .inv .1
-
-parameters-of-requires : tie.Need-parameters-of-requires Inv-loop μ-loop
-parameters-of-requires c κs = search needs
+found-at-requires : tie.Need-found-at-requires Inv-loop μ-loop
+found-at-requires c κs = search needs
 
 discriminant-of-requires : tie.Need-discriminant-of-requires Inv-loop μ-loop
 discriminant-of-requires c κs = search needs
@@ -52,22 +33,15 @@ place-in-requires c κs = search needs
 enum-known-labels : tie.Need-enum-known-labels Inv-loop μ-loop
 enum-known-labels c = search needs
 
-returns-2 : tie.Need-returns-2 Inv-loop μ-loop
+returns : tie.Need-returns Inv-loop μ-loop
 unfolding labelsFor
-returns-2 c =
-    let a2 = c .before .before .before .before .before .before .before .before .before .before .before .before .args in
-    let loop2 = c .before .before .before .before .before .before .before .before .before .before .loop in
-    let loop-test2 = c .before .before .before .before .before .before .before .before .before .loop-test in
-    let position2 = c .before .before .before .before .before .before .before .before .position in
-    let j2 = c .before .before .before .before .before .before .j in
-    let parameters-of2 = c .before .before .before .before .parameters-of in
-    let a = a2 in
-    let loop = loop2 in
-    let loop-test = loop-test2 in
-    let position = position2 in
-    let j = j2 in
-    let parameters-of = parameters-of2 in
-    labels-said (a .v .now) (kindsMet (a .met)) (loop .at) (loop .left) _ (loop-test .taken) (sym (position .ensures) ∙ j .given .1) _ (sym (ap discriminantOf (parameters-of .ensures)) ∙ sym (c .before .before .before .discriminant-of .ensures) ∙ c .before .labels .given .1) ∙ loop .inv .1
+returns c =
+    let a = c .before .before .before .before .before .before .before .before .args in
+    let loop = c .before .before .before .before .before .before .loop in
+    let found-at = c .before .before .before .before .found-at in
+    let loop-test = c .before .before .before .before .before .loop-test in
+    let says = sym (ap discriminantOf (found-at .ensures)) ∙ sym (c .before .before .before .discriminant-of .ensures) ∙ c .before .labels .given .1 in
+    labels-said (a .v .now) (kindsMet (a .met)) (loop .at) (loop .left) (loop-test .taken) _ says ∙ loop .inv .1
 
 sub-left : tie.Need-sub-left Inv-loop μ-loop
 sub-left c = search needs
@@ -77,21 +51,18 @@ loop-less c = search needs
 
 loop-again : tie.Need-loop-again Inv-loop μ-loop
 loop-again c =
-    let a2 = c .before .before .before .before .before .before .before .before .before .before .before .before .before .args in
-    let loop2 = c .before .before .before .before .before .before .before .before .before .before .before .loop in
-    let parameters-of = c .before .before .before .before .before .parameters-of in
+    let a = c .before .before .before .before .before .before .before .before .before .args in
+    let loop = c .before .before .before .before .before .before .before .loop in
+    let found-at = c .before .before .before .before .before .found-at in
     let discriminant-of = c .before .before .before .before .discriminant-of in
-    let loop-test = c .before .before .before .before .before .before .before .before .before .before .loop-test in
-    let position = c .before .before .before .before .before .before .before .before .before .position in
-    let j = c .before .before .before .before .before .before .before .j in
-    let a = a2 in
-    let loop = loop2 in
-    let leads = sym (ap discriminantOf (parameters-of .ensures)) ∙ sym (discriminant-of .ensures) ∙ c .before .before .next .given .1 in
-    (omega arith, rw (c .place-in .ensures) (labels-through (a .v .now) (kindsMet (a .met)) (loop .at) (loop .left) _ (loop-test .taken) (sym (position .ensures) ∙ j .given .1) _ leads ∙ loop .inv .1))
+    let loop-test = c .before .before .before .before .before .before .loop-test in
+    let leads = sym (ap discriminantOf (found-at .ensures)) ∙ sym (discriminant-of .ensures) ∙ c .before .before .next .given .1 in
+    let on = labels-through (a .v .now) (kindsMet (a .met)) (loop .at) (loop .left) (loop-test .taken) _ leads in
+    (omega arith, rw (c .place-in .ensures) (on ∙ loop .inv .1))
 
-returns-3 : tie.Need-returns-3 Inv-loop μ-loop
+returns-2 : tie.Need-returns-2 Inv-loop μ-loop
 unfolding labelsFor
-returns-3 c =
+returns-2 c =
     let a = c .before .before .before .args in
     let loop = c .before .loop in
     labels-end (a .v .now) (kindsMet (a .met)) (loop .at) (loop .left) (omega (arith, c .loop-test .left)) ∙ loop .inv .1
@@ -103,17 +74,13 @@ labels-for-spec =
     Inv-loop
     μ-loop
     loop-holds
-    position-requires
-    enum-known-j
-    enum-told
-    returns
-    parameters-of-requires
+    found-at-requires
     discriminant-of-requires
     enum-known-next
     place-in-requires
     enum-known-labels
-    returns-2
+    returns
     sub-left
     loop-less
     loop-again
-    returns-3)
+    returns-2)
