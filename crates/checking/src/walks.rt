@@ -62,7 +62,7 @@ pub(crate) fn count(walk: Walk) -> usize
     ensures { λ r. ⌜ r ≡ length (seen walk .kinds) ⌝ }
 {
     let met = walk.met;
-    met.held()
+    met::held_in(met.count)
 }
 
 // Whether the kind at a position is no target yet.
@@ -126,7 +126,7 @@ pub(crate) fn enter(walk: Walk, place: Place, start: Place, order: Order, form: 
 {
     let met = walk.met;
     let mut barred = walk.barred;
-    let i = met.held();
+    let i = met::held_in(met.count);
     barred[i] = is_barred(form);
     Walk {
         met: met.add(place, start, order),

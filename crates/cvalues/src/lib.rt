@@ -34,7 +34,7 @@ fn octet_of(order: u8) -> u8
 fn gather(met: Met) -> Met
     ensures { λ r. ⌜ Entries (kindsMet met) r ⌝ }
 {
-    let n = met.held();
+    let n = met::held_in(met.count);
     let mut all = Met::none();
     let mut i: usize = 0;
     while i < n {

@@ -3,7 +3,6 @@ ghost use mathlib.Core.Path.{_≡_};
 ghost use Rattle.met.specs.Met.{kindNo, positionOf, parametersOf, foundAt, insideOf};
 ghost use Rattle.met.specs.Arrays.{orderIn, heldIn, kindsMet, noKinds, added};
 ghost use Prim.Native.Nat.{min};
-ghost use lib.ListN.{length};
 use cdr::Order;
 use cdr::Place;
 use kinds::Inner;
@@ -50,7 +49,7 @@ pub enum Arm {
 }
 
 // How many kinds the list has, of which its arrays have room for 64.
-fn held_in(count: usize) -> usize
+pub fn held_in(count: usize) -> usize
     ensures { λ r. ⌜ r ≡ min count 64 ⌝ }
 {
     if count < KINDS_LIMIT {
@@ -105,13 +104,6 @@ impl Met {
         met.orders[i] = order.octet();
         met.count = i + 1;
         met
-    }
-
-    // How many kinds the list has.
-    pub fn held(self) -> usize
-        ensures { λ r. ⌜ r ≡ length (kindsMet self) ⌝ }
-    {
-        held_in(self.count)
     }
 
     // The position of the kind at a place.

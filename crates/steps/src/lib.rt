@@ -21,14 +21,14 @@ pub fn loops_back(v: &[u8], met: Met) -> bool
     ensures { λ r. ⌜ r ≡ loopFound (length (kindsMet met)) (steps (now (v .entry)) (kindsMet met)) ⌝ }
 {
     let table = step_table(v, met);
-    loops::has_loop(table, met.held())
+    loops::has_loop(table, met::held_in(met.count))
 }
 
 // The steps of every kind of the list.
 fn step_table(v: &[u8], met: Met) -> Steps
     ensures { λ r. ⌜ Filled (now (v .entry)) (kindsMet met) (length (kindsMet met)) (r .rows) ⌝ }
 {
-    let n = met.held();
+    let n = met::held_in(met.count);
     let mut table = Steps::none();
     let mut i = 0;
     while i < n {

@@ -51,7 +51,7 @@ fn loop_last(v: &[u8], end: Index, met: Met) -> CheckedType
     if steps::loops_back(v, met) {
         return refused_with(TypeAnswer::Loop);
     }
-    let kinds = met.held();
+    let kinds = met::held_in(met.count);
     CheckedType {
         answer: TypeAnswer::Accepted { used: end.0, kinds },
         met,

@@ -24,7 +24,7 @@ use Rattle.reading.proofs.Ways.{after-same, after-none, goes-on, stops, repeats
 use Rattle.plans.specs.declared.Plan.{Plan}
 use Rattle.plans.specs.Plans.{planSteps, planOf}
 use Rattle.plans.proofs.Steps.{Fits, plan-reads, plan-fits}
-use Rattle.walking.specs.Nested.{elementsAt, sequenceAt, membersAt, exceptionAt, armAt, unionAt}
+use Rattle.walking.specs.Nested.{sequenceAt, membersAt, exceptionAt, armAt, unionAt}
 
 -- ---- the nested visit
 
@@ -37,7 +37,7 @@ module _ {A : Type 0} (k : Sink A) (x : Source) (f : Shape → St A → St A) (t
   enter (exception ys) s = exceptionAt k x f t ys s
   enter (union d ms default) s = unionAt k x f t d ms default s
   enter (sequence y bound) s = sequenceAt k x f (t .look y) bound s
-  enter (array y n) s = elementsAt k x f (t .look y) n s
+  enter (array y n) s = repeats (f (t .look y)) n s
   enter (alias y) s = f (t .look y) s
 
 -- a visit with so many levels left
@@ -79,7 +79,7 @@ module _ {A : Type 0} (f : Node → St A → St A) (t : Checked) where
 
     -- the law, for every shape, state and f
     pub enter-is : (p : Shape) (s : St A) → enterNode k x f (node t p) s ≡ enter k x f′ t p s
-    unfolding enterNode shuts entries opens ownOf inertAt enter exceptionAt sequenceAt elementsAt closes next
+    unfolding enterNode shuts entries opens ownOf inertAt enter exceptionAt sequenceAt closes next
     enter-is fault s = refl
     enter-is (flat i) s = refl
     enter-is (struct ys) s = row-is ys s
@@ -88,7 +88,7 @@ module _ {A : Type 0} (f : Node → St A → St A) (t : Checked) where
     enter-is (union d ms default) s = union-is d ms default s
     enter-is (sequence y bound) s =
         unless-is f t (countAt k x bound s) (each y (countAt k x bound s .last))
-        (λ u. elementsAt k x f′ (t .look y) (u .last) u) (each-is y (countAt k x bound s .last) (countAt k x bound s))
+        (λ u. repeats (f′ (t .look y)) (u .last) u) (each-is y (countAt k x bound s .last) (countAt k x bound s))
     enter-is (array y n) s = each-is y n s
     enter-is (alias y) s = after-none (f (nodeAt t y) s) (closes f t 0 (each y 0)) (λ u. refl)
 
@@ -113,9 +113,9 @@ module _ {A : Type 0} (k : Sink A) (x : Source) (t : Checked) where
 
   -- the same of an array and an alias, where what the type inside looks like is known by another name
   module _ (l : ℕ) (p : Shape) (y : Inner) (q : Shape) (s d : St A) (h : l ≡ 0 → ⊥) (b : d ≡ begun k s) (e : q ≡ t .look y) where
-    pub visit-array : (n : ℕ) → p ≡ array y n → reads k x t l p s ≡ elementsAt k x (reads k x t (l - 1)) q n d
+    pub visit-array : (n : ℕ) → p ≡ array y n → reads k x t l p s ≡ repeats (reads k x t (l - 1) q) n d
     unfolding enter
-    visit-array n a = visit-some l p (array y n) s d h a b ∙ ap (λ (z : Shape). elementsAt k x (reads k x t (l - 1)) z n d) (sym e)
+    visit-array n a = visit-some l p (array y n) s d h a b ∙ ap (λ (z : Shape). repeats (reads k x t (l - 1) z) n d) (sym e)
 
     pub visit-alias : p ≡ alias y → reads k x t l p s ≡ reads k x t (l - 1) q d
     unfolding enter
@@ -127,11 +127,11 @@ module _ {A : Type 0} (k : Sink A) (x : Source) (f : Shape → St A → St A) wh
   module _ (e : Shape) (bound : ℕ) (s u : St A) (is : u ≡ countAt k x bound s) where
     pub sequence-stop : (u .fault ≡ 0 → ⊥) → sequenceAt k x f e bound s ≡ u
     unfolding sequenceAt
-    sequence-stop z = stops (λ r. elementsAt k x f e (r .last) r) (countAt k x bound s) u is z
+    sequence-stop z = stops (λ r. repeats (f e) (r .last) r) (countAt k x bound s) u is z
 
-    pub sequence-go : u .fault ≡ 0 → sequenceAt k x f e bound s ≡ elementsAt k x f e (u .last) u
+    pub sequence-go : u .fault ≡ 0 → sequenceAt k x f e bound s ≡ repeats (f e) (u .last) u
     unfolding sequenceAt
-    sequence-go z = goes-on (λ r. elementsAt k x f e (r .last) r) (countAt k x bound s) u is z
+    sequence-go z = goes-on (λ r. repeats (f e) (r .last) r) (countAt k x bound s) u is z
 
   module _ (t : Checked) (ys : List Inner) (s u : St A) (is : u ≡ textAt k x 0 s) where
     pub exception-stop : (u .fault ≡ 0 → ⊥) → exceptionAt k x f t ys s ≡ u
@@ -163,13 +163,13 @@ module _ {A : Type 0} (k : Sink A) (x : Source) (f : Shape → St A → St A) wh
 
 -- no elements, and elements where no level is left
 pub elements-none : {A : Type 0} (k : Sink A) (x : Source) (f : Shape → St A → St A) (e : Shape) (n : ℕ) (s : St A) → n ≡ 0
-    → elementsAt k x f e n s ≡ s
-unfolding elementsAt repeats
+    → repeats (f e) n s ≡ s
+unfolding repeats
 elements-none k x f e n s z = rw z
 
 module _ {A : Type 0} (k : Sink A) (x : Source) (t : Checked) (l : ℕ) where
-  pub elements-refused : (e : Shape) (n : ℕ) (s : St A) → l ≡ 0 → (n ≡ 0 → ⊥) → elementsAt k x (reads k x t l) e n s ≡ failed 55 s
-  unfolding elementsAt repeats
+  pub elements-refused : (e : Shape) (n : ℕ) (s : St A) → l ≡ 0 → (n ≡ 0 → ⊥) → repeats (reads k x t l e) n s ≡ failed 55 s
+  unfolding repeats
   elements-refused e zero s h z = absurd (z refl)
   elements-refused e (suc n) s h z =
       ap (λ (i : ℕ). repeats (reads k x t i e) (suc n) s) h
@@ -177,15 +177,14 @@ module _ {A : Type 0} (k : Sink A) (x : Source) (t : Checked) (l : ℕ) where
 
   -- elements of a kind without parameters, where a level is left
   pub elements-leaves : (kind n : ℕ) (s : St A) → 0 < l
-      → elementsAt k x (reads k x t l) (flat (Leaf kind)) n s ≡ repeats (λ u. leafAt k x kind (begun k u)) n s
-  unfolding elementsAt inertAt
+      → repeats (reads k x t l (flat (Leaf kind))) n s ≡ repeats (λ u. leafAt k x kind (begun k u)) n s
+  unfolding inertAt
   elements-leaves kind n s h =
       repeats-same (reads k x t l (flat (Leaf kind))) (λ u. leafAt k x kind (begun k u)) (λ u. reads-flat k x t l (Leaf kind) u (λ e. omega arith)) n s
 
   -- structs by their plan
   pub elements-planned : (count : ℕ) (ys : List Inner) (plan : Plan) → plan ≡ planOf t l count ys → plan .found ≡ true → (n : ℕ) (s : St A)
-      → elementsAt k x (reads k x t l) (struct ys) n s ≡ repeats (λ u. planSteps k x (plan .kinds) 0 (plan .count) (begun k u)) n s
-  unfolding elementsAt
+      → repeats (reads k x t l (struct ys)) n s ≡ repeats (λ u. planSteps k x (plan .kinds) 0 (plan .count) (begun k u)) n s
   elements-planned count ys plan is found n s =
       let fit : Fits t l ys plan = subst (Fits t l ys) (sym is) (plan-fits t l count ys (ap (λ (p : Plan). p .found) (sym is) ∙ found)) in
       repeats-same (reads k x t l (struct ys)) (λ u. planSteps k x (plan .kinds) 0 (plan .count) (begun k u)) (plan-reads k x t l ys plan fit) n s

@@ -1,5 +1,4 @@
 -- What a visit does, in the words of readers that call one another. f reads what is inside, one level down; t is the checked type.
---   elementsAt     n elements, all of one shape
 --   sequenceAt     "sequence: count, then elements"
 --   membersAt      members of these types, in order
 --   exceptionAt    "exception: a text id, then members"; "an exception's id none"
@@ -12,11 +11,8 @@ use Rattle.met.specs.declared.Arm.the-variants.{Chosen, NoneChosen}
 use Rattle.reading.specs.{Source, Sink, St, after, Sinks.repeats, Visit.Checked, Visit.textAt, Visit.countAt}
 
 module _ {A : Type 0} (k : Sink A) (x : Source) (f : Shape → St A → St A) where
-  unfoldable pub elementsAt : Shape → ℕ → St A → St A
-  elementsAt e n s = repeats (f e) n s
-
   unfoldable pub sequenceAt : Shape → ℕ → St A → St A
-  sequenceAt e bound s = after (countAt k x bound s) (λ u. elementsAt e (u .last) u)
+  sequenceAt e bound s = after (countAt k x bound s) (λ u. repeats (f e) (u .last) u)
 
   module _ (t : Checked) where
     unfoldable pub membersAt : List Inner → St A → St A

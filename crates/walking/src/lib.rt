@@ -8,10 +8,11 @@ ghost use Rattle.kinds.specs.Members.{membersOf, typesOf};
 ghost use Rattle.met.specs.Arrays.{kindsMet};
 ghost use Rattle.met.specs.Discriminants.{labelsFor};
 ghost use Rattle.met.specs.Shapes.{Shape, shapeOf, look};
+ghost use Rattle.reading.specs.Sinks.{repeats};
 ghost use Rattle.reading.specs.Visit.{Checked, checked};
 ghost use Rattle.reading.specs.Reading.{reads, levels, topOf};
 ghost use Rattle.leaves.specs.Walk.{sinkOf, sourceOf, stateOf, startOf};
-ghost use Rattle.walking.specs.Nested.{elementsAt, sequenceAt, membersAt, exceptionAt, unionAt};
+ghost use Rattle.walking.specs.Nested.{sequenceAt, membersAt, exceptionAt, unionAt};
 use cdr::Place;
 use kinds::Fields;
 use kinds::Inert;
@@ -209,7 +210,7 @@ fn elements(
     left: u32,
     c: Cursor,
 ) -> Cursor
-    ensures { λ r. ⌜ stateOf r (now (table .exit)) ≡ elementsAt (sinkOf m) (sourceOf m (now (v .entry))) (reads (sinkOf m) (sourceOf m (now (v .entry))) (checked (now (t .entry)) (kindsMet met)) left) (shapeOf (now (t .entry)) (kindsMet met) e) count (stateOf c (now (table .entry))) ⌝ }
+    ensures { λ r. ⌜ stateOf r (now (table .exit)) ≡ repeats (reads (sinkOf m) (sourceOf m (now (v .entry))) (checked (now (t .entry)) (kindsMet met)) left (shapeOf (now (t .entry)) (kindsMet met) e)) count (stateOf c (now (table .entry))) ⌝ }
 {
     match e {
         Parameters::Flat(inert) => {
@@ -242,7 +243,7 @@ fn leaf_elements(
     left: u32,
     c: Cursor,
 ) -> Cursor
-    ensures { λ r. ⌜ ((t : Checked) → stateOf r (now (table .exit)) ≡ elementsAt (sinkOf m) (sourceOf m (now (v .entry))) (reads (sinkOf m) (sourceOf m (now (v .entry))) t left) (Shape.flat (Leaf kind)) count (stateOf c (now (table .entry)))) ⌝ }
+    ensures { λ r. ⌜ ((t : Checked) → stateOf r (now (table .exit)) ≡ repeats (reads (sinkOf m) (sourceOf m (now (v .entry))) t left (Shape.flat (Leaf kind))) count (stateOf c (now (table .entry)))) ⌝ }
 {
     if count == 0 {
         return c;
@@ -263,7 +264,7 @@ fn flat_elements(
     left: u32,
     c: Cursor,
 ) -> Cursor
-    ensures { λ r. ⌜ ((t : Checked) → stateOf r (now (table .exit)) ≡ elementsAt (sinkOf m) (sourceOf m (now (v .entry))) (reads (sinkOf m) (sourceOf m (now (v .entry))) t left) (Shape.flat inert) count (stateOf c (now (table .entry)))) ⌝ }
+    ensures { λ r. ⌜ ((t : Checked) → stateOf r (now (table .exit)) ≡ repeats (reads (sinkOf m) (sourceOf m (now (v .entry))) t left (Shape.flat inert)) count (stateOf c (now (table .entry)))) ⌝ }
 {
     let mut d = c;
     let mut k: u64 = 0;
@@ -289,7 +290,7 @@ fn each(
     left: u32,
     c: Cursor,
 ) -> Cursor
-    ensures { λ r. ⌜ stateOf r (now (table .exit)) ≡ elementsAt (sinkOf m) (sourceOf m (now (v .entry))) (reads (sinkOf m) (sourceOf m (now (v .entry))) (checked (now (t .entry)) (kindsMet met)) left) (shapeOf (now (t .entry)) (kindsMet met) e) count (stateOf c (now (table .entry))) ⌝ }
+    ensures { λ r. ⌜ stateOf r (now (table .exit)) ≡ repeats (reads (sinkOf m) (sourceOf m (now (v .entry))) (checked (now (t .entry)) (kindsMet met)) left (shapeOf (now (t .entry)) (kindsMet met) e)) count (stateOf c (now (table .entry))) ⌝ }
 {
     let mut d = c;
     let mut k: u64 = 0;

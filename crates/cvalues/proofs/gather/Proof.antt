@@ -31,8 +31,8 @@ Inv-loop met n all₀ i₀ all i = Gathers met n all i
 abbrev μ-loop : tie.MeasureT-loop
 μ-loop met n all₀ i₀ all i = n - i
 
-held-requires : tie.Need-held-requires Inv-loop μ-loop
-held-requires c κs = search needs
+held-in-requires : tie.Need-held-in-requires Inv-loop μ-loop
+held-in-requires c κs = search needs
 
 none-requires : tie.Need-none-requires Inv-loop μ-loop
 none-requires c κs = search needs
@@ -51,9 +51,7 @@ loop-holds c =
 -- the entry is one of the struct's
 low : (c : tie.In-loop Inv-loop μ-loop) → c .before .loop .i < heldIn (c .before .before .before .before .args .t1)
 low c =
-    let held = c .before .before .before .held in
-    let met = c .before .before .before .before .args .t1 in
-    omega (arith, c .loop-test .taken, held .ensures, length-kinds met)
+    omega (arith, c .loop-test .taken, c .before .before .before .held-in .ensures)
 
 few : (c : tie.In-loop Inv-loop μ-loop) → c .before .loop .i < 64
 few c = omega (arith, low c)
@@ -111,7 +109,9 @@ loop-again c =
 
 -- nothing is left to be set
 over : (c : tie.After-loop Inv-loop μ-loop) → length (kindsMet (c .before .before .before .before .args .t1)) ≤ c .before .loop .i
-over c = omega (arith, c .loop-test .left, c .before .before .before .held .ensures)
+over c =
+    let met = c .before .before .before .before .args .t1 in
+    omega (arith, c .loop-test .left, c .before .before .before .held-in .ensures, length-kinds met)
 
 returns : tie.Need-returns Inv-loop μ-loop
 returns c =
@@ -129,7 +129,7 @@ gather-spec =
     (tie.spec
     Inv-loop
     μ-loop
-    held-requires
+    held-in-requires
     none-requires
     loop-holds
     mul-all

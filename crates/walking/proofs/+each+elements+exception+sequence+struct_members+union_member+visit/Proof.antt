@@ -57,7 +57,7 @@ use Rattle.met.specs.Arms.{chosenOf}
 use Rattle.met.specs.Discriminants.{labelsFor}
 use Rattle.met.specs.Shapes.{Shape, shapeOf, look}
 use Rattle.met.specs.Shapes.Shape.{flat}
-use Rattle.reading.specs.Sinks.{St}
+use Rattle.reading.specs.Sinks.{St, repeats}
 use Rattle.reading.specs.Visit.{checked}
 use Rattle.reading.specs.Reading.{reads}
 use Rattle.reading.proofs.Ways.{reads-none}
@@ -66,7 +66,6 @@ use Rattle.leaves.specs.declared.Mode.{Mode}
 use Rattle.leaves.specs.Lent.{Lent}
 use Rattle.leaves.specs.Walk.{sinkOf, sourceOf, stateOf}
 use Rattle.leaves.proofs.Loops.{Going, going-none, going-all, going-stop, going-more}
-use Rattle.walking.specs.Nested.{elementsAt}
 use Rattle.walking.proofs.Nested as way
 use Rattle.walking.proofs.Nested.{enter}
 use Rattle.walking.proofs.Onward.{Onward, onward-none, onward-all, onward-cut, onward-stop, onward-more}
@@ -181,7 +180,6 @@ each-same-length t c =
     visit .kept .1 .1 .1 .1 .0 ∙ loop .inv .same
 
 each-returns : (t : ℕ) → each-lts.Need-returns (each-of t) (each-at t) each.Post each-Inv-loop each-μ-loop
-unfolding elementsAt
 each-returns t c =
     let loop = c .before .before .before .before .before .before .before .loop in
     let loop-test = c .before .before .before .before .before .before .loop-test in
@@ -207,7 +205,6 @@ each-same-length-2 : (t : ℕ) → each-lts.Need-same-length-2 (each-of t) (each
 each-same-length-2 t c = c .before .loop .inv .same
 
 each-returns-2 : (t : ℕ) → each-lts.Need-returns-2 (each-of t) (each-at t) each.Post each-Inv-loop each-μ-loop
-unfolding elementsAt
 each-returns-2 t c = going-all (c .before .loop .inv) (c .loop-test .left)
 
 abbrev elements-of : ℕ → elements-lts.Claims
@@ -248,7 +245,7 @@ elements-returns t c =
     let u = checked (a .t .now) (kindsMet (a .met)) in
     let s = stateOf (a .c) (a .table .now) in
     leaf-elements .ensures u
-    ∙ ap (λ (p : Shape). elementsAt k x (reads k x u (a .left)) p (a .count) s) (sym (ap (shapeOf (a .t .now) (kindsMet (a .met))) (e1 .given .1) ∙ ap flat (inert .given .1)))
+    ∙ ap (λ (p : Shape). repeats (reads k x u (a .left) p) (a .count) s) (sym (ap (shapeOf (a .t .now) (kindsMet (a .met))) (e1 .given .1) ∙ ap flat (inert .given .1)))
 
 elements-flat-elements-requires : (t : ℕ) → elements-lts.Need-flat-elements-requires (elements-of t) (elements-at t) elements.Post
 elements-flat-elements-requires t c κs = search needs
@@ -271,7 +268,7 @@ elements-returns-2 t c =
     let x = sourceOf (a .m) (a .v .now) in
     let u = checked (a .t .now) (kindsMet (a .met)) in
     let s = stateOf (a .c) (a .table .now) in
-    each .ensures ∙ ap (λ (p : Parameters). elementsAt k x (reads k x u (a .left)) (shapeOf (a .t .now) (kindsMet (a .met)) p) (a .count) s) (sym (e2 .given .1))
+    each .ensures ∙ ap (λ (p : Parameters). repeats (reads k x u (a .left) (shapeOf (a .t .now) (kindsMet (a .met)) p)) (a .count) s) (sym (e2 .given .1))
 
 elements-plan-of-requires : (t : ℕ) → elements-lts.Need-plan-of-requires (elements-of t) (elements-at t) elements.Post
 elements-plan-of-requires t c κs = search needs
@@ -295,7 +292,7 @@ elements-returns-3 t c =
     let u = checked (a .t .now) (kindsMet (a .met)) in
     let s = stateOf (a .c) (a .table .now) in
     structs .ensures
-    ∙ sym (ap (λ (p : Parameters). elementsAt k x (reads k x u (a .left)) (shapeOf (a .t .now) (kindsMet (a .met)) p) (a .count) s) (e2 .given .1)
+    ∙ sym (ap (λ (p : Parameters). repeats (reads k x u (a .left) (shapeOf (a .t .now) (kindsMet (a .met)) p)) (a .count) s) (e2 .given .1)
     ∙ way.elements-planned k x u (a .left) _ _ (plan-of .result) (plan-of .ensures) (if2 .taken) (a .count) s)
 
 elements-each-requires-2 : (t : ℕ) → elements-lts.Need-each-requires-2 (elements-of t) (elements-at t) elements.Post
@@ -318,7 +315,7 @@ elements-returns-4 t c =
     let u = checked (a .t .now) (kindsMet (a .met)) in
     let s = stateOf (a .c) (a .table .now) in
     flat-elements .ensures u
-    ∙ ap (λ (p : Parameters). elementsAt k x (reads k x u (a .left)) (shapeOf (a .t .now) (kindsMet (a .met)) p) (a .count) s) (sym (e1 .given .1))
+    ∙ ap (λ (p : Parameters). repeats (reads k x u (a .left) (shapeOf (a .t .now) (kindsMet (a .met)) p)) (a .count) s) (sym (e1 .given .1))
 
 elements-same-length-5 : (t : ℕ) → elements-lts.Need-same-length-5 (elements-of t) (elements-at t) elements.Post
 elements-same-length-5 t c = c .before .before .each2 .kept .1 .1 .1 .1 .0
@@ -332,7 +329,7 @@ elements-returns-5 t c =
     let x = sourceOf (a .m) (a .v .now) in
     let u = checked (a .t .now) (kindsMet (a .met)) in
     let s = stateOf (a .c) (a .table .now) in
-    each2 .ensures ∙ ap (λ (p : Parameters). elementsAt k x (reads k x u (a .left)) (shapeOf (a .t .now) (kindsMet (a .met)) p) (a .count) s) (sym (e2 .given .1))
+    each2 .ensures ∙ ap (λ (p : Parameters). repeats (reads k x u (a .left) (shapeOf (a .t .now) (kindsMet (a .met)) p)) (a .count) s) (sym (e2 .given .1))
 
 elements-same-length-6 : (t : ℕ) → elements-lts.Need-same-length-6 (elements-of t) (elements-at t) elements.Post
 elements-same-length-6 t c = c .before .before .each3 .kept .1 .1 .1 .1 .0
@@ -444,7 +441,7 @@ sequence-returns-3 t c =
     let s = stateOf (a .c) (a .table .now) in
     let d = stateOf (count .result) (count .last .1 .1 .0) in
     elements .ensures
-    ∙ ap (λ (p : Parameters). elementsAt k x (reads k x u (a .left)) (shapeOf (a .t .now) (kindsMet (a .met)) p) (count .result .last) d) (inside-of .ensures)
+    ∙ ap (λ (p : Parameters). repeats (reads k x u (a .left) (shapeOf (a .t .now) (kindsMet (a .met)) p)) (count .result .last) d) (inside-of .ensures)
     ∙ sym (way.sequence-go k x (reads k x u (a .left)) (u .look (a .element)) (a .bound) s _ (count .ensures) (if1 .left))
 
 abbrev struct-members-of : ℕ → struct-members-lts.Claims

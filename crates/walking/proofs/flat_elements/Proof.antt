@@ -9,7 +9,6 @@ use Rattle.reading.specs.Visit.{Checked, checked}
 use Rattle.reading.specs.Reading.{reads}
 use Rattle.leaves.specs.Walk.{sinkOf, sourceOf, stateOf}
 use Rattle.leaves.proofs.Loops.{Going, going-none, going-all, going-stop, going-more}
-use Rattle.walking.specs.Nested.{elementsAt}
 use Rattle.walking.proofs.flat_elements.Statement.{statement}
 use Rattle.walking.proofs.flat_elements.Tie as tie
 
@@ -37,7 +36,6 @@ same-length c =
     flat .kept .1 .1 .0 ∙ loop .inv none .same
 
 returns : tie.Need-returns Inv-loop μ-loop
-unfolding elementsAt
 returns c t =
     let loop = c .before .before .before .before .before .before .before .loop in
     let loop-test = c .before .before .before .before .before .before .loop-test in
@@ -61,7 +59,6 @@ same-length-2 : tie.Need-same-length-2 Inv-loop μ-loop
 same-length-2 c = c .before .loop .inv none .same
 
 returns-2 : tie.Need-returns-2 Inv-loop μ-loop
-unfolding elementsAt
 returns-2 c t = going-all (c .before .loop .inv t) (c .loop-test .left)
 
 pub flat-elements-spec : {M : Type 1} → statement M

@@ -6,8 +6,7 @@ use Rattle.checking.proofs.walks.enter.Reads as reads
 use Rattle.checking.proofs.walks.enter.Lts as lts
 use Rattle.checking.proofs.walks.is_barred.Reads as is-barred-reads
 use Rattle.met.proofs.Met.add.Reads as add-reads
-use Rattle.met.proofs.Met.held.Reads as held-reads
-use mathlib.Core.Path.{_≡_, ap, _∙_}
+use mathlib.Core.Path.{_≡_, ap, sym, _∙_}
 use mathlib.Core.Bool.{Bool}
 use Prim.Native.Nat.{ℕ, _<_}
 use native.Mathlib.Omega.{arith}
@@ -15,9 +14,10 @@ use lib.ListN.{set}
 use Rattle.checking.proofs.Seen.{seen-entered}
 use lib.ListN.{length}
 use Rattle.met.specs.Arrays.{kindsMet}
+use Rattle.met.proofs.Finding.{length-kinds}
 
-held-requires : tie.Need-held-requires
-held-requires c κs = search needs
+held-in-requires : tie.Need-held-in-requires
+held-in-requires c κs = search needs
 
 is-barred-requires : tie.Need-is-barred-requires
 is-barred-requires c κs = search needs
@@ -25,7 +25,8 @@ is-barred-requires c κs = search needs
 array-write-barred : tie.Need-array-write-barred
 array-write-barred c =
     let pre = c .before .before .before .before .pre in
-    omega (arith, c .before .held .ensures, pre .0)
+    let w = c .before .before .before .before .args .walk in
+    omega (arith, c .before .held-in .ensures, length-kinds (w .met), pre .0)
 
 add-requires : tie.Need-add-requires
 add-requires c κs = search needs
@@ -37,8 +38,8 @@ returns c =
     let g = c .before .before .before .before .before .good in
     seen-entered w _ (a .place) (a .start) (a .order) (a .form) (c .before .before .before .before .before .pre .0) (c .before .before .before .before .before .pre .1) (c .before .before .before .before .before .pre .2)
     (search (needs, g)) (search (needs, g)) (search (needs, g)) (search (needs, g)) (c .add .ensures)
-    (ap (λ (n : ℕ). set (w .barred) n (c .before .is-barred .result)) (c .before .before .held .ensures) ∙ ap (set (w .barred) (length (kindsMet (w .met)))) (c .before .is-barred .ensures))
+    (ap (λ (n : ℕ). set (w .barred) n (c .before .is-barred .result)) (c .before .before .held-in .ensures ∙ sym (length-kinds (w .met))) ∙ ap (set (w .barred) (length (kindsMet (w .met)))) (c .before .is-barred .ensures))
 
 pub enter-spec : {M : Type 1} → statement M
 enter-spec =
-    tie.close (tie.spec held-requires is-barred-requires array-write-barred add-requires returns)
+    tie.close (tie.spec held-in-requires is-barred-requires array-write-barred add-requires returns)
