@@ -7,11 +7,9 @@
 --   mostKinds     "at most 64 kinds"
 --   bitAt         bit j of a number
 --   cell          whether rows of bits have a step from kind i to kind j
---   noSteps       steps of which there are none
 --   rowWith       a row with bit j set
---   withStep      the steps and one from kind i to kind j; the steps as they are where i or j is not below 64
-use Rattle.choices.specs.{Bool, false, cond, _&&_, _||_, List, ℕ, zero, suc, _/_, _%_, _^_, bitOr, ltb, eqb, getD, set, replicate}
-use Rattle.loops.specs.declared.Steps.{Steps}
+--   withStep      rows and the step from kind i to kind j; as they are where there is no row i or no bit j
+use Rattle.choices.specs.{Bool, false, cond, _&&_, _||_, List, ℕ, zero, suc, _/_, _%_, _^_, bitOr, ltb, eqb, length, getD, set}
 
 unfoldable pub closure : (ℕ → ℕ → Bool) → ℕ → ℕ → ℕ → Bool
 closure step zero i j = step i j
@@ -34,13 +32,8 @@ bitAt x (suc j) = bitAt (x / 2) j
 abbrev pub cell : List ℕ → ℕ → ℕ → Bool
 cell rows i j = bitAt (getD rows i 0) j
 
-abbrev pub noSteps : Steps
-noSteps = record { rows = replicate mostKinds 0 }
-
 abbrev pub rowWith : ℕ → ℕ → ℕ
 rowWith row j = bitOr row (2 ^ j)
 
-unfoldable pub withStep : Steps → ℕ → ℕ → Steps
-withStep s i j =
-    cond (ltb i mostKinds && ltb j mostKinds) (record { rows = set (s .rows) i (rowWith (getD (s .rows) i 0) j) })
-    s
+unfoldable pub withStep : List ℕ → ℕ → ℕ → List ℕ
+withStep rows i j = cond (ltb i (length rows) && ltb j mostKinds) (set rows i (rowWith (getD rows i 0) j)) rows

@@ -2,7 +2,7 @@
 ghost use mathlib.Core.Path.{_≡_};
 ghost use Prim.Native.Nat.{min, _≤_, _<_};
 ghost use lib.ListN.{length};
-ghost use Rattle.loops.specs.Loops.{loopFound, mostKinds, bitAt, cell, noSteps, rowWith, withStep};
+ghost use Rattle.loops.specs.Loops.{loopFound, mostKinds, bitAt, cell, rowWith, withStep};
 ghost use Rattle.loops.specs.Inner.{throughRow, RoundDone, Closed, someReturns};
 use tags::KINDS_LIMIT;
 
@@ -11,30 +11,17 @@ pub struct Steps {
     pub rows: [u64; KINDS_LIMIT],
 }
 
-impl Steps {
-    // No steps.
-    pub fn none() -> Steps
-        ensures { λ r. ⌜ r ≡ noSteps ⌝ }
-    {
-        Steps {
-            rows: [0; KINDS_LIMIT],
-        }
+// Puts a step from kind i to kind j into rows of steps; they stay as they are where there is no row i or no bit j.
+pub fn add_step(rows: &mut [u64], i: usize, j: usize)
+    ensures { λ _. ⌜ now (rows .exit) ≡ withStep (now (rows .entry)) i j ⌝ }
+{
+    if rows.len() <= i {
+        return;
     }
-
-    // The steps and one from kind i to kind j; the steps as they are where i or j is not below 64.
-    pub fn with(self, i: usize, j: usize) -> Steps
-        ensures { λ r. ⌜ r ≡ withStep self i j ⌝ }
-    {
-        if KINDS_LIMIT <= i {
-            return self;
-        }
-        if KINDS_LIMIT <= j {
-            return self;
-        }
-        let mut rows = self.rows;
-        rows[i] = with_bit(rows[i], j);
-        Steps { rows: rows }
+    if KINDS_LIMIT <= j {
+        return;
     }
+    rows[i] = with_bit(rows[i], j);
 }
 
 // Whether some kind below n, or below 64 where n is more, returns to itself in one or more steps.

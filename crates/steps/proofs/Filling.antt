@@ -1,6 +1,6 @@
 -- A kind's steps by its parameters, and the table filled kind by kind.
 use mathlib.Core.Path.{_≡_, sym, _∙_, ap, subst}
-use lib.ListN.{length}
+use lib.ListN.{length, replicate}
 use mathlib.Core.List.{List, [], _∷_}
 use mathlib.Core.Bool.{Bool, false, _&&_, _||_, or-false}
 use Prim.Native.Nat.{ℕ, _+_, _≤_}
@@ -17,8 +17,7 @@ use Rattle.kinds.specs.declared.Parameters.{Parameters}
 use Rattle.kinds.specs.declared.Parameters.the-variants.{Union}
 use Rattle.kinds.specs.Parts.{placeIn}
 use Rattle.kinds.specs.Members.{membersOf, typesOf}
-use Rattle.loops.specs.declared.Steps.{Steps}
-use Rattle.loops.specs.Loops.{loopFound, cell, noSteps}
+use Rattle.loops.specs.Loops.{loopFound, mostKinds, cell}
 use Rattle.loops.proofs.Cells.{none-cell}
 use Rattle.loops.proofs.Deciding.{found-same}
 use Rattle.kinds.specs.declared.Kind.{Kind}
@@ -76,8 +75,8 @@ lower-or-last x i f g h =
     (λ u. rw (t, u, le-ltb x (i + 1) (omega (arith, ltb-false x i u, eqb-false x i t)))))
 
 module _ (v : List ℕ) (m : List Kind) where
-  pub filled-none : (s : Steps) → s ≡ noSteps → Filled v m 0 (s .rows)
-  filled-none s e = rw e (record { cells = λ x z k. none-cell x z ∙ rw (le-ltb x 0 (omega arith)) })
+  pub filled-none : Filled v m 0 (replicate mostKinds 0)
+  filled-none = record { cells = λ x z k. none-cell x z ∙ rw (le-ltb x 0 (omega arith)) }
 
   pub filled-more : (i : ℕ) (before after : List ℕ) → Filled v m i before → Noted (length m) before i (steps v m i) after
       → Filled v m (i + 1) after

@@ -1,5 +1,5 @@
 -- A kind's steps to its members, one after the other.
-use mathlib.Core.Path.{_≡_, subst}
+use mathlib.Core.Path.{_≡_, refl, _∙_, subst}
 use lib.ListN.{length}
 use mathlib.Core.List.{List}
 use mathlib.Core.Bool.{Bool, false, _||_}
@@ -28,12 +28,13 @@ among labels v m b order n at z = anyStands m z (typesOf (membersFrom labels v b
 pub record Members (labels : Labels) (v : List ℕ) (m : List Kind) (b : Place) (order : Order) (i n : ℕ) (before : List ℕ) (first : Index)
     (now : List ℕ) (at : Index) (k : ℕ) : Type 0 where
   pub low : k ≤ n
+  pub long : length now ≡ length before
   pub on : (after : List ℕ) → Noted (length m) now i (among labels v m b order (n - k) at) after
       → Noted (length m) before i (among labels v m b order n first) after
 
 module _ {labels : Labels} {v : List ℕ} {m : List Kind} {b : Place} {order : Order} {i n : ℕ} {before : List ℕ} {first : Index} where
   pub members-none : Members labels v m b order i n before first before first 0
-  members-none = record { low = omega arith; on = rw (sub-zero n) (λ after d. d) }
+  members-none = record { low = omega arith; long = refl; on = rw (sub-zero n) (λ after d. d) }
 
   module _ {now : List ℕ} {at : Index} {k : ℕ} (r : Members labels v m b order i n before first now at k) where
     left-suc : k < n → n - k ≡ suc (n - (k + 1))
@@ -64,6 +65,7 @@ module _ {labels : Labels} {v : List ℕ} {m : List Kind} {b : Place} {order : O
       members-more {p} {then} is d =
           record {
             low = omega (arith, h);
+            long = d .long ∙ r .long;
             on = λ after e.
                 r .on after
                 (noted-same (length m) now i _ (among labels v m b order (n - k) at) after (λ z l. one-more z)

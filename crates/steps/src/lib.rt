@@ -3,7 +3,7 @@ ghost use mathlib.Core.Path.{_≡_};
 ghost use Prim.Native.Nat.{_<_};
 ghost use lib.ListN.{length};
 ghost use Rattle.met.specs.Arrays.{kindsMet};
-ghost use Rattle.loops.specs.Loops.{loopFound, mostKinds};
+ghost use Rattle.loops.specs.Loops.{loopFound};
 ghost use Rattle.kinds.specs.Members.{membersOf, typesOf};
 ghost use Rattle.steps.specs.Steps.{stands, anyStands, steps};
 ghost use Rattle.steps.specs.Inner.{Noted, Filled};
@@ -15,6 +15,7 @@ use kinds::Spot;
 use loops::Steps;
 use met::Met;
 use met::Position;
+use tags::KINDS_LIMIT;
 
 // Whether some kind of the list returns to itself in one or more steps.
 pub fn loops_back(v: &[u8], met: Met) -> bool
@@ -29,73 +30,71 @@ fn step_table(v: &[u8], met: Met) -> Steps
     ensures { λ r. ⌜ Filled (now (v .entry)) (kindsMet met) (length (kindsMet met)) (r .rows) ⌝ }
 {
     let n = met::held_in(met.count);
-    let mut table = Steps::none();
+    let mut rows: [u64; KINDS_LIMIT] = [0; KINDS_LIMIT];
     let mut i = 0;
     while i < n {
-        table = steps_from(v, met, i, table);
+        steps_from(v, met, i, &mut rows);
         i += 1;
     }
-    table
+    Steps { rows: rows }
 }
 
-// The table with the steps from kind i.
-fn steps_from(v: &[u8], met: Met, i: usize, table: Steps) -> Steps
-    requires { ⌜ i < mostKinds ⌝ }
-    ensures { λ r. ⌜ Noted (length (kindsMet met)) (table .rows) i (steps (now (v .entry)) (kindsMet met) i) (r .rows) ⌝ }
+// Puts the steps from kind i into rows.
+fn steps_from(v: &[u8], met: Met, i: usize, rows: &mut [u64])
+    requires { ⌜ i < length (now rows) ⌝ }
+    ensures { λ _. ⌜ Noted (length (kindsMet met)) (now (rows .entry)) i (steps (now (v .entry)) (kindsMet met) i) (now (rows .exit)) ⌝ }
 {
     match met::parameters_of(v, met, i) {
-        Parameters::Fault => table,
-        Parameters::Flat(_) => table,
-        Parameters::Struct(fields) => member_steps(Labels::NoLabels, v, fields, met, i, table),
-        Parameters::Exception(fields) => member_steps(Labels::NoLabels, v, fields, met, i, table),
+        Parameters::Fault => {}
+        Parameters::Flat(_) => {}
+        Parameters::Struct(fields) => member_steps(Labels::NoLabels, v, fields, met, i, rows),
+        Parameters::Exception(fields) => member_steps(Labels::NoLabels, v, fields, met, i, rows),
         Parameters::Union {
             fields,
             discriminant,
             default: _,
         } => {
             let place = kinds::place_in(discriminant);
-            let noted = note(met, place, i, table);
+            note(met, place, i, rows);
             let labels = met::labels_for(v, met, place);
-            member_steps(labels, v, fields, met, i, noted)
+            member_steps(labels, v, fields, met, i, rows)
         }
         Parameters::Sequence {
             element: _,
             bound: _,
-        } => table,
-        Parameters::Array { element, length: _ } => note(met, kinds::place_in(element), i, table),
-        Parameters::Alias(inner) => note(met, kinds::place_in(inner), i, table),
+        } => {}
+        Parameters::Array { element, length: _ } => note(met, kinds::place_in(element), i, rows),
+        Parameters::Alias(inner) => note(met, kinds::place_in(inner), i, rows),
     }
 }
 
-// The table with the steps from kind i to its members.
-fn member_steps(labels: Labels, v: &[u8], fields: Fields, met: Met, i: usize, table: Steps) -> Steps
-    requires { ⌜ i < mostKinds ⌝ }
-    ensures { λ r. ⌜ Noted (length (kindsMet met)) (table .rows) i (λ z. anyStands (kindsMet met) z (typesOf (membersOf labels (now (v .entry)) fields))) (r .rows) ⌝ }
+// Puts the steps from kind i to its members into rows.
+fn member_steps(labels: Labels, v: &[u8], fields: Fields, met: Met, i: usize, rows: &mut [u64])
+    requires { ⌜ i < length (now rows) ⌝ }
+    ensures { λ _. ⌜ Noted (length (kindsMet met)) (now (rows .entry)) i (λ z. anyStands (kindsMet met) z (typesOf (membersOf labels (now (v .entry)) fields))) (now (rows .exit)) ⌝ }
 {
     let start = fields.start;
     let order = fields.order;
     let count = fields.count;
-    let mut noted = table;
     let mut at = fields.first;
     let mut k: u64 = 0;
     while k < count {
         let Spot::At { inner, next } = kinds::member_at(labels, v, start, at, order) else {
-            return noted;
+            return;
         };
-        noted = note(met, kinds::place_in(inner), i, noted);
+        note(met, kinds::place_in(inner), i, rows);
         at = next;
         k += 1;
     }
-    noted
 }
 
-// The table with the step from kind i to the kind at a place, if one of the list stands there.
-fn note(met: Met, place: Place, i: usize, table: Steps) -> Steps
-    requires { ⌜ i < mostKinds ⌝ }
-    ensures { λ r. ⌜ Noted (length (kindsMet met)) (table .rows) i (stands (kindsMet met) place) (r .rows) ⌝ }
+// Puts the step from kind i to the kind at a place into rows, if one of the list stands there.
+fn note(met: Met, place: Place, i: usize, rows: &mut [u64])
+    requires { ⌜ i < length (now rows) ⌝ }
+    ensures { λ _. ⌜ Noted (length (kindsMet met)) (now (rows .entry)) i (stands (kindsMet met) place) (now (rows .exit)) ⌝ }
 {
     match met.position(place) {
-        Position::Is(j) => table.with(i, j),
-        Position::NoPosition => table,
+        Position::Is(j) => loops::add_step(rows, i, j),
+        Position::NoPosition => {}
     }
 }

@@ -8,11 +8,11 @@ use Rattle.steps.proofs.member_steps.Tie as tie
 use Rattle.met.specs.Arrays.{kindsMet}
 
 abbrev Inv-loop : tie.InvT-loop
-Inv-loop labels v met i start order count noted₀ at₀ k₀ noted at k =
-    Members labels v (kindsMet met) start order i count (noted₀ .rows) at₀ (noted .rows) at k
+Inv-loop labels v met i rows₀ start order count at₀ k₀ rows at k =
+    Members labels v (kindsMet met) start order i count rows₀ at₀ rows at k
 
 abbrev μ-loop : tie.MeasureT-loop
-μ-loop labels v met i start order count noted₀ at₀ k₀ noted at k = count - k
+μ-loop labels v met i rows₀ start order count at₀ k₀ rows at k = count - k
 
 loop-holds : tie.Need-loop-holds Inv-loop μ-loop
 loop-holds c = members-none
@@ -26,11 +26,13 @@ enum-known-inner c = search needs
 enum-told : tie.Need-enum-told Inv-loop μ-loop
 enum-told c = search needs
 
+same-length : tie.Need-same-length Inv-loop μ-loop
+same-length c = search needs
+
 returns : tie.Need-returns Inv-loop μ-loop
 returns c =
-    let at-member = c .before .before in
-    let at-test = at-member .before in
-    members-cut (at-test .before .loop .inv) (at-test .loop-test .taken) (sym (at-member .member-at .ensures) ∙ c .enum-told .given .1)
+    let loop = c .before .before .before .before .loop in
+    members-cut (loop .inv) (c .before .before .before .loop-test .taken) (sym (c .before .before .member-at .ensures) ∙ c .enum-told .given .1)
 
 place-in-requires : tie.Need-place-in-requires Inv-loop μ-loop
 place-in-requires c κs = search needs
@@ -46,8 +48,16 @@ loop-less c = search needs
 
 loop-again : tie.Need-loop-again Inv-loop μ-loop
 loop-again c =
-    let found = sym (c .before .before .before .before .before .member-at .ensures) ∙ c .before .before .before .inner .given .1 in
-    members-more (c .before .before .before .before .before .before .before .loop .inv) (c .before .before .before .before .before .before .loop-test .taken) found (c .before .place-in .ensures) (c .note .ensures)
+    let member-at = c .before .before .before .before .before .before .before .before .member-at in
+    let inner = c .before .before .before .before .before .before .inner in
+    let loop = c .before .before .before .before .before .before .before .before .before .before .loop in
+    let loop-test = c .before .before .before .before .before .before .before .before .before .loop-test in
+    let place-in = c .before .before .before .before .place-in in
+    let found = sym (member-at .ensures) ∙ inner .given .1 in
+    members-more (loop .inv) (loop-test .taken) found (place-in .ensures) (c .before .before .note .ensures)
+
+same-length-2 : tie.Need-same-length-2 Inv-loop μ-loop
+same-length-2 c = search needs
 
 returns-2 : tie.Need-returns-2 Inv-loop μ-loop
 returns-2 c = members-all (c .before .loop .inv) (c .loop-test .left)
@@ -62,10 +72,12 @@ member-steps-spec =
     member-at-requires
     enum-known-inner
     enum-told
+    same-length
     returns
     place-in-requires
     note-requires
     add-k
     loop-less
     loop-again
+    same-length-2
     returns-2)

@@ -2,14 +2,7 @@
 use borrow.Author.Needs.{needs}
 use Rattle.steps.proofs.steps_from.Statement.{statement}
 use Rattle.steps.proofs.steps_from.Tie as tie
-use Rattle.steps.proofs.steps_from.Reads as reads
-use Rattle.steps.proofs.steps_from.Lts as lts
-use Rattle.kinds.proofs.place_in.Reads as place-in-reads
-use Rattle.met.proofs.labels_for.Reads as labels-for-reads
-use Rattle.met.proofs.parameters_of.Reads as parameters-of-reads
-use Rattle.steps.proofs.member_steps.Reads as member-steps-reads
-use Rattle.steps.proofs.note.Reads as note-reads
-use mathlib.Core.Path.{refl, sym, _∙_, ap, subst}
+use mathlib.Core.Path.{refl, sym, _∙_}
 use Rattle.choices.specs.Lists.{anyOf}
 use Rattle.met.specs.Shapes.{shapeOf}
 use Rattle.steps.specs.Steps.{stepsOf}
@@ -80,30 +73,64 @@ returns-2 : tie.Need-returns-2
 unfolding shapeOf stepsOf anyOf
 returns-2 c = noted-no-leads _ _ _ _ _ (sym (c .before .before .parameters-of .ensures) ∙ c .enum-told2 .given .1) (λ z. refl)
 
+same-length : tie.Need-same-length
+same-length c = search needs
+
 returns-3 : tie.Need-returns-3
 unfolding shapeOf stepsOf
-returns-3 c = noted-leads _ _ _ _ _ (sym (c .before .before .before .before .parameters-of .ensures) ∙ c .before .before .fields .given .1) _ (c .member-steps .ensures)
+returns-3 c =
+    let parameters-of = c .before .before .before .before .before .before .before .parameters-of in
+    let fields2 = c .before .before .before .before .before .fields in
+    noted-leads _ _ _ _ _ (sym (parameters-of .ensures) ∙ fields2 .given .1) _ (c .before .before .member-steps .ensures)
+
+same-length-2 : tie.Need-same-length-2
+same-length-2 c = search needs
 
 returns-4 : tie.Need-returns-4
 unfolding shapeOf stepsOf
-returns-4 c = noted-leads _ _ _ _ _ (sym (c .before .before .before .before .parameters-of .ensures) ∙ c .before .before .fields2 .given .1) _ (c .member-steps2 .ensures)
+returns-4 c =
+    let parameters-of = c .before .before .before .before .before .before .before .parameters-of in
+    let fields2 = c .before .before .before .before .before .fields2 in
+    noted-leads _ _ _ _ _ (sym (parameters-of .ensures) ∙ fields2 .given .1) _ (c .before .before .member-steps2 .ensures)
+
+same-length-3 : tie.Need-same-length-3
+same-length-3 c = search needs
 
 returns-5 : tie.Need-returns-5
 returns-5 c =
-    let is = sym (c .before .before .before .before .before .before .before .parameters-of .ensures) ∙ c .before .before .before .before .before .fields3 .given .1 in
-    noted-union _ _ _ _ _ _ _ is _ (c .before .before .before .place-in .ensures) _ (c .before .labels-for .ensures) _ _ (c .before .before .note .ensures) (c .member-steps3 .ensures)
+    let parameters-of = c .before .before .before .before .before .before .before .before .before .before .before .before .before .parameters-of in
+    let fields3 = c .before .before .before .before .before .before .before .before .before .before .before .fields3 in
+    let place-in = c .before .before .before .before .before .before .before .before .before .place-in in
+    let labels-for = c .before .before .before .before .labels-for in
+    let note = c .before .before .before .before .before .before .before .note in
+    let is = sym (parameters-of .ensures) ∙ fields3 .given .1 in
+    noted-union _ _ _ _ _ _ _ is _ (place-in .ensures) _ (labels-for .ensures) _ _ (note .ensures) (c .before .before .member-steps3 .ensures)
 
 returns-6 : tie.Need-returns-6
 unfolding shapeOf stepsOf anyOf
 returns-6 c = noted-no-leads _ _ _ _ _ (sym (c .before .before .parameters-of .ensures) ∙ c .enum-told3 .given .1) (λ z. refl)
 
+same-length-4 : tie.Need-same-length-4
+same-length-4 c = search needs
+
 returns-7 : tie.Need-returns-7
 unfolding shapeOf stepsOf
-returns-7 c = noted-one _ _ _ _ _ (sym (c .before .before .before .before .before .parameters-of .ensures) ∙ c .before .before .before .element .given .1) _ _ (c .before .place-in2 .ensures) refl _ (c .note2 .ensures)
+returns-7 c =
+    let parameters-of = c .before .before .before .before .before .before .before .before .parameters-of in
+    let element = c .before .before .before .before .before .before .element in
+    let place-in2 = c .before .before .before .before .place-in2 in
+    noted-one _ _ _ _ _ (sym (parameters-of .ensures) ∙ element .given .1) _ _ (place-in2 .ensures) refl _ (c .before .before .note2 .ensures)
+
+same-length-5 : tie.Need-same-length-5
+same-length-5 c = search needs
 
 returns-8 : tie.Need-returns-8
 unfolding shapeOf stepsOf
-returns-8 c = noted-one _ _ _ _ _ (sym (c .before .before .before .before .before .parameters-of .ensures) ∙ c .before .before .before .inner .given .1) _ _ (c .before .place-in3 .ensures) refl _ (c .note3 .ensures)
+returns-8 c =
+    let parameters-of = c .before .before .before .before .before .before .before .before .parameters-of in
+    let inner = c .before .before .before .before .before .before .inner in
+    let place-in3 = c .before .before .before .before .place-in3 in
+    noted-one _ _ _ _ _ (sym (parameters-of .ensures) ∙ inner .given .1) _ _ (place-in3 .ensures) refl _ (c .before .before .note3 .ensures)
 
 pub steps-from-spec : {M : Type 1} → statement M
 steps-from-spec =
@@ -130,9 +157,14 @@ steps-from-spec =
     note-requires-3
     returns
     returns-2
+    same-length
     returns-3
+    same-length-2
     returns-4
+    same-length-3
     returns-5
     returns-6
+    same-length-4
     returns-7
+    same-length-5
     returns-8)
