@@ -3,7 +3,6 @@
 --   topOnly          "null, void or exception"
 --   isListed         a kind that is listed
 --   nestingLimit     "nesting over 16 (the top is 1)": the levels left at the top
---   kindsLimit       the most kinds
 --   belowTop         a kind that only the top may have, where fewer levels are left than at the top
 --   entryOf          whether a kind may stand where it does, with so many levels left and kinds met: "at one kind the order is 31, 40,
 --                    38, 37"
@@ -35,14 +34,10 @@ use Rattle.cdr.specs.{Index, Place, Order, Named, Is, NoOrder, Four, indexOf, o
 use Rattle.encapsulation.specs.{Str, Characters, BadText as badText, NoText, fieldOf, stringOf}
 use Rattle.kinds.specs.{Form, Unlisted, Plain, Bounded, Composite, Labels, Of, NoLabels, onField, longRange, membersOf}
 use Rattle.kinds.specs.{Parameters.fieldsOf}
-use Rattle.met.specs.{Discriminants.outOfKind, Arms.counts, Arms.caseOf, Arms.noDefault, Arms.onArm}
-use Rattle.fields.specs.{declared.Entry.Entry, declared.Entry.the-variants.Barred, declared.Entry.the-variants.Enters}
-use Rattle.fields.specs.{declared.Step.Step, declared.Step.the-variants.Refused, declared.Step.the-variants.Next}
-use Rattle.fields.specs.{declared.Count.Count, declared.Count.the-variants.Wrong, declared.Count.the-variants.Stands}
-use Rattle.fields.specs.{declared.Switch.Switch, declared.Switch.the-variants.NoSwitch, declared.Switch.the-variants.Cases}
-use Rattle.fields.specs.{declared.Part.Part, declared.Part.the-variants.NoPart, declared.Part.the-variants.Inside}
-use Rattle.fields.specs.declared.Refusal.the-variants.{Ends, NoSuchKind, BadText, BadEncapsulation, NoCount, BadUnion, TooManyKinds}
-use Rattle.fields.specs.declared.Refusal.the-variants.{TooDeep, BelowTop}
+use Rattle.met.specs.{Discriminants.outOfKind, Arms.counts, Arms.caseOf, Arms.noDefault, Arms.onArm, Met.kindsLimit}
+use Rattle.fields.specs.Names.{Count, Wrong, Stands, Entry, Barred, Enters, Part, NoPart, Inside, Step, Refused, Next, Switch}
+use Rattle.fields.specs.Names.{NoSwitch, Cases, Ends, NoSuchKind, BadText, BadEncapsulation, NoCount, BadUnion, TooManyKinds}
+use Rattle.fields.specs.Names.{TooDeep, BelowTop}
 
 abbrev pub topOnly : ℕ → Bool
 topOnly kind = eqb kind 0 || (eqb kind 1 || eqb kind 22)
@@ -55,9 +50,6 @@ isListed (Composite layout) = true
 
 abbrev pub nestingLimit : ℕ
 nestingLimit = 16
-
-abbrev pub kindsLimit : ℕ
-kindsLimit = 64
 
 unfoldable pub belowTop : ℕ → ℕ → Bool
 belowTop kind left = cond (eqb left nestingLimit) false (topOnly kind)

@@ -2,9 +2,8 @@
 -- these: it comes "last of all", when no octet is at fault.
 --   refusalNumber    the number of a refusal
 use Rattle.choices.specs.{ℕ}
-use Rattle.fields.specs.declared.Refusal.{Refusal}
-use Rattle.fields.specs.declared.Refusal.the-variants.{Ends, NoSuchKind, BadText, BadEncapsulation, NoCount, BadUnion, BadTarget}
-use Rattle.fields.specs.declared.Refusal.the-variants.{TooManyKinds, TooDeep, BelowTop, TooLong}
+use Rattle.fields.specs.Names.{Refusal, Ends, NoSuchKind, BadText, BadEncapsulation, NoCount, BadUnion, BadTarget, TooManyKinds}
+use Rattle.fields.specs.Names.{TooDeep, BelowTop, TooLong}
 
 abbrev pub refusalNumber : Refusal → ℕ
 refusalNumber Ends = 30

@@ -1,6 +1,6 @@
--- What stands at an index of an encapsulation, read from the octets of the whole TypeCode: v are these, b is the place where the
--- encapsulation starts, its own index 0. Nothing is judged here. The octets from b on go further than the encapsulation does: of a kind
--- that was read to its end all of it lies inside, and of a union that is asked for its own discriminant it only matters that it is none.
+-- What stands at an index of an encapsulation, by the octets v of the whole TypeCode and the place b where the encapsulation starts.
+-- Nothing is judged here. The octets from b on go past the encapsulation: a kind that was read to its end lies inside it, and of a union
+-- that is asked for its own discriminant it only matters that it is none.
 --   placeOf        a place in the whole TypeCode
 --   writtenAt      the kind that is written at a place, in an encapsulation of a start and an order
 --   placeIn        the place of a type inside another, an indirection counting as its target

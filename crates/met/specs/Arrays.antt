@@ -12,7 +12,7 @@
 use Rattle.choices.specs.{ℕ, zero, suc, min, _+_, List, [], _∷_, Bool, cond, _&&_, ltb, eqb, getD, set, replicate}
 use Rattle.cdr.specs.{Place, Order, Big, Little, Orders.orderOctet}
 use Rattle.kinds.specs.{Kind, placeOf, writtenAt}
-use Rattle.met.specs.declared.Met.{Met}
+use Rattle.met.specs.{declared.Met.Met, Met.kindsLimit}
 
 abbrev pub orderIn : ℕ → Order
 orderIn octet = cond (eqb octet 1) Little Big
@@ -25,16 +25,16 @@ kindsFrom m zero i = []
 kindsFrom m (suc n) i = entryAt m i ∷ kindsFrom m n (i + 1)
 
 abbrev pub heldIn : Met → ℕ
-heldIn m = min (m .count) 64
+heldIn m = min (m .count) kindsLimit
 
 unfoldable pub kindsMet : Met → List Kind
 kindsMet m = kindsFrom m (heldIn m) 0
 
 abbrev pub noKinds : Met
-noKinds = record { places = replicate 64 0; starts = replicate 64 0; orders = replicate 64 0; count = 0 }
+noKinds = record { places = replicate kindsLimit 0; starts = replicate kindsLimit 0; orders = replicate kindsLimit 0; count = 0 }
 
 abbrev pub hasRoom : Met → Place → Place → Bool
-hasRoom m p b = ltb (m .count) 64 && (ltb (p .0) 65536 && ltb (b .0) 65536)
+hasRoom m p b = ltb (m .count) kindsLimit && (ltb (p .0) 65536 && ltb (b .0) 65536)
 
 unfoldable pub added : Met → Place → Place → Order → Met
 added m p b order =

@@ -5,14 +5,13 @@
 --   discriminantOf     what a discriminant's parameters say: an alias leads on
 --   onDiscriminant     the labels, through an alias if it is one
 --   labelsAfter        the labels of a discriminant at a place, with so many kinds to go through
---   aliasLimit         the most kinds, which is enough: a way that ends meets no kind twice (`resolved-exactly`, in `accepted`)
---   labelsFor          the labels of a discriminant at a place, if its kind is one that a discriminant may have
+--   labelsFor          the same through the most kinds, which is enough: a way that ends meets no kind twice (`resolved-exactly`, in `accepted`)
 --   outOfKind          a label is not below its limit, of which 0 is none
 use Rattle.choices.specs.{ℕ, zero, suc, List, Bool, false, cond, leb, eqb}
 use Rattle.cdr.specs.{Place, One, Two, Four, Eight}
 use Rattle.kinds.specs.{Inner, Inert, Leaf, Text, Objref, Enum, Labels, Of, NoLabels, Kind, placeIn, declared.Parameters.Parameters}
 use Rattle.kinds.specs.declared.Parameters.the-variants.{Fault, Flat, Struct, Exception, Union, Sequence, Array, Alias}
-use Rattle.met.specs.{declared.Discriminant.Discriminant, Met.foundAt}
+use Rattle.met.specs.{declared.Discriminant.Discriminant, Met.kindsLimit, Met.foundAt}
 use Rattle.met.specs.declared.Discriminant.the-variants.{Through, Says}
 
 unfoldable pub leafLabels : ℕ → Labels
@@ -51,11 +50,8 @@ unfoldable pub labelsAfter : List ℕ → List Kind → ℕ → Place → Labels
 labelsAfter v ks zero p = NoLabels
 labelsAfter v ks (suc l) p = onDiscriminant (discriminantOf (foundAt v ks p)) (λ x. labelsAfter v ks l (placeIn x))
 
-abbrev pub aliasLimit : ℕ
-aliasLimit = 64
-
 unfoldable pub labelsFor : List ℕ → List Kind → Place → Labels
-labelsFor v ks p = labelsAfter v ks aliasLimit p
+labelsFor v ks p = labelsAfter v ks kindsLimit p
 
 unfoldable pub outOfKind : ℕ → ℕ → Bool
 outOfKind limit x = cond (eqb limit 0) false (leb limit x)

@@ -1,4 +1,5 @@
 -- "A list of at most 64 kinds met, with place, start and byte order": the list, and what is found in it.
+--   kindsLimit      the most kinds
 --   noKind          what stands past the end of the list
 --   kindNo          the kind at a position
 --   findKind        the position of the kind at a place, the length where none is there
@@ -14,6 +15,9 @@ use Rattle.kinds.specs.{Kind, Inner, Here, There, placeOf, writtenAt, declared.
 use Rattle.kinds.specs.{declared.Parameters.the-variants.Fault, Parameters.parametersAt}
 use Rattle.met.specs.declared.Position.{Position}
 use Rattle.met.specs.declared.Position.the-variants.{Is, NoPosition}
+
+abbrev pub kindsLimit : ℕ
+kindsLimit = 64
 
 abbrev pub noKind : Kind
 noKind = writtenAt (placeOf 0) (placeOf 0) Big
