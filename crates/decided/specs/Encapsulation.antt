@@ -5,8 +5,8 @@ use Rattle.cdr.specs.declared.Order.the-variants.{Big}
 use Rattle.cdr.specs.declared.Size.the-variants.{Four}
 use Rattle.cdr.specs.Align.{indexOf}
 use Rattle.cdr.specs.Number.{littleNumber, littleOctets, numberOf, octetsOf, numberAt, readOf}
-use Rattle.encapsulation.specs.declared.Field.the-variants.{Value}
-use Rattle.encapsulation.specs.Encapsulation.{fieldOf}
+use Rattle.cdr_fields.specs.declared.Field.the-variants.{Value}
+use Rattle.cdr_fields.specs.Encapsulation.{fieldOf}
 
 pub field-behind-gap : fieldOf (octetsOf Big 8 7) (indexOf 1) Four Big ≡ Value 7 (indexOf 8)
 unfolding littleNumber littleOctets numberOf octetsOf numberAt readOf fieldOf

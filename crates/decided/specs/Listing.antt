@@ -14,11 +14,11 @@ use Rattle.hexline.specs.Decoding.{allDigits, lineOctets, digitsDecoded, decode
 use Rattle.lines.specs.Lines.{linesFrom}
 use Rattle.decimals.specs.Decimal.{decimalWithin}
 use Rattle.frame.specs.Frames.{messageOf, frameOf}
-use Rattle.places.specs.Places.{freshRecord, openCount, opened}
+use Rattle.join_places.specs.Places.{freshRecord, openCount, opened}
 use Rattle.joining.specs.Steps.{stepOf}
-use Rattle.listing.specs.Text.{lineText, endText}
-use Rattle.listing.specs.Listing.{entryOf, listingFrom}
-use Rattle.listing.specs.Blocks.{freshState, listingAfter, endOf}
+use Rattle.recording_text.specs.Text.{lineText, endText}
+use Rattle.recording_text.specs.Listing.{entryOf, listingFrom}
+use Rattle.recording_text.specs.Blocks.{freshState, listingAfter, endOf}
 
 pub nothing-begun : freshState .kept ≡ 0
 nothing-begun = refl

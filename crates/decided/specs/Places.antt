@@ -8,9 +8,9 @@ use mathlib.Core.Path.{_≡_, refl}
 use mathlib.Core.List.{[], _∷_}
 use mathlib.Core.Bool.{true, false}
 use lib.ListN.{getD, replicate}
-use Rattle.places.specs.declared.Record.{Record}
-use Rattle.places.specs.declared.Found.the-variants.{At, Nowhere}
-use Rattle.places.specs.Places.{freshRecord, isAt, lowestFree, openCount, closed}
+use Rattle.join_places.specs.declared.Record.{Record}
+use Rattle.join_places.specs.declared.Found.the-variants.{At, Nowhere}
+use Rattle.join_places.specs.Places.{freshRecord, isAt, lowestFree, openCount, closed}
 
 abbrev pub full : Record
 full = record { ids = 1 ∷ 2 ∷ 3 ∷ 4 ∷ []; lengths = replicate 4 16; opened = replicate 4 true }

@@ -14,16 +14,16 @@ use Prim.Native.Nat.{ℕ}
 use Rattle.choices.specs.Branch.{choose}
 use Rattle.cdr.specs.declared.Order.the-variants.{Big}
 use Rattle.cdr.specs.Number.{littleNumber, littleOctets, numberOf, octetsOf, numberAt, readOf}
-use Rattle.texts.specs.Text.{textOf, endsText, overBound, runOf}
-use Rattle.encapsulation.specs.Encapsulation.{fieldOf, stringOf, countedOf}
+use Rattle.cdr_text.specs.Text.{textOf, endsText, overBound, runOf}
+use Rattle.cdr_fields.specs.Encapsulation.{fieldOf, stringOf, countedOf}
 use Rattle.version.specs.Versions.{majorExists, minorExists, hasComponents}
-use Rattle.parts.specs.declared.Refusal.the-variants.{Ends, AfterKey, NoSuchComponent}
-use Rattle.parts.specs.Parts.{orderAt, minorAt, versionAt, hostAt, numberPartAt, keyAt, componentAt}
+use Rattle.profile_parts.specs.declared.Refusal.the-variants.{Ends, AfterKey, NoSuchComponent}
+use Rattle.profile_parts.specs.Parts.{orderAt, minorAt, versionAt, hostAt, numberPartAt, keyAt, componentAt}
 use Rattle.profile.specs.declared.ProfileAnswer.the-variants.{Refused}
 use Rattle.profile.specs.declared.ComponentAnswer.the-variants.{Refused as notFound}
 use Rattle.profile.specs.List.{skipFrom, listFrom, countedList, listAt, componentFrom}
 use Rattle.profile.specs.Profile.{profileNumber, componentNumber, profileOf, octetsIn, hostOctets, keyOctets, componentThen, componentOf, componentOctets}
-use Rattle.cprofiles.specs.Answers.{rowAfter, foundAfter}
+use Rattle.c_profiles.specs.Answers.{rowAfter, foundAfter}
 
 abbrev plain : List ℕ
 plain = octetsOf Big 17 0x000100000000000268000001000000016B

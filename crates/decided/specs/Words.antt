@@ -8,7 +8,7 @@ use mathlib.Core.Bool.{true, false}
 use Rattle.choices.specs.Branch.{choose}
 use Rattle.cdr.specs.declared.Order.the-variants.{Big}
 use Rattle.cdr.specs.declared.Named.the-variants.{Is, NoOrder}
-use Rattle.words.specs.Words.{wordsFrom, words, sameWord, orderWord}
+use Rattle.ask_words.specs.Words.{wordsFrom, words, sameWord, orderWord}
 
 pub space-between : words (97 ∷ 32 ∷ 98 ∷ []) ≡ (97 ∷ []) ∷ (98 ∷ []) ∷ []
 unfolding choose wordsFrom

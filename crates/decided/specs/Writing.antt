@@ -9,9 +9,9 @@ use Rattle.cdr.specs.declared.Order.the-variants.{Little}
 use Rattle.cdr.specs.declared.Size.the-variants.{Two}
 use Rattle.cdr.specs.Align.{octets}
 use Rattle.cdr.specs.Number.{littleOctets, octetsOf}
-use Rattle.texts.specs.Text.{runOf}
-use Rattle.writing.specs.declared.Written.the-variants.{Upto, NoRoom}
-use Rattle.writing.specs.Write.{writtenOf, holding}
+use Rattle.cdr_text.specs.Text.{runOf}
+use Rattle.cdr_write.specs.declared.Written.the-variants.{Upto, NoRoom}
+use Rattle.cdr_write.specs.Write.{writtenOf, holding}
 
 pub little-first : holding (writtenOf (9 ∷ 9 ∷ 9 ∷ []) 0 2) (9 ∷ 9 ∷ 9 ∷ []) 0 (octetsOf Little (octets Two) 1) ≡ 1 ∷ 0 ∷ 9 ∷ []
 unfolding littleOctets octetsOf runOf

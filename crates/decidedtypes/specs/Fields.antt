@@ -33,23 +33,23 @@ use Rattle.cdr.specs.declared.Order.the-variants.{Big, Little}
 use Rattle.cdr.specs.declared.Size.the-variants.{One, Four}
 use Rattle.cdr.specs.Align.{indexOf}
 use Rattle.cdr.specs.Number.{littleNumber, littleOctets, numberOf, octetsOf, numberAt, readOf}
-use Rattle.texts.specs.Text.{overBound, endsText, textOf, runOf}
-use Rattle.encapsulation.specs.Encapsulation.{fieldOf, stringOf, countedOf}
-use Rattle.kinds.specs.declared.Form.the-variants.{Plain}
-use Rattle.kinds.specs.declared.Labels.the-variants.{Of}
-use Rattle.kinds.specs.Forms.{formOf}
-use Rattle.kinds.specs.Parts.{placeOf, fieldIn, skipField, skipCounted, spotAt, memberAt}
-use Rattle.kinds.specs.Members.{membersFrom}
-use Rattle.met.specs.Discriminants.{outOfKind}
-use Rattle.met.specs.Arms.{caseFrom, noDefault}
-use Rattle.fields.specs.declared.Refusal.the-variants.{Ends, BadText, BadEncapsulation, NoCount, BadUnion, TooManyKinds, TooDeep, BelowTop}
-use Rattle.fields.specs.declared.Entry.the-variants.{Barred}
-use Rattle.fields.specs.declared.Step.the-variants.{Refused, Next}
-use Rattle.fields.specs.declared.Count.the-variants.{Wrong, Stands}
-use Rattle.fields.specs.declared.Switch.the-variants.{NoSwitch, Cases}
-use Rattle.fields.specs.declared.Part.the-variants.{NoPart, Inside}
-use Rattle.fields.specs.Refusals.{refusalNumber}
-use Rattle.fields.specs.Fields.{belowTop, entryOf, textStep, namesStep, numberStep, countStep, anyCount, headStep, exceptionStep, lengthStep, textsStep, enumStep, partOf, badDefault, switchStep, labelBefore, labelStep}
+use Rattle.cdr_text.specs.Text.{overBound, endsText, textOf, runOf}
+use Rattle.cdr_fields.specs.Encapsulation.{fieldOf, stringOf, countedOf}
+use Rattle.type_kinds.specs.declared.Form.the-variants.{Plain}
+use Rattle.type_kinds.specs.declared.Labels.the-variants.{Of}
+use Rattle.type_kinds.specs.Forms.{formOf}
+use Rattle.type_kinds.specs.Parts.{placeOf, fieldIn, skipField, skipCounted, spotAt, memberAt}
+use Rattle.type_kinds.specs.Members.{membersFrom}
+use Rattle.type_list.specs.Discriminants.{outOfKind}
+use Rattle.type_list.specs.Arms.{caseFrom, noDefault}
+use Rattle.type_fields.specs.declared.Refusal.the-variants.{Ends, BadText, BadEncapsulation, NoCount, BadUnion, TooManyKinds, TooDeep, BelowTop}
+use Rattle.type_fields.specs.declared.Entry.the-variants.{Barred}
+use Rattle.type_fields.specs.declared.Step.the-variants.{Refused, Next}
+use Rattle.type_fields.specs.declared.Count.the-variants.{Wrong, Stands}
+use Rattle.type_fields.specs.declared.Switch.the-variants.{NoSwitch, Cases}
+use Rattle.type_fields.specs.declared.Part.the-variants.{NoPart, Inside}
+use Rattle.type_fields.specs.Refusals.{refusalNumber}
+use Rattle.type_fields.specs.Fields.{belowTop, entryOf, textStep, namesStep, numberStep, countStep, anyCount, headStep, exceptionStep, lengthStep, textsStep, enumStep, partOf, badDefault, switchStep, labelBefore, labelStep}
 
 abbrev pub headed : ℕ → List ℕ
 headed count = octetsOf Big 24 (0x000000000000000100000000000000010000000000000000 + count)

@@ -16,20 +16,20 @@ use Rattle.cdr.specs.declared.Order.the-variants.{Big, Little}
 use Rattle.cdr.specs.declared.Size.the-variants.{Four, Eight}
 use Rattle.cdr.specs.Align.{indexOf}
 use Rattle.cdr.specs.Number.{littleNumber, littleOctets, numberOf, octetsOf, numberAt, readOf}
-use Rattle.texts.specs.Text.{runOf}
-use Rattle.encapsulation.specs.declared.Field.the-variants.{Value, NoField}
-use Rattle.encapsulation.specs.Encapsulation.{fieldOf, countedOf}
-use Rattle.kinds.specs.declared.Form.the-variants.{Unlisted, Plain, Composite}
-use Rattle.kinds.specs.declared.Layout.the-variants.{Struct, Alias}
-use Rattle.kinds.specs.declared.Labels.the-variants.{Of}
-use Rattle.kinds.specs.declared.Target.the-variants.{To, Outside}
-use Rattle.kinds.specs.declared.Inner.the-variants.{Here, There}
-use Rattle.kinds.specs.declared.Spot.the-variants.{At}
-use Rattle.kinds.specs.declared.Inert.the-variants.{Leaf}
-use Rattle.kinds.specs.declared.Parameters.the-variants.{Fault, Flat, Sequence}
-use Rattle.kinds.specs.Forms.{formOf}
-use Rattle.kinds.specs.Parts.{placeOf, writtenAt, fieldIn, skipField, skipCounted, targetOf, aimed, spotAt, memberAt}
-use Rattle.kinds.specs.Parameters.{elementIn, encapsulated, parametersAt}
+use Rattle.cdr_text.specs.Text.{runOf}
+use Rattle.cdr_fields.specs.declared.Field.the-variants.{Value, NoField}
+use Rattle.cdr_fields.specs.Encapsulation.{fieldOf, countedOf}
+use Rattle.type_kinds.specs.declared.Form.the-variants.{Unlisted, Plain, Composite}
+use Rattle.type_kinds.specs.declared.Layout.the-variants.{Struct, Alias}
+use Rattle.type_kinds.specs.declared.Labels.the-variants.{Of}
+use Rattle.type_kinds.specs.declared.Target.the-variants.{To, Outside}
+use Rattle.type_kinds.specs.declared.Inner.the-variants.{Here, There}
+use Rattle.type_kinds.specs.declared.Spot.the-variants.{At}
+use Rattle.type_kinds.specs.declared.Inert.the-variants.{Leaf}
+use Rattle.type_kinds.specs.declared.Parameters.the-variants.{Fault, Flat, Sequence}
+use Rattle.type_kinds.specs.Forms.{formOf}
+use Rattle.type_kinds.specs.Parts.{placeOf, writtenAt, fieldIn, skipField, skipCounted, targetOf, aimed, spotAt, memberAt}
+use Rattle.type_kinds.specs.Parameters.{elementIn, encapsulated, parametersAt}
 
 pub alias-is-alias : formOf 21 ≡ Composite Alias
 unfolding formOf

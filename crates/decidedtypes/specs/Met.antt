@@ -32,23 +32,23 @@ use Rattle.cdr.specs.declared.Order.the-variants.{Big, Little}
 use Rattle.cdr.specs.declared.Size.the-variants.{One, Four}
 use Rattle.cdr.specs.Align.{indexOf}
 use Rattle.cdr.specs.Number.{littleNumber, littleOctets, numberOf, octetsOf, numberAt, readOf}
-use Rattle.texts.specs.Text.{runOf}
-use Rattle.encapsulation.specs.Encapsulation.{fieldOf, countedOf}
-use Rattle.kinds.specs.declared.Labels.the-variants.{Of}
-use Rattle.kinds.specs.declared.Inner.the-variants.{Here, There}
-use Rattle.kinds.specs.declared.Inert.the-variants.{Leaf}
-use Rattle.kinds.specs.declared.Parameters.the-variants.{Fault, Flat}
-use Rattle.kinds.specs.Forms.{formOf}
-use Rattle.kinds.specs.Parts.{placeOf, writtenAt, fieldIn, skipField, skipCounted, spotAt, memberAt}
-use Rattle.kinds.specs.Members.{Member, membersFrom, membersOf}
-use Rattle.kinds.specs.Parameters.{fieldsOf, parametersAt}
-use Rattle.met.specs.declared.Met.{Met}
-use Rattle.met.specs.declared.Position.the-variants.{Is, NoPosition}
-use Rattle.met.specs.declared.Arm.the-variants.{Chosen, NoneChosen}
-use Rattle.met.specs.Met.{findKind, positionOf, parametersOf, foundAt, insideOf}
-use Rattle.met.specs.Arrays.{kindsFrom, kindsMet, noKinds, added}
-use Rattle.met.specs.Discriminants.{leafLabels, labelsAfter, labelsFor, outOfKind}
-use Rattle.met.specs.Arms.{caseFrom, caseOf, memberNo, noDefault, defaultOf, chosenOf}
+use Rattle.cdr_text.specs.Text.{runOf}
+use Rattle.cdr_fields.specs.Encapsulation.{fieldOf, countedOf}
+use Rattle.type_kinds.specs.declared.Labels.the-variants.{Of}
+use Rattle.type_kinds.specs.declared.Inner.the-variants.{Here, There}
+use Rattle.type_kinds.specs.declared.Inert.the-variants.{Leaf}
+use Rattle.type_kinds.specs.declared.Parameters.the-variants.{Fault, Flat}
+use Rattle.type_kinds.specs.Forms.{formOf}
+use Rattle.type_kinds.specs.Parts.{placeOf, writtenAt, fieldIn, skipField, skipCounted, spotAt, memberAt}
+use Rattle.type_kinds.specs.Members.{Member, membersFrom, membersOf}
+use Rattle.type_kinds.specs.Parameters.{fieldsOf, parametersAt}
+use Rattle.type_list.specs.declared.Met.{Met}
+use Rattle.type_list.specs.declared.Position.the-variants.{Is, NoPosition}
+use Rattle.type_list.specs.declared.Arm.the-variants.{Chosen, NoneChosen}
+use Rattle.type_list.specs.Met.{findKind, positionOf, parametersOf, foundAt, insideOf}
+use Rattle.type_list.specs.Arrays.{kindsFrom, kindsMet, noKinds, added}
+use Rattle.type_list.specs.Discriminants.{leafLabels, labelsAfter, labelsFor, outOfKind}
+use Rattle.type_list.specs.Arms.{caseFrom, caseOf, memberNo, noDefault, defaultOf, chosenOf}
 
 abbrev pub one : Met
 one = added noKinds (placeOf 8) (placeOf 4) Little

@@ -10,9 +10,9 @@ use Rattle.hexline.specs.Digit.{isDigit}
 use Rattle.hexline.specs.Decoding.{allDigits, digitsDecoded, decodedOf}
 use Rattle.hexline.specs.Encoding.{encodedOf}
 use Rattle.frame.specs.Frames.{messageOf, frameOf}
-use Rattle.answers.specs.declared.Answer.the-variants.{Held}
-use Rattle.answers.specs.Answers.{outputIn}
-use Rattle.cmessages.specs.Answers.{decodedCount, encodedCount, headerAfter, joinedCount}
+use Rattle.join_answers.specs.declared.Answer.the-variants.{Held}
+use Rattle.join_answers.specs.Answers.{outputIn}
+use Rattle.c_messages.specs.Answers.{decodedCount, encodedCount, headerAfter, joinedCount}
 
 pub octets-are-counted : decodedCount (decodedOf (52 ∷ 55 ∷ []) 1) 9 ≡ 1
 unfolding isDigit allDigits digitsDecoded decodedOf

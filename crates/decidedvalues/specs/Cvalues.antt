@@ -12,28 +12,28 @@ use Rattle.choices.specs.Lists.{anyOf}
 use Rattle.cdr.specs.declared.Order.the-variants.{Big}
 use Rattle.cdr.specs.Align.{indexOf}
 use Rattle.cdr.specs.Number.{littleNumber, littleOctets, numberOf, octetsOf, numberAt, readOf}
-use Rattle.encapsulation.specs.Encapsulation.{fieldOf}
-use Rattle.kinds.specs.Forms.{formOf}
-use Rattle.kinds.specs.Parts.{fieldIn}
-use Rattle.kinds.specs.Parameters.{parametersAt}
-use Rattle.met.specs.Met.{findKind, positionOf, parametersOf, foundAt, insideOf}
-use Rattle.met.specs.Shapes.{shapeOf, look}
-use Rattle.fields.specs.Fields.{belowTop, entryOf}
-use Rattle.checking.specs.Walk.{entered, closed}
-use Rattle.checking.specs.Types.{enteredAt, kindAt, enterAt, typeAt, walkedOf}
-use Rattle.loops.specs.Loops.{closure, anyBelow, loopFound}
-use Rattle.steps.specs.Steps.{stepsOf, steps}
+use Rattle.cdr_fields.specs.Encapsulation.{fieldOf}
+use Rattle.type_kinds.specs.Forms.{formOf}
+use Rattle.type_kinds.specs.Parts.{fieldIn}
+use Rattle.type_kinds.specs.Parameters.{parametersAt}
+use Rattle.type_list.specs.Met.{findKind, positionOf, parametersOf, foundAt, insideOf}
+use Rattle.type_list.specs.Shapes.{shapeOf, look}
+use Rattle.type_fields.specs.Fields.{belowTop, entryOf}
+use Rattle.type_walk.specs.Walk.{entered, closed}
+use Rattle.type_walk.specs.Types.{enteredAt, kindAt, enterAt, typeAt, walkedOf}
+use Rattle.type_loops.specs.Loops.{closure, anyBelow, loopFound}
+use Rattle.type_steps.specs.Steps.{stepsOf, steps}
 use Rattle.typecode.specs.TypeCode.{loopLast, checkedType}
-use Rattle.reading.specs.Sinks.{taken, done, numberStep}
-use Rattle.reading.specs.Visit.{sizeOf, leafDone, leafAt, inertAt}
-use Rattle.reading.specs.Reading.{reads, reading}
-use Rattle.reading.specs.Opens.{readsNode, enterNode, ownOf, opens, closes, shuts, next, entries}
-use Rattle.reading.specs.Value.{visitsIn, readingOf, valueAnswer}
+use Rattle.value_meaning.specs.Sinks.{taken, done, numberStep}
+use Rattle.value_meaning.specs.Visit.{sizeOf, leafDone, leafAt, inertAt}
+use Rattle.value_meaning.specs.Reading.{reads, reading}
+use Rattle.value_meaning.specs.Opens.{readsNode, enterNode, ownOf, opens, closes, shuts, next, entries}
+use Rattle.value_meaning.specs.Value.{visitsIn, readingOf, valueAnswer}
 use Rattle.value.specs.Single.{givenIn, givenBy, itemAnswer}
-use Rattle.written.specs.Written.{target, unnamedOrder, wrote, writes}
-use Rattle.written.specs.Rewriting.{writtenCount, rewriteOf, rewriteAnswer, outputAfter}
-use Rattle.cvalues.specs.Types.{orderIs, usedAfter}
-use Rattle.cvalues.specs.Values.{valueAt}
+use Rattle.rewrite_meaning.specs.Written.{target, unnamedOrder, wrote, writes}
+use Rattle.rewrite_meaning.specs.Rewriting.{writtenCount, rewriteOf, rewriteAnswer, outputAfter}
+use Rattle.c_values.specs.Types.{orderIs, usedAfter}
+use Rattle.c_values.specs.Values.{valueAt}
 
 pub type-is-kept : usedAfter (checkedType [] (orderIs false) .answer) (8 ∷ 9 ∷ []) ≡ 8 ∷ 9 ∷ []
 unfolding choose readOf fieldOf kindAt typeAt walkedOf checkedType

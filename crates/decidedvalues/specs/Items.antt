@@ -5,8 +5,8 @@
 use mathlib.Core.Path.{_≡_, refl}
 use mathlib.Core.Bool.{true, false}
 use lib.IntN.{negsuc}
-use Rattle.items.specs.declared.Item.the-variants.{Signed}
-use Rattle.items.specs.Items.{signedKind, caseOf, bitsOf}
+use Rattle.value_items.specs.declared.Item.the-variants.{Signed}
+use Rattle.value_items.specs.Items.{signedKind, caseOf, bitsOf}
 
 pub short-is-signed : signedKind 2 ≡ true
 short-is-signed = refl

@@ -29,13 +29,13 @@ use Rattle.cdr.specs.declared.Order.the-variants.{Big}
 use Rattle.cdr.specs.declared.Size.the-variants.{One, Two, Eight}
 use Rattle.cdr.specs.Align.{indexOf}
 use Rattle.cdr.specs.Number.{littleNumber, littleOctets, numberOf, octetsOf, numberAt, readOf, signExtended}
-use Rattle.texts.specs.Text.{overBound, endsText}
-use Rattle.reading.specs.Sinks.{St, st, failed, after, repeats, begun, taken, done, numberStep, octetsStep}
-use Rattle.reading.specs.Visit.{sizeOf, contentOf, leafDone, leafAt, enumDone, enumAt, textDone, textGot, textAt, countDone, countAt, tagDone, tagAt, runDone, runGot, runAt, profileAt, profilesAt, objrefAt}
-use Rattle.leaves.specs.declared.Mode.{Mode}
-use Rattle.leaves.specs.declared.Cursor.{Cursor}
-use Rattle.leaves.specs.Lent.{Lent, lentOf, rowPut}
-use Rattle.leaves.specs.Walk.{sinkOf, sourceOf, stateOf, startOf, leafVisit}
+use Rattle.cdr_text.specs.Text.{overBound, endsText}
+use Rattle.value_meaning.specs.Sinks.{St, st, failed, after, repeats, begun, taken, done, numberStep, octetsStep}
+use Rattle.value_meaning.specs.Visit.{sizeOf, contentOf, leafDone, leafAt, enumDone, enumAt, textDone, textGot, textAt, countDone, countAt, tagDone, tagAt, runDone, runGot, runAt, profileAt, profilesAt, objrefAt}
+use Rattle.value_leaves.specs.declared.Mode.{Mode}
+use Rattle.value_leaves.specs.declared.Cursor.{Cursor}
+use Rattle.value_leaves.specs.Lent.{Lent, lentOf, rowPut}
+use Rattle.value_leaves.specs.Walk.{sinkOf, sourceOf, stateOf, startOf, leafVisit}
 
 abbrev pub filling : Mode
 filling = record { order = Big; start = indexOf 0; limited = true; fill = true; first = 0 }

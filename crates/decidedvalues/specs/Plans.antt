@@ -19,29 +19,29 @@ use Rattle.choices.specs.Branch.{choose}
 use Rattle.cdr.specs.declared.Order.the-variants.{Big}
 use Rattle.cdr.specs.Align.{indexOf}
 use Rattle.cdr.specs.Number.{littleNumber, littleOctets, numberOf, octetsOf, numberAt, readOf}
-use Rattle.texts.specs.Text.{runOf}
-use Rattle.encapsulation.specs.Encapsulation.{fieldOf, countedOf}
-use Rattle.kinds.specs.declared.Inner.{Inner}
-use Rattle.kinds.specs.declared.Inner.the-variants.{There}
-use Rattle.kinds.specs.declared.Labels.the-variants.{NoLabels}
-use Rattle.kinds.specs.declared.Inert.the-variants.{Leaf}
-use Rattle.kinds.specs.declared.Parameters.the-variants.{Fault, Flat}
-use Rattle.kinds.specs.Forms.{formOf}
-use Rattle.kinds.specs.Parts.{placeOf, fieldIn, skipCounted, spotAt, memberAt}
-use Rattle.kinds.specs.Members.{membersFrom, membersOf, typesOf}
-use Rattle.kinds.specs.Parameters.{fieldsOf, parametersAt}
-use Rattle.met.specs.Met.{findKind, positionOf, foundAt, insideOf}
-use Rattle.met.specs.Arrays.{kindsFrom, kindsMet, noKinds, added}
-use Rattle.met.specs.Shapes.{shapeOf, look}
-use Rattle.met.specs.Shapes.Shape.{flat}
-use Rattle.reading.specs.Sinks.{st, after, repeats, taken, done, numberStep}
-use Rattle.reading.specs.Visit.{Checked, checked, sizeOf, contentOf, leafDone, leafAt, inertAt}
-use Rattle.reading.specs.Reading.{reads}
-use Rattle.reading.specs.Opens.{readsNode, enterNode, ownOf, opens, closes, shuts, next, entries}
-use Rattle.leaves.specs.Lent.{lentOf, rowPut}
-use Rattle.leaves.specs.Walk.{sinkOf, sourceOf}
-use Rattle.plans.specs.declared.Plan.{Plan}
-use Rattle.plans.specs.Plans.{planSteps, planVisit, inertKind, leafKind, plannable, laid, planFound, noPlan, planOf}
+use Rattle.cdr_text.specs.Text.{runOf}
+use Rattle.cdr_fields.specs.Encapsulation.{fieldOf, countedOf}
+use Rattle.type_kinds.specs.declared.Inner.{Inner}
+use Rattle.type_kinds.specs.declared.Inner.the-variants.{There}
+use Rattle.type_kinds.specs.declared.Labels.the-variants.{NoLabels}
+use Rattle.type_kinds.specs.declared.Inert.the-variants.{Leaf}
+use Rattle.type_kinds.specs.declared.Parameters.the-variants.{Fault, Flat}
+use Rattle.type_kinds.specs.Forms.{formOf}
+use Rattle.type_kinds.specs.Parts.{placeOf, fieldIn, skipCounted, spotAt, memberAt}
+use Rattle.type_kinds.specs.Members.{membersFrom, membersOf, typesOf}
+use Rattle.type_kinds.specs.Parameters.{fieldsOf, parametersAt}
+use Rattle.type_list.specs.Met.{findKind, positionOf, foundAt, insideOf}
+use Rattle.type_list.specs.Arrays.{kindsFrom, kindsMet, noKinds, added}
+use Rattle.type_list.specs.Shapes.{shapeOf, look}
+use Rattle.type_list.specs.Shapes.Shape.{flat}
+use Rattle.value_meaning.specs.Sinks.{st, after, repeats, taken, done, numberStep}
+use Rattle.value_meaning.specs.Visit.{Checked, checked, sizeOf, contentOf, leafDone, leafAt, inertAt}
+use Rattle.value_meaning.specs.Reading.{reads}
+use Rattle.value_meaning.specs.Opens.{readsNode, enterNode, ownOf, opens, closes, shuts, next, entries}
+use Rattle.value_leaves.specs.Lent.{lentOf, rowPut}
+use Rattle.value_leaves.specs.Walk.{sinkOf, sourceOf}
+use Rattle.value_plans.specs.declared.Plan.{Plan}
+use Rattle.value_plans.specs.Plans.{planSteps, planVisit, inertKind, leafKind, plannable, laid, planFound, noPlan, planOf}
 use Rattle.decidedvalues.specs.Leaves.{filling, from-start}
 
 abbrev pub pair : Plan

@@ -3,10 +3,10 @@ ghost use mathlib.Core.Path.{_≡_};
 ghost use mathlib.Core.List.{[], _∷_, _++_};
 ghost use Prim.Native.Nat.{_<_, _≤_};
 ghost use lib.ListN.{length, drop};
-ghost use Rattle.writing.specs.Write.{Stored};
+ghost use Rattle.cdr_write.specs.Write.{Stored};
 ghost use Rattle.decimals.specs.Decimal.{decimal};
 ghost use Rattle.decimals.specs.Numerals.{numberWord};
-use writing::Written;
+use cdr_write::Written;
 
 mod read;
 
@@ -36,7 +36,7 @@ pub fn write_decimal(out: &mut [u8], at: usize, x: u64, behind: u8) -> Written
 {
     let mut digits = [behind; DIGITS + 1];
     let start = last_digits(x, &mut digits);
-    writing::write_octets(out, at, &digits[start..])
+    cdr_write::write_octets(out, at, &digits[start..])
 }
 
 // The number of decimal digits of a number.

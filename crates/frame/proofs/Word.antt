@@ -8,12 +8,12 @@ use Rattle.choices.proofs.Choices.{clash}
 use Rattle.cdr.specs.declared.Index.{Index}
 use Rattle.cdr.specs.declared.Order.{Order}
 use Rattle.cdr.specs.declared.Size.the-variants.{Four}
-use Rattle.encapsulation.specs.declared.Field.the-variants.{Value, NoField}
+use Rattle.cdr_fields.specs.declared.Field.the-variants.{Value, NoField}
 use Rattle.cdr.specs.Align.{behindGap, indexOf}
 use Rattle.cdr.specs.Number.{numberAt}
-use Rattle.encapsulation.specs.Encapsulation.{start, fieldOf}
+use Rattle.cdr_fields.specs.Encapsulation.{start, fieldOf}
 use Rattle.cdr.proofs.Alignment.{read-number}
-use Rattle.encapsulation.proofs.Fields.{field-is, field-facts}
+use Rattle.cdr_fields.proofs.Fields.{field-is, field-facts}
 
 module _ (v : List ℕ) (at : ℕ) (order : Order) (m : at % 4 ≡ 0) where
   no-gap : behindGap start at 4 ≡ at

@@ -6,14 +6,14 @@ ghost use Rattle.cdr.specs.Number.{numberAt};
 use cdr::Index;
 use cdr::Order;
 use cdr::Size;
-use encapsulation::Field;
+use cdr_fields::Field;
 
 // The unsigned long at a place that is a multiple of 4.
 pub(crate) fn word(octets: &[u8], at: usize, order: Order) -> u32
     requires { ⌜ (at % 4 ≡ 0) × (at + 4 ≤ length (now octets)) ⌝ }
     ensures { λ r. ⌜ r ≡ numberAt (now (octets .entry)) at 4 order ⌝ }
 {
-    match encapsulation::read_field(octets, Index(at), Size::Four, order) {
+    match cdr_fields::read_field(octets, Index(at), Size::Four, order) {
         Field::Value { value, next: _ } => value as u32,
         Field::NoField => 0,
     }

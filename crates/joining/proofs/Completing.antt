@@ -9,14 +9,14 @@ use borrow.Author.Tests.{ltb-true, ltb-false, le-ltb}
 use lib.ListN.{length, take, drop, length-append, length-drop}
 use lib.Seq.{length-take-le}
 use Rattle.frame.specs.Header.{headerSize}
-use Rattle.places.specs.declared.Record.{Record}
-use Rattle.places.specs.Places.{placeStart, lengthOf, heldIn, closed}
-use Rattle.joined.specs.declared.Assembled.{Assembled}
-use Rattle.joined.specs.declared.Assembled.the-variants.{Message, NoRoom, NoHeader}
-use Rattle.joined.specs.Message.{idEnd, bodyAfterId}
-use Rattle.joined.specs.Written.{assembledOf, assembledIn, Assembles}
-use Rattle.answers.specs.declared.Refusal.the-variants.{NoRoom as RefusedRoom}
-use Rattle.answers.specs.declared.Answer.the-variants.{Joined}
+use Rattle.join_places.specs.declared.Record.{Record}
+use Rattle.join_places.specs.Places.{placeStart, lengthOf, heldIn, closed}
+use Rattle.join_message.specs.declared.Assembled.{Assembled}
+use Rattle.join_message.specs.declared.Assembled.the-variants.{Message, NoRoom, NoHeader}
+use Rattle.join_message.specs.Message.{idEnd, bodyAfterId}
+use Rattle.join_message.specs.Written.{assembledOf, assembledIn, Assembles}
+use Rattle.join_answers.specs.declared.Refusal.the-variants.{NoRoom as RefusedRoom}
+use Rattle.join_answers.specs.declared.Answer.the-variants.{Joined}
 use Rattle.joining.specs.declared.Outcome.{Outcome}
 use Rattle.joining.specs.Steps.{Completes, written, lengthAfter}
 use Rattle.joining.specs.Answers.{refusedWith, Does}

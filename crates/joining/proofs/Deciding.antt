@@ -15,15 +15,15 @@ use Rattle.frame.specs.Messages.{isRequestOrReply, isCancel, isFragment}
 use Rattle.frame.specs.Header.{kindAt, minorAt, sizeAt}
 use Rattle.frame.specs.Frames.{messageLimit, sizeAllowed, frameOf}
 use Rattle.frame.proofs.Accepts.{frame-accepts}
-use Rattle.places.specs.declared.Record.{Record}
-use Rattle.places.specs.declared.Found.{Found}
-use Rattle.places.specs.declared.Found.the-variants.{At, Nowhere}
-use Rattle.places.specs.Places.{placesCount, placeSize, heldIn, placeOf, lowestFree, badRecord, isAt, Within}
-use Rattle.joined.specs.Message.{idEnd}
-use Rattle.answers.specs.declared.Refusal.the-variants.{BadRecord, IdOpen, FourOpen, FirstDiffers, TooLong, NoRoom}
+use Rattle.join_places.specs.declared.Record.{Record}
+use Rattle.join_places.specs.declared.Found.{Found}
+use Rattle.join_places.specs.declared.Found.the-variants.{At, Nowhere}
+use Rattle.join_places.specs.Places.{placesCount, placeSize, heldIn, placeOf, lowestFree, badRecord, isAt, Within}
+use Rattle.join_message.specs.Message.{idEnd}
+use Rattle.join_answers.specs.declared.Refusal.the-variants.{BadRecord, IdOpen, FourOpen, FirstDiffers, TooLong, NoRoom}
 use Rattle.joining.specs.Steps.{Step, Passes, Opens, Extends, Completes, Refuses, written, cancelled, differs, lengthAfter, continued, fragmentOf, firstOf, startOf, withId, byId, messageStep, judged, stepOf}
-use Rattle.places.proofs.Sound.{is-at, free-within, sound-lent, sound-length}
-use Rattle.places.proofs.Finding.{Placed, place-is, place-found}
+use Rattle.join_places.proofs.Sound.{is-at, free-within, sound-lent, sound-length}
+use Rattle.join_places.proofs.Finding.{Placed, place-is, place-found}
 use Rattle.joining.specs.Inner.{Sound, lacksPlace, Opening, Continues}
 
 -- a place that is found is one of the four

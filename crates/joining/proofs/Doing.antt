@@ -6,16 +6,16 @@ use native.Mathlib.Omega.{arith}
 use borrow.Author.Tests.{le-ltb}
 use lib.ListN.{length, take, drop, length-drop}
 use lib.Seq.{sets, take-all}
-use Rattle.writing.specs.declared.Written.{Written}
-use Rattle.writing.specs.Write.{Stored}
-use Rattle.writing.proofs.Stores.{stored-fits}
-use Rattle.places.specs.declared.Record.{Record}
-use Rattle.joined.proofs.Correcting.{corrected-length}
-use Rattle.answers.specs.declared.Refusal.{Refusal}
-use Rattle.answers.specs.declared.Answer.the-variants.{Whole, Held, Joined, Cancelled}
+use Rattle.cdr_write.specs.declared.Written.{Written}
+use Rattle.cdr_write.specs.Write.{Stored}
+use Rattle.cdr_write.proofs.Stores.{stored-fits}
+use Rattle.join_places.specs.declared.Record.{Record}
+use Rattle.join_message.proofs.Correcting.{corrected-length}
+use Rattle.join_answers.specs.declared.Refusal.{Refusal}
+use Rattle.join_answers.specs.declared.Answer.the-variants.{Whole, Held, Joined, Cancelled}
 use Rattle.joining.specs.declared.Outcome.{Outcome}
-use Rattle.places.specs.Places.{placeStart, lengthOf, heldIn, closed, opened, lengthened}
-use Rattle.joined.specs.Message.{idEnd, bodyAfterId, corrected}
+use Rattle.join_places.specs.Places.{placeStart, lengthOf, heldIn, closed, opened, lengthened}
+use Rattle.join_message.specs.Message.{idEnd, bodyAfterId, corrected}
 use Rattle.joining.specs.Steps.{Step, Passes, Opens, Extends, Completes, Frees, Refuses, written, lengthAfter}
 use Rattle.joining.specs.Answers.{refusedWith, Does}
 

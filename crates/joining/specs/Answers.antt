@@ -14,13 +14,13 @@ use mathlib.Core.List.{List, [], _++_}
 use Prim.Native.Nat.{ℕ, _+_}
 use lib.ListN.{length}
 use lib.Seq.{sets}
-use Rattle.places.specs.declared.Record.{Record}
-use Rattle.answers.specs.declared.Refusal.{Refusal}
-use Rattle.answers.specs.declared.Answer.{Answer}
-use Rattle.answers.specs.declared.Answer.the-variants.{Whole, Held, Joined, Cancelled, Refused}
+use Rattle.join_places.specs.declared.Record.{Record}
+use Rattle.join_answers.specs.declared.Refusal.{Refusal}
+use Rattle.join_answers.specs.declared.Answer.{Answer}
+use Rattle.join_answers.specs.declared.Answer.the-variants.{Whole, Held, Joined, Cancelled, Refused}
 use Rattle.joining.specs.declared.Outcome.{Outcome}
-use Rattle.places.specs.Places.{placeStart, lengthOf, heldIn, closed, opened, lengthened}
-use Rattle.joined.specs.Message.{bodyAfterId, corrected}
+use Rattle.join_places.specs.Places.{placeStart, lengthOf, heldIn, closed, opened, lengthened}
+use Rattle.join_message.specs.Message.{bodyAfterId, corrected}
 use Rattle.joining.specs.Steps.{Step, Passes, Opens, Extends, Completes, Frees, Refuses, lengthAfter, stepOf}
 
 abbrev pub messageWritten : Step → Record → List ℕ → List ℕ → List ℕ

@@ -11,9 +11,9 @@ use lib.ListN.{length}
 use Rattle.frame.specs.declared.Header.{Header}
 use Rattle.frame.specs.declared.Frame.the-variants.{Accepted}
 use Rattle.frame.specs.Frames.{messageLimit, frameOf}
-use Rattle.places.specs.declared.Record.{Record}
-use Rattle.places.specs.Places.{placesCount, placeSize, placesSize, lengthOf, isAt, lowestFree, badRecord}
-use Rattle.joined.specs.Message.{idEnd}
+use Rattle.join_places.specs.declared.Record.{Record}
+use Rattle.join_places.specs.Places.{placesCount, placeSize, placesSize, lengthOf, isAt, lowestFree, badRecord}
+use Rattle.join_message.specs.Message.{idEnd}
 
 pub record Sound (v : List ℕ) (h : Header) (r : Record) (places : List ℕ) : Type 0 where
   pub accepted : frameOf v ≡ Accepted h

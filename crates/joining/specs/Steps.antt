@@ -28,13 +28,13 @@ use Rattle.frame.specs.declared.Frame.the-variants.{Accepted, Refused as Unacce
 use Rattle.frame.specs.Messages.{isCancel, isFragment}
 use Rattle.frame.specs.Header.{minorAt, orderAt}
 use Rattle.frame.specs.Frames.{frameOf}
-use Rattle.places.specs.declared.Record.{Record}
-use Rattle.places.specs.declared.Found.{Found}
-use Rattle.places.specs.declared.Found.the-variants.{At, Nowhere}
-use Rattle.answers.specs.declared.Refusal.{Refusal}
-use Rattle.answers.specs.declared.Refusal.the-variants.{Frame as InFrame, BadRecord, IdOpen, FourOpen, IdNotOpen, FirstDiffers, TooLong, NoRoom}
-use Rattle.places.specs.Places.{placeSize, lengthOf, heldIn, placeOf, lowestFree, badRecord}
-use Rattle.joined.specs.Message.{idEnd}
+use Rattle.join_places.specs.declared.Record.{Record}
+use Rattle.join_places.specs.declared.Found.{Found}
+use Rattle.join_places.specs.declared.Found.the-variants.{At, Nowhere}
+use Rattle.join_answers.specs.declared.Refusal.{Refusal}
+use Rattle.join_answers.specs.declared.Refusal.the-variants.{Frame as InFrame, BadRecord, IdOpen, FourOpen, IdNotOpen, FirstDiffers, TooLong, NoRoom}
+use Rattle.join_places.specs.Places.{placeSize, lengthOf, heldIn, placeOf, lowestFree, badRecord}
+use Rattle.join_message.specs.Message.{idEnd}
 
 pub data Step : Type 0 where
   Passes : Step

@@ -1,8 +1,8 @@
 // The changes of a record: a place opened, its message lengthened, and freed.
 ghost use mathlib.Core.Path.{_≡_};
 ghost use Prim.Native.Nat.{_<_};
-ghost use Rattle.places.specs.Places.{opened, lengthened, closed};
-use places::Record;
+ghost use Rattle.join_places.specs.Places.{opened, lengthened, closed};
+use join_places::Record;
 
 // The record with a place opened.
 pub(crate) fn opened(r: Record, i: usize, id: u32, length: usize) -> Record

@@ -5,18 +5,18 @@ ghost use Prim.Native.Nat.{ℕ, _≤_};
 ghost use lib.ListN.{length};
 ghost use Rattle.frame.specs.declared.Frame.the-variants.{Accepted};
 ghost use Rattle.frame.specs.Frames.{frameOf};
-ghost use Rattle.places.specs.Places.{placeSize, Within, lowestFree};
+ghost use Rattle.join_places.specs.Places.{placeSize, Within, lowestFree};
 ghost use Rattle.joining.specs.Steps.{Passes, Extends, Completes, written, cancelled, lengthAfter, continued, firstOf, startOf, withId, messageStep};
 ghost use Rattle.joining.specs.Answers.{refusedWith, Does, Joins};
 ghost use Rattle.joining.specs.Inner.{Sound, lacksPlace, Opening, Continues};
-use answers::Answer;
-use answers::Refusal;
+use join_answers::Answer;
+use join_answers::Refusal;
 use frame::Frame;
 use frame::Header;
 use frame::RequestId;
-use joined::Assembled;
-use places::Found;
-use places::Record;
+use join_message::Assembled;
+use join_places::Found;
+use join_places::Record;
 
 mod change;
 mod message;
@@ -52,7 +52,7 @@ fn accepted(octets: &[u8], h: Header, before: Record, places: &mut [u8], out: &m
     requires { ⌜ frameOf (now octets) ≡ Accepted h ⌝ }
     ensures { λ r. ⌜ Does (messageStep before (now (places .entry)) (length (now (out .entry))) (length (now (octets .entry))) h) (now (octets .entry)) before (now (places .entry)) (now (out .entry)) r (now (places .exit)) (now (out .exit)) ⌝ }
 {
-    if places::bad_record(before, places.len()) {
+    if join_places::bad_record(before, places.len()) {
         return refused(before, Refusal::BadRecord);
     }
     let id = h.id;
@@ -74,7 +74,7 @@ fn identified(
     requires { ⌜ Sound (now octets) h before (now places) ⌝ }
     ensures { λ r. ⌜ Does (withId before (now (places .entry)) (length (now (out .entry))) (length (now (octets .entry))) h id) (now (octets .entry)) before (now (places .entry)) (now (out .entry)) r (now (places .exit)) (now (out .exit)) ⌝ }
 {
-    let found = places::place_of(before, id);
+    let found = join_places::place_of(before, id);
     if h.kind == frame::CANCEL_REQUEST {
         return cancel(octets, found, before, out);
     }
@@ -94,7 +94,7 @@ fn whole(octets: &[u8], before: Record, out: &mut [u8]) -> Outcome
     if out.len() < octets.len() {
         return refused(before, Refusal::NoRoom);
     }
-    writing::write_octets(out, 0, octets);
+    cdr_write::write_octets(out, 0, octets);
     Outcome {
         answer: Answer::Whole(octets.len()),
         after: before,
@@ -112,7 +112,7 @@ fn cancel(octets: &[u8], found: Found, before: Record, out: &mut [u8]) -> Outcom
     if out.len() < octets.len() {
         return refused(before, Refusal::NoRoom);
     }
-    writing::write_octets(out, 0, octets);
+    cdr_write::write_octets(out, 0, octets);
     Outcome {
         answer: Answer::Cancelled(octets.len()),
         after: change::closed(before, i),
@@ -132,7 +132,7 @@ fn start(
     requires { ⌜ Sound (now octets) h before (now places) ⌝ }
     ensures { λ r. ⌜ Does (startOf before (length (now (out .entry))) (length (now (octets .entry))) h id found) (now (octets .entry)) before (now (places .entry)) (now (out .entry)) r (now (places .exit)) (now (out .exit)) ⌝ }
 {
-    let open = places::is_at(found);
+    let open = join_places::is_at(found);
     let full = lacks_place(h.more, before);
     if open {
         return refused(before, Refusal::IdOpen);
@@ -151,7 +151,7 @@ fn lacks_place(more: bool, before: Record) -> bool
     ensures { λ r. ⌜ r ≡ lacksPlace more before ⌝ }
 {
     if more {
-        !places::is_at(places::lowest_free(before))
+        !join_places::is_at(join_places::lowest_free(before))
     } else {
         false
     }
@@ -162,12 +162,12 @@ fn first(octets: &[u8], id: u32, before: Record, places: &mut [u8]) -> Outcome
     requires { ⌜ Opening (now octets) (now places) ⌝ }
     ensures { λ r. ⌜ ((out : List ℕ) → Does (firstOf id (lowestFree before)) (now (octets .entry)) before (now (places .entry)) out r (now (places .exit)) out) ⌝ }
 {
-    let i = match places::lowest_free(before) {
+    let i = match join_places::lowest_free(before) {
         Found::At(i) => i,
         // Never here: `start` refuses a first fragment that lacks a place.
         Found::Nowhere => return refused(before, Refusal::FourOpen),
     };
-    writing::write_octets(places, i * places::PLACE_SIZE, octets);
+    cdr_write::write_octets(places, i * join_places::PLACE_SIZE, octets);
     Outcome {
         answer: Answer::Held,
         after: change::opened(before, i, id, octets.len()),
@@ -186,13 +186,13 @@ fn fragment(
     requires { ⌜ Continues (now octets) before (now places) i ⌝ }
     ensures { λ r. ⌜ Does (continued before (now (places .entry)) (length (now (out .entry))) (length (now (octets .entry))) h i) (now (octets .entry)) before (now (places .entry)) (now (out .entry)) r (now (places .exit)) (now (out .exit)) ⌝ }
 {
-    let begin = i * places::PLACE_SIZE;
+    let begin = i * join_places::PLACE_SIZE;
     let held = before.lengths[i];
     let total = held + (octets.len() - message::ID_END);
     if message::differs(&places[begin..begin + held], h) {
         return refused(before, Refusal::FirstDiffers);
     }
-    if places::PLACE_SIZE < total {
+    if join_places::PLACE_SIZE < total {
         return refused(before, Refusal::TooLong);
     }
     if h.more {
@@ -207,8 +207,8 @@ fn extend(octets: &[u8], i: usize, before: Record, places: &mut [u8]) -> Outcome
     ensures { λ r. ⌜ ((out : List ℕ) → Does (Extends i) (now (octets .entry)) before (now (places .entry)) out r (now (places .exit)) out) ⌝ }
 {
     let held = before.lengths[i];
-    let at = i * places::PLACE_SIZE + held;
-    writing::write_octets(places, at, &octets[message::ID_END..]);
+    let at = i * join_places::PLACE_SIZE + held;
+    cdr_write::write_octets(places, at, &octets[message::ID_END..]);
     Outcome {
         answer: Answer::Held,
         after: change::lengthened(before, i, held + (octets.len() - message::ID_END)),
@@ -220,11 +220,11 @@ fn complete(octets: &[u8], i: usize, before: Record, places: &[u8], out: &mut [u
     requires { ⌜ Continues (now octets) before (now places) i ⌝ }
     ensures { λ r. ⌜ Does (written (length (now (out .entry))) (lengthAfter before i (length (now (octets .entry)))) (Completes i)) (now (octets .entry)) before (now (places .entry)) (now (out .entry)) r (now (places .entry)) (now (out .exit)) ⌝ }
 {
-    let begin = i * places::PLACE_SIZE;
+    let begin = i * join_places::PLACE_SIZE;
     let held = before.lengths[i];
     let freed = change::closed(before, i);
     let end = begin + held;
-    match joined::write_joined(&places[begin..end], &octets[message::ID_END..], out) {
+    match join_message::write_joined(&places[begin..end], &octets[message::ID_END..], out) {
         Assembled::Message(n) => Outcome {
             answer: Answer::Joined(n),
             after: freed,

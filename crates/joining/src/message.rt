@@ -2,7 +2,7 @@
 ghost use mathlib.Core.Path.{_≡_};
 ghost use Prim.Native.Nat.{_≤_};
 ghost use lib.ListN.{length};
-ghost use Rattle.joined.specs.Message.{idEnd};
+ghost use Rattle.join_message.specs.Message.{idEnd};
 ghost use Rattle.joining.specs.Steps.{differs};
 use frame::Header;
 

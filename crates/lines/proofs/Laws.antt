@@ -11,7 +11,7 @@ use lib.Seq.{length-sets, length-take-le, take-all, take-at, take-append-le, dro
 use borrow.Author.Tests.{lt-ltb, ltb-true, ltb-false}
 use Rattle.choices.proofs.Choices.{by-test}
 use Rattle.choices.specs.Branch.{choose}
-use Rattle.writing.proofs.Stores.{take-stored}
+use Rattle.cdr_write.proofs.Stores.{take-stored}
 use Rattle.lines.specs.Lines.{lf, upToLF, hasLF, afterLF, lastLine, linesFrom, linesOf, takenOf, keptInto}
 
 -- each definition at an LF, and at another character

@@ -12,9 +12,9 @@ use lib.Seq.{sets, length-take-le, drop-cons, drop-drop, take-all, take-take}
 use borrow.Author.Tests.{eq-eqb, ne-eqb, lt-ltb, le-ltb, ltb-true, ltb-false}
 use Rattle.choices.proofs.Choices.{by-test}
 use Rattle.choices.specs.Branch.{choose}
-use Rattle.writing.specs.declared.Written.{Written}
-use Rattle.writing.specs.Write.{Stored}
-use Rattle.writing.proofs.Stores.{stored-fits}
+use Rattle.cdr_write.specs.declared.Written.{Written}
+use Rattle.cdr_write.specs.Write.{Stored}
+use Rattle.cdr_write.proofs.Stores.{stored-fits}
 use Rattle.lines.specs.Lines.{lf, upToLF, hasLF, takenOf, keptInto, LineTaken}
 use Rattle.lines.specs.declared.Taken.{Taken}
 use Rattle.lines.proofs.Laws.{up-append, up-lf, up-other, up-prefix, up-length, has-by-length, drop-within}

@@ -31,7 +31,7 @@ pub fn take_line(block: &[u8], from: usize, line: &mut [u8], kept: usize) -> Tak
     let stop = find_lf(block, start);
     let next = least(stop + 1, end);
     let count = least(stop - start, size - held);
-    writing::write_octets(line, held, &block[start..start + count]);
+    cdr_write::write_octets(line, held, &block[start..start + count]);
     Taken {
         next,
         kept: held + count,

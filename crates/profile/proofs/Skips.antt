@@ -7,11 +7,11 @@ use lib.ListN.{length}
 use Rattle.choices.proofs.Choices.{clash}
 use Rattle.cdr.specs.declared.Index.{Index}
 use Rattle.cdr.specs.declared.Order.{Order}
-use Rattle.parts.specs.declared.Refusal.{Refusal}
-use Rattle.parts.specs.declared.ComponentPart.{ComponentPart}
-use Rattle.parts.specs.declared.ComponentPart.the-variants.{Component, Refused as noComponent}
-use Rattle.parts.specs.Parts.{componentAt}
-use Rattle.parts.proofs.Parts.{component-inside}
+use Rattle.profile_parts.specs.declared.Refusal.{Refusal}
+use Rattle.profile_parts.specs.declared.ComponentPart.{ComponentPart}
+use Rattle.profile_parts.specs.declared.ComponentPart.the-variants.{Component, Refused as noComponent}
+use Rattle.profile_parts.specs.Parts.{componentAt}
+use Rattle.profile_parts.proofs.Parts.{component-inside}
 use Rattle.profile.specs.declared.list.Skip.the-variants.{To, Refused as noSkip}
 use Rattle.profile.specs.List.{skipFrom, onComponent}
 

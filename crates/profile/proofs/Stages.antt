@@ -8,14 +8,14 @@ use borrow.Author.Tests.{lt-ltb, le-ltb, le-leb, lt-leb}
 use Rattle.choices.specs.Branch.{choose}
 use Rattle.cdr.specs.declared.Index.{Index}
 use Rattle.cdr.specs.declared.Order.{Order}
-use Rattle.encapsulation.specs.Encapsulation.{start}
-use Rattle.parts.specs.declared.Refusal.the-variants.{TooLong, AfterKey, NoSuchComponent}
-use Rattle.parts.specs.declared.OrderPart.{OrderPart}
-use Rattle.parts.specs.declared.VersionPart.{VersionPart}
-use Rattle.parts.specs.declared.OctetsPart.{OctetsPart}
-use Rattle.parts.specs.declared.NumberPart.{NumberPart}
-use Rattle.parts.specs.declared.ComponentPart.{ComponentPart}
-use Rattle.parts.specs.Parts.{orderAt, versionAt, hostAt, portAt, keyAt, countAt}
+use Rattle.cdr_fields.specs.Encapsulation.{start}
+use Rattle.profile_parts.specs.declared.Refusal.the-variants.{TooLong, AfterKey, NoSuchComponent}
+use Rattle.profile_parts.specs.declared.OrderPart.{OrderPart}
+use Rattle.profile_parts.specs.declared.VersionPart.{VersionPart}
+use Rattle.profile_parts.specs.declared.OctetsPart.{OctetsPart}
+use Rattle.profile_parts.specs.declared.NumberPart.{NumberPart}
+use Rattle.profile_parts.specs.declared.ComponentPart.{ComponentPart}
+use Rattle.profile_parts.specs.Parts.{orderAt, versionAt, hostAt, portAt, keyAt, countAt}
 use Rattle.version.specs.Versions.{hasComponents}
 use Rattle.profile.specs.declared.list.Skip.{Skip}
 use Rattle.profile.specs.declared.list.Components.{Components}

@@ -12,21 +12,21 @@ use Rattle.choices.proofs.Choices.{by-test, clash}
 use Rattle.cdr.specs.Limit.{octetsLimit}
 use Rattle.cdr.specs.declared.Index.{Index}
 use Rattle.cdr.specs.declared.Order.{Order}
-use Rattle.encapsulation.specs.Encapsulation.{start}
+use Rattle.cdr_fields.specs.Encapsulation.{start}
 use Rattle.version.specs.Versions.{hasComponents}
-use Rattle.parts.specs.declared.Refusal.the-variants.{TooLong, AfterKey}
-use Rattle.parts.specs.declared.OrderPart.{OrderPart}
-use Rattle.parts.specs.declared.OrderPart.the-variants.{InOrder, Refused as noOrder}
-use Rattle.parts.specs.declared.VersionPart.{VersionPart}
-use Rattle.parts.specs.declared.VersionPart.the-variants.{Version, Refused as noVersion}
-use Rattle.parts.specs.declared.OctetsPart.{OctetsPart}
-use Rattle.parts.specs.declared.OctetsPart.the-variants.{Span, Refused as noSpan}
-use Rattle.parts.specs.declared.NumberPart.{NumberPart}
-use Rattle.parts.specs.declared.NumberPart.the-variants.{Number, Refused as noNumber}
-use Rattle.parts.specs.declared.ComponentPart.{ComponentPart}
-use Rattle.parts.specs.declared.ComponentPart.the-variants.{Component, Refused as noComponent}
-use Rattle.parts.specs.Parts.{orderAt, versionAt, hostAt, portAt, keyAt, countAt, componentAt}
-use Rattle.parts.proofs.Parts.{host-inside, key-inside, component-inside}
+use Rattle.profile_parts.specs.declared.Refusal.the-variants.{TooLong, AfterKey}
+use Rattle.profile_parts.specs.declared.OrderPart.{OrderPart}
+use Rattle.profile_parts.specs.declared.OrderPart.the-variants.{InOrder, Refused as noOrder}
+use Rattle.profile_parts.specs.declared.VersionPart.{VersionPart}
+use Rattle.profile_parts.specs.declared.VersionPart.the-variants.{Version, Refused as noVersion}
+use Rattle.profile_parts.specs.declared.OctetsPart.{OctetsPart}
+use Rattle.profile_parts.specs.declared.OctetsPart.the-variants.{Span, Refused as noSpan}
+use Rattle.profile_parts.specs.declared.NumberPart.{NumberPart}
+use Rattle.profile_parts.specs.declared.NumberPart.the-variants.{Number, Refused as noNumber}
+use Rattle.profile_parts.specs.declared.ComponentPart.{ComponentPart}
+use Rattle.profile_parts.specs.declared.ComponentPart.the-variants.{Component, Refused as noComponent}
+use Rattle.profile_parts.specs.Parts.{orderAt, versionAt, hostAt, portAt, keyAt, countAt, componentAt}
+use Rattle.profile_parts.proofs.Parts.{host-inside, key-inside, component-inside}
 use Rattle.profile.specs.declared.list.Skip.{Skip}
 use Rattle.profile.specs.declared.list.Skip.the-variants.{To, Refused as noSkip}
 use Rattle.profile.specs.declared.list.Components.{Components}

@@ -8,7 +8,7 @@ use Prim.Native.Nat.{ℕ}
 use mathlib.Core.List.{List}
 use Rattle.cdr.specs.declared.Index.{Index}
 use Rattle.cdr.specs.declared.Order.{Order}
-use Rattle.parts.specs.Parts.{versionAt, hostAt, portAt, keyAt}
+use Rattle.profile_parts.specs.Parts.{versionAt, hostAt, portAt, keyAt}
 use Rattle.profile.specs.declared.Extent.{Extent}
 use Rattle.profile.specs.declared.Head.{Head}
 use Rattle.profile.specs.declared.ProfileAnswer.{ProfileAnswer}

@@ -15,17 +15,17 @@ use lib.Dec.{ltb}
 use lib.ListN.{length}
 use Rattle.cdr.specs.declared.Index.{Index}
 use Rattle.cdr.specs.declared.Order.{Order}
-use Rattle.parts.specs.declared.Refusal.the-variants.{AfterKey}
-use Rattle.parts.specs.declared.NumberPart.{NumberPart}
-use Rattle.parts.specs.declared.NumberPart.the-variants.{Number, Refused as noNumber}
-use Rattle.parts.specs.declared.ComponentPart.{ComponentPart}
-use Rattle.parts.specs.declared.ComponentPart.the-variants.{Component, Refused as noComponent}
+use Rattle.profile_parts.specs.declared.Refusal.the-variants.{AfterKey}
+use Rattle.profile_parts.specs.declared.NumberPart.{NumberPart}
+use Rattle.profile_parts.specs.declared.NumberPart.the-variants.{Number, Refused as noNumber}
+use Rattle.profile_parts.specs.declared.ComponentPart.{ComponentPart}
+use Rattle.profile_parts.specs.declared.ComponentPart.the-variants.{Component, Refused as noComponent}
 use Rattle.profile.specs.declared.list.Skip.{Skip}
 use Rattle.profile.specs.declared.list.Skip.the-variants.{To, Refused as noSkip}
 use Rattle.profile.specs.declared.list.Components.{Components}
 use Rattle.profile.specs.declared.list.Components.the-variants.{Listed, Refused as noList}
 use Rattle.version.specs.Versions.{hasComponents}
-use Rattle.parts.specs.Parts.{countAt, componentAt}
+use Rattle.profile_parts.specs.Parts.{countAt, componentAt}
 
 abbrev pub onComponent : ComponentPart → (Index → Skip) → Skip
 onComponent (Component tag from n next) f = f next

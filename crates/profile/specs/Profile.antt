@@ -32,18 +32,18 @@ use Rattle.cdr.specs.declared.Index.{Index}
 use Rattle.cdr.specs.declared.Order.{Order}
 use Rattle.cdr.specs.Limit.{octetsLimit}
 use Rattle.cdr.specs.Orders.{orderOctet}
-use Rattle.encapsulation.specs.Encapsulation.{start}
-use Rattle.parts.specs.declared.Refusal.the-variants.{TooLong, NoSuchComponent}
-use Rattle.parts.specs.declared.OrderPart.{OrderPart}
-use Rattle.parts.specs.declared.OrderPart.the-variants.{InOrder, Refused as noOrder}
-use Rattle.parts.specs.declared.VersionPart.{VersionPart}
-use Rattle.parts.specs.declared.VersionPart.the-variants.{Version, Refused as noVersion}
-use Rattle.parts.specs.declared.OctetsPart.{OctetsPart}
-use Rattle.parts.specs.declared.OctetsPart.the-variants.{Span, Refused as noSpan}
-use Rattle.parts.specs.declared.NumberPart.{NumberPart}
-use Rattle.parts.specs.declared.NumberPart.the-variants.{Number, Refused as noNumber}
-use Rattle.parts.specs.declared.ComponentPart.{ComponentPart}
-use Rattle.parts.specs.declared.ComponentPart.the-variants.{Component, Refused as noComponent}
+use Rattle.cdr_fields.specs.Encapsulation.{start}
+use Rattle.profile_parts.specs.declared.Refusal.the-variants.{TooLong, NoSuchComponent}
+use Rattle.profile_parts.specs.declared.OrderPart.{OrderPart}
+use Rattle.profile_parts.specs.declared.OrderPart.the-variants.{InOrder, Refused as noOrder}
+use Rattle.profile_parts.specs.declared.VersionPart.{VersionPart}
+use Rattle.profile_parts.specs.declared.VersionPart.the-variants.{Version, Refused as noVersion}
+use Rattle.profile_parts.specs.declared.OctetsPart.{OctetsPart}
+use Rattle.profile_parts.specs.declared.OctetsPart.the-variants.{Span, Refused as noSpan}
+use Rattle.profile_parts.specs.declared.NumberPart.{NumberPart}
+use Rattle.profile_parts.specs.declared.NumberPart.the-variants.{Number, Refused as noNumber}
+use Rattle.profile_parts.specs.declared.ComponentPart.{ComponentPart}
+use Rattle.profile_parts.specs.declared.ComponentPart.the-variants.{Component, Refused as noComponent}
 use Rattle.profile.specs.declared.list.Components.{Components}
 use Rattle.profile.specs.declared.list.Components.the-variants.{Listed, Refused as noList}
 use Rattle.profile.specs.declared.Extent.{Extent}
@@ -52,7 +52,7 @@ use Rattle.profile.specs.declared.ProfileAnswer.{ProfileAnswer}
 use Rattle.profile.specs.declared.ProfileAnswer.the-variants.{Read, Refused}
 use Rattle.profile.specs.declared.ComponentAnswer.{ComponentAnswer}
 use Rattle.profile.specs.declared.ComponentAnswer.the-variants.{Found, Refused as notFound}
-use Rattle.parts.specs.Parts.{refusalNumber, orderAt, versionAt, hostAt, portAt, keyAt}
+use Rattle.profile_parts.specs.Parts.{refusalNumber, orderAt, versionAt, hostAt, portAt, keyAt}
 use Rattle.profile.specs.List.{listAt, componentFrom}
 
 abbrev pub profileNumber : ProfileAnswer → ℕ

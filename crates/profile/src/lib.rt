@@ -5,12 +5,12 @@ ghost use Rattle.profile.specs.Profile.{octetsIn, profileNumber, compone
 ghost use Rattle.profile.specs.Inner.{versionThen, hostThen, portThen, keyThen, listThen};
 use cdr::Index;
 use cdr::Order;
-use parts::ComponentPart;
-use parts::NumberPart;
-use parts::OctetsPart;
-use parts::OrderPart;
-use parts::Refusal;
-use parts::VersionPart;
+use profile_parts::ComponentPart;
+use profile_parts::NumberPart;
+use profile_parts::OctetsPart;
+use profile_parts::OrderPart;
+use profile_parts::Refusal;
+use profile_parts::VersionPart;
 
 mod list;
 
@@ -87,7 +87,7 @@ pub fn read(s: &[u8]) -> ProfileAnswer
     if LIMIT < s.len() {
         return ProfileAnswer::Refused(Refusal::TooLong);
     }
-    match parts::order_at(s, Index::START) {
+    match profile_parts::order_at(s, Index::START) {
         OrderPart::InOrder { order, next } => version_then(s, order, next),
         OrderPart::Refused(refusal) => ProfileAnswer::Refused(refusal),
     }
@@ -97,7 +97,7 @@ pub fn read(s: &[u8]) -> ProfileAnswer
 fn version_then(s: &[u8], order: Order, at: Index) -> ProfileAnswer
     ensures { λ r. ⌜ r ≡ versionThen (now (s .entry)) order at ⌝ }
 {
-    match parts::version_at(s, at) {
+    match profile_parts::version_at(s, at) {
         VersionPart::Version { major, minor, next } => host_then(
             s,
             Head {
@@ -116,7 +116,7 @@ fn host_then(s: &[u8], head: Head, at: Index) -> ProfileAnswer
     ensures { λ r. ⌜ r ≡ hostThen (now (s .entry)) head at ⌝ }
 {
     let order = head.order;
-    match parts::host_at(s, at, order) {
+    match profile_parts::host_at(s, at, order) {
         OctetsPart::Span { from, length, next } => {
             port_then(s, head, Extent { from, length }, next)
         }
@@ -129,7 +129,7 @@ fn port_then(s: &[u8], head: Head, host: Extent, at: Index) -> ProfileAnswer
     ensures { λ r. ⌜ r ≡ portThen (now (s .entry)) head host at ⌝ }
 {
     let order = head.order;
-    match parts::port_at(s, at, order) {
+    match profile_parts::port_at(s, at, order) {
         NumberPart::Number { value, next } => key_then(s, head, host, value, next),
         NumberPart::Refused(refusal) => ProfileAnswer::Refused(refusal),
     }
@@ -140,7 +140,7 @@ fn key_then(s: &[u8], head: Head, host: Extent, port: u64, at: Index) -> Profile
     ensures { λ r. ⌜ r ≡ keyThen (now (s .entry)) head host port at ⌝ }
 {
     let order = head.order;
-    match parts::key_at(s, at, order) {
+    match profile_parts::key_at(s, at, order) {
         OctetsPart::Span { from, length, next } => {
             list_then(s, head, host, port, Extent { from, length }, next)
         }

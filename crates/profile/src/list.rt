@@ -5,9 +5,9 @@ ghost use lib.ListN.{length};
 ghost use Rattle.profile.specs.List.{skipFrom, listFrom, countedList, listAt, componentFrom};
 use cdr::Index;
 use cdr::Order;
-use parts::ComponentPart;
-use parts::NumberPart;
-use parts::Refusal;
+use profile_parts::ComponentPart;
+use profile_parts::NumberPart;
+use profile_parts::Refusal;
 
 // The index after so many components.
 pub(crate) enum Skip {
@@ -32,7 +32,7 @@ fn skip_from(s: &[u8], at: Index, count: u64, order: Order) -> Skip
     let mut next = at;
     let mut k: u64 = 0;
     while k < count {
-        match parts::component_at(s, next, order) {
+        match profile_parts::component_at(s, next, order) {
             ComponentPart::Refused(refusal) => {
                 return Skip::Refused(refusal);
             }
@@ -71,7 +71,7 @@ pub(crate) fn list_at(s: &[u8], at: Index, minor: u8, order: Order) -> Component
 fn counted(s: &[u8], at: Index, order: Order) -> Components
     ensures { λ r. ⌜ r ≡ countedList (now (s .entry)) at order ⌝ }
 {
-    match parts::count_at(s, at, order) {
+    match profile_parts::count_at(s, at, order) {
         NumberPart::Number { value, next } => list_from(s, next, value, order),
         NumberPart::Refused(refusal) => Components::Refused(refusal),
     }
@@ -97,7 +97,7 @@ pub(crate) fn component_from(s: &[u8], first: Index, number: u64, order: Order) 
     ensures { λ r. ⌜ r ≡ componentFrom (now (s .entry)) first number order ⌝ }
 {
     match skip_from(s, first, number, order) {
-        Skip::To(at) => parts::component_at(s, at, order),
+        Skip::To(at) => profile_parts::component_at(s, at, order),
         Skip::Refused(refusal) => ComponentPart::Refused(refusal),
     }
 }

@@ -26,11 +26,11 @@ use Rattle.typecode.specs.declared.TypeAnswer.{TypeAnswer}
 use Rattle.typecode.specs.declared.TypeAnswer.the-variants.{Accepted as ok, Refused as refused, Loop}
 use Rattle.typecode.specs.TypeCode.{answerNumber}
 use Rattle.typecode.proofs.TypeAnswer.{the-type as answer-type}
-use Rattle.words.specs.Words.{space, wordsFrom, words, sameWord, orderWord}
-use Rattle.words.specs.Found.{FirstWord}
-use Rattle.printing.specs.declared.Reply.{Reply}
-use Rattle.printing.specs.declared.Reply.the-variants.{Typed, Read, Refused, Unread, Signed, Unsigned, Single, Double, Rewritten, Profiled, Component, NoQuestion}
-use Rattle.printing.proofs.Reply.{the-type as reply-type}
+use Rattle.ask_words.specs.Words.{space, wordsFrom, words, sameWord, orderWord}
+use Rattle.ask_words.specs.Found.{FirstWord}
+use Rattle.ask_text.specs.declared.Reply.{Reply}
+use Rattle.ask_text.specs.declared.Reply.the-variants.{Typed, Read, Refused, Unread, Signed, Unsigned, Single, Double, Rewritten, Profiled, Component, NoQuestion}
+use Rattle.ask_text.proofs.Reply.{the-type as reply-type}
 use Rattle.questions.specs.declared.octets.Octets.{Octets as OctetsAnswer}
 use Rattle.questions.specs.declared.octets.Octets.the-variants.{Count, NotOctets}
 use Rattle.questions.specs.Octets.{noneWord, Octets as Octets′, octets, notOctets, octetsWord, loneOctets}

@@ -9,8 +9,8 @@ use lib.Seq.{sets, length-sets}
 use borrow.Author.Tests.{ltb-true, ltb-false}
 use Rattle.choices.proofs.Choices.{by-test, clash}
 use Rattle.decimals.proofs.Puts.{take-written}
-use Rattle.parts.specs.declared.Refusal.{Refusal}
-use Rattle.parts.specs.Parts.{refusalNumber}
+use Rattle.profile_parts.specs.declared.Refusal.{Refusal}
+use Rattle.profile_parts.specs.Parts.{refusalNumber}
 use Rattle.profile.specs.declared.Extent.{Extent}
 use Rattle.profile.specs.declared.Profile.{Profile}
 use Rattle.profile.specs.declared.ProfileAnswer.{ProfileAnswer}
@@ -19,10 +19,10 @@ use Rattle.profile.specs.declared.ComponentAnswer.{ComponentAnswer}
 use Rattle.profile.specs.declared.ComponentAnswer.the-variants.{Found, Refused as notFound}
 use Rattle.profile.specs.Profile.{profileOf, componentOf}
 use Rattle.profile.proofs.Stages.{profile-too-long, component-is}
-use Rattle.writing.specs.declared.Written.{Written}
-use Rattle.writing.specs.Write.{Stored}
-use Rattle.writing.proofs.Stores.{stored-fits}
-use Rattle.printing.specs.declared.Reply.the-variants.{Profiled, Component, Refused as NotRead}
+use Rattle.cdr_write.specs.declared.Written.{Written}
+use Rattle.cdr_write.specs.Write.{Stored}
+use Rattle.cdr_write.proofs.Stores.{stored-fits}
+use Rattle.ask_text.specs.declared.Reply.the-variants.{Profiled, Component, Refused as NotRead}
 use Rattle.questions.specs.Questions.{profileIn, componentIn}
 use Rattle.questions.specs.Replies.{bodyRead, bodyOf}
 use Rattle.questions.specs.Inner.{octetsMost, Held}

@@ -16,18 +16,18 @@ use Rattle.decimals.proofs.Puts.{take-written}
 use Rattle.typecode.specs.declared.TypeAnswer.{TypeAnswer}
 use Rattle.typecode.specs.declared.TypeAnswer.the-variants.{Accepted as ok, Refused as refused, Loop}
 use Rattle.typecode.specs.TypeCode.{checkedType}
-use Rattle.accepted.proofs.Exact.{accepted-as}
-use Rattle.reading.specs.Sinks.{Source, St}
-use Rattle.reading.specs.Visit.{checked}
-use Rattle.reading.specs.Reading.{Log, anyRoom}
-use Rattle.reading.specs.Value.{overlong, onType, readingOf}
-use Rattle.reading.proofs.Bound.{used-bound}
-use Rattle.written.specs.declared.RewriteAnswer.{RewriteAnswer}
-use Rattle.written.specs.declared.RewriteAnswer.the-variants.{Accepted, Refused}
-use Rattle.written.specs.Written.{Target, written}
-use Rattle.written.specs.Rewriting.{rewriteOf, rewriteAnswer, rewritten, outputAfter}
-use Rattle.written.proofs.Near.{written-near}
-use Rattle.printing.specs.declared.Reply.the-variants.{Rewritten, Refused as NotRewritten}
+use Rattle.type_laws.proofs.Exact.{accepted-as}
+use Rattle.value_meaning.specs.Sinks.{Source, St}
+use Rattle.value_meaning.specs.Visit.{checked}
+use Rattle.value_meaning.specs.Reading.{Log, anyRoom}
+use Rattle.value_meaning.specs.Value.{overlong, onType, readingOf}
+use Rattle.value_meaning.proofs.Bound.{used-bound}
+use Rattle.rewrite_meaning.specs.declared.RewriteAnswer.{RewriteAnswer}
+use Rattle.rewrite_meaning.specs.declared.RewriteAnswer.the-variants.{Accepted, Refused}
+use Rattle.rewrite_meaning.specs.Written.{Target, written}
+use Rattle.rewrite_meaning.specs.Rewriting.{rewriteOf, rewriteAnswer, rewritten, outputAfter}
+use Rattle.rewrite_meaning.proofs.Near.{written-near}
+use Rattle.ask_text.specs.declared.Reply.the-variants.{Rewritten, Refused as NotRewritten}
 use Rattle.questions.specs.Questions.{rewriteIn}
 use Rattle.questions.specs.Replies.{octetsGiven}
 use Rattle.questions.specs.Inner.{octetsMost, Held}

@@ -9,22 +9,22 @@ use borrow.Author.Tests.{lt-ltb, le-ltb}
 use Rattle.choices.proofs.Choices.{by-test}
 use Rattle.choices.specs.Branch.{choose}
 use Rattle.typecode.specs.TypeCode.{checkedType}
-use Rattle.reading.specs.declared.ValueAnswer.{ValueAnswer}
-use Rattle.reading.specs.declared.ValueAnswer.the-variants.{Accepted, Refused}
-use Rattle.reading.specs.Sinks.{Item}
-use Rattle.reading.specs.Visit.{checked}
-use Rattle.reading.specs.Value.{valueAnswer, readingOf}
-use Rattle.reading.proofs.Room.{room-kept}
+use Rattle.value_meaning.specs.declared.ValueAnswer.{ValueAnswer}
+use Rattle.value_meaning.specs.declared.ValueAnswer.the-variants.{Accepted, Refused}
+use Rattle.value_meaning.specs.Sinks.{Item}
+use Rattle.value_meaning.specs.Visit.{checked}
+use Rattle.value_meaning.specs.Value.{valueAnswer, readingOf}
+use Rattle.value_meaning.proofs.Room.{room-kept}
 use Rattle.profile.specs.Profile.{profileOf, componentOf}
-use Rattle.written.specs.Rewriting.{rewriteAnswer}
-use Rattle.words.specs.Words.{words, sameWord}
-use Rattle.words.specs.Found.{FirstWord}
-use Rattle.words.specs.Fields.{codedFirst, subjectFirst, fieldsOf, rewriteFieldsOf, numberedFieldsOf}
-use Rattle.printing.specs.declared.Reply.{Reply}
-use Rattle.printing.specs.declared.Reply.the-variants.{NoQuestion}
-use Rattle.printing.specs.Items.{itemsOf}
-use Rattle.printing.specs.Replies.{replyText}
-use Rattle.printing.proofs.Heads.{text-most}
+use Rattle.rewrite_meaning.specs.Rewriting.{rewriteAnswer}
+use Rattle.ask_words.specs.Words.{words, sameWord}
+use Rattle.ask_words.specs.Found.{FirstWord}
+use Rattle.ask_words.specs.Fields.{codedFirst, subjectFirst, fieldsOf, rewriteFieldsOf, numberedFieldsOf}
+use Rattle.ask_text.specs.declared.Reply.{Reply}
+use Rattle.ask_text.specs.declared.Reply.the-variants.{NoQuestion}
+use Rattle.ask_text.specs.Items.{itemsOf}
+use Rattle.ask_text.specs.Replies.{replyText}
+use Rattle.ask_text.proofs.Heads.{text-most}
 use Rattle.questions.specs.Questions.{lineMost, typeWord, valueWord, itemWord, rewriteWord, profileWord, componentWord, Question, typeIn, valueIn, itemIn, rewriteIn, profileIn, componentIn, noQuestion, typeQuestion, aboutQuestion, rewriteQuestion, profileQuestion, componentQuestion, wordQuestion, questionOf}
 use Rattle.questions.specs.Replies.{mostItems, roomOf, replyTo, itemsGiven, itemsIn, octetsIn, answerLine}
 use Rattle.questions.specs.Blocks.{longest}

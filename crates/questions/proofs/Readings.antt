@@ -11,32 +11,32 @@ use Rattle.choices.specs.Branch.{choose}
 use Rattle.cdr.specs.declared.Order.{Order}
 use Rattle.cdr.specs.Align.{indexOf}
 use Rattle.decimals.proofs.Puts.{take-written}
-use Rattle.printing.specs.declared.Reply.the-variants.{Read, Unread}
-use Rattle.printing.specs.Items.{itemsOf}
-use Rattle.printing.proofs.Joined.{items-flat}
-use Rattle.reading.specs.declared.ValueAnswer.{ValueAnswer}
-use Rattle.reading.specs.declared.ValueAnswer.the-variants.{Accepted, Refused}
-use Rattle.reading.specs.Sinks.{Source, source, Item, St}
-use Rattle.reading.specs.Reading.{Log, roomFor}
-use Rattle.reading.specs.Visit.{checked}
-use Rattle.reading.specs.Value.{answerOf, overlong, onType, valueAnswer, readingOf, flat, tableAfter}
-use Rattle.reading.proofs.Room.{room-kept}
+use Rattle.ask_text.specs.declared.Reply.the-variants.{Read, Unread}
+use Rattle.ask_text.specs.Items.{itemsOf}
+use Rattle.ask_text.proofs.Joined.{items-flat}
+use Rattle.value_meaning.specs.declared.ValueAnswer.{ValueAnswer}
+use Rattle.value_meaning.specs.declared.ValueAnswer.the-variants.{Accepted, Refused}
+use Rattle.value_meaning.specs.Sinks.{Source, source, Item, St}
+use Rattle.value_meaning.specs.Reading.{Log, roomFor}
+use Rattle.value_meaning.specs.Visit.{checked}
+use Rattle.value_meaning.specs.Value.{answerOf, overlong, onType, valueAnswer, readingOf, flat, tableAfter}
+use Rattle.value_meaning.proofs.Room.{room-kept}
 use Rattle.typecode.specs.declared.TypeAnswer.{TypeAnswer}
 use Rattle.typecode.specs.declared.TypeAnswer.the-variants.{Accepted as ok, Refused as refused, Loop}
 use Rattle.typecode.specs.TypeCode.{checkedType}
-use Rattle.words.specs.declared.Fields.{Fields}
-use Rattle.words.specs.declared.Fields.the-variants.{Are, NotFields}
-use Rattle.words.specs.declared.Asked.{Asked}
-use Rattle.words.specs.declared.Subject.{Subject}
-use Rattle.words.specs.declared.Rewrite.{Rewrite}
-use Rattle.words.specs.declared.Rewrite.the-variants.{Asks, NotRewrite}
-use Rattle.words.specs.declared.Chosen.{Chosen}
-use Rattle.words.specs.declared.Numbered.{Numbered}
-use Rattle.words.specs.declared.Numbered.the-variants.{Is as IsNumbered, NotNumbered}
-use Rattle.words.specs.Words.{words}
-use Rattle.words.specs.Fields.{fieldsOf, rewriteFieldsOf, numberedFieldsOf}
-use Rattle.words.specs.Inner.{part, subjectWords, WithinSubject, FieldsRead, RewriteRead, NumberedRead}
-use Rattle.written.specs.Written.{target}
+use Rattle.ask_words.specs.declared.Fields.{Fields}
+use Rattle.ask_words.specs.declared.Fields.the-variants.{Are, NotFields}
+use Rattle.ask_words.specs.declared.Asked.{Asked}
+use Rattle.ask_words.specs.declared.Subject.{Subject}
+use Rattle.ask_words.specs.declared.Rewrite.{Rewrite}
+use Rattle.ask_words.specs.declared.Rewrite.the-variants.{Asks, NotRewrite}
+use Rattle.ask_words.specs.declared.Chosen.{Chosen}
+use Rattle.ask_words.specs.declared.Numbered.{Numbered}
+use Rattle.ask_words.specs.declared.Numbered.the-variants.{Is as IsNumbered, NotNumbered}
+use Rattle.ask_words.specs.Words.{words}
+use Rattle.ask_words.specs.Fields.{fieldsOf, rewriteFieldsOf, numberedFieldsOf}
+use Rattle.ask_words.specs.Inner.{part, subjectWords, WithinSubject, FieldsRead, RewriteRead, NumberedRead}
+use Rattle.rewrite_meaning.specs.Written.{target}
 use Rattle.questions.specs.declared.octets.Octets.{Octets}
 use Rattle.questions.specs.declared.octets.Octets.the-variants.{Count, NotOctets}
 use Rattle.questions.specs.declared.about.About.{About}

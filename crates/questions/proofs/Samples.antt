@@ -8,10 +8,10 @@ use Rattle.decimals.specs.Numerals.{allNumerals, numberUpto, numberFrom, number
 use Rattle.hexline.specs.Digit.{isDigit, digitValue}
 use Rattle.hexline.specs.Decoding.{octetOf, allDigits, lineOctets}
 use Rattle.cdr.specs.Align.{indexOf}
-use Rattle.reading.specs.Sinks.{source}
-use Rattle.words.specs.Words.{wordsFrom, sameWord, orderWord}
-use Rattle.words.specs.Fields.{codedFirst, subjectFirst, fieldsOf, rewriteFieldsOf, numberedFieldsOf}
-use Rattle.written.specs.Written.{target}
+use Rattle.value_meaning.specs.Sinks.{source}
+use Rattle.ask_words.specs.Words.{wordsFrom, sameWord, orderWord}
+use Rattle.ask_words.specs.Fields.{codedFirst, subjectFirst, fieldsOf, rewriteFieldsOf, numberedFieldsOf}
+use Rattle.rewrite_meaning.specs.Written.{target}
 use Rattle.questions.specs.Octets.{octetsWord}
 use Rattle.questions.specs.Questions.{valueWord, itemWord, rewriteWord, profileWord, componentWord, typeIn, valueIn, itemIn, rewriteIn, profileIn, componentIn, noQuestion, aboutOf, wordQuestion, questionOf}
 

@@ -7,7 +7,7 @@ use lib.Seq.{length-sets}
 use Rattle.choices.proofs.Choices.{by-test}
 use Rattle.choices.specs.Branch.{choose}
 use Rattle.lines.specs.Lines.{takenOf}
-use Rattle.reading.specs.Value.{flat}
+use Rattle.value_meaning.specs.Value.{flat}
 use Rattle.questions.specs.declared.Progress.{Progress}
 use Rattle.questions.specs.Questions.{Question}
 use Rattle.questions.specs.Replies.{itemsIn}

@@ -12,10 +12,10 @@ use Rattle.choices.proofs.Choices.{by-test}
 use Rattle.lines.specs.declared.Taken.{Taken}
 use Rattle.lines.specs.Lines.{upToLF, linesOf, takenOf, keptInto, LineTaken}
 use Rattle.lines.proofs.Laws.{block-ended, block-open, next-open, next-more, next-most, kept-most, kept-is, drop-within}
-use Rattle.writing.specs.declared.Written.{Written}
-use Rattle.writing.specs.declared.Written.the-variants.{Upto, NoRoom}
-use Rattle.writing.specs.Write.{Stored}
-use Rattle.writing.proofs.Stores.{take-stored, drop-stored}
+use Rattle.cdr_write.specs.declared.Written.{Written}
+use Rattle.cdr_write.specs.declared.Written.the-variants.{Upto, NoRoom}
+use Rattle.cdr_write.specs.Write.{Stored}
+use Rattle.cdr_write.proofs.Stores.{take-stored, drop-stored}
 use Rattle.decimals.proofs.Puts.{put-upto, put-always}
 use Rattle.questions.specs.declared.Progress.{Progress}
 use Rattle.questions.specs.Questions.{questionOf}

@@ -8,7 +8,7 @@ use Rattle.cdr.specs.declared.Order.{Order}
 use Rattle.cdr.specs.declared.Named.{Named}
 use Rattle.cdr.specs.declared.Named.the-variants.{Is, NoOrder}
 use Rattle.cdr.specs.Align.{indexOf}
-use Rattle.items.specs.declared.Item.the-variants.{Signed, Unsigned, Single, Double}
+use Rattle.value_items.specs.declared.Item.the-variants.{Signed, Unsigned, Single, Double}
 use Rattle.typecode.specs.declared.TypeAnswer.{TypeAnswer}
 use Rattle.typecode.specs.declared.TypeAnswer.the-variants.{Accepted as ok, Refused as refused, Loop}
 use Rattle.typecode.specs.TypeCode.{checkedType}
@@ -17,21 +17,21 @@ use Rattle.profile.specs.declared.ProfileAnswer.the-variants.{Read as says, Ref
 use Rattle.profile.specs.declared.ComponentAnswer.{ComponentAnswer}
 use Rattle.profile.specs.declared.ComponentAnswer.the-variants.{Found, Refused as notFound}
 use Rattle.profile.specs.Profile.{profileOf, componentOf}
-use Rattle.reading.specs.declared.ValueAnswer.{ValueAnswer}
-use Rattle.reading.specs.declared.ValueAnswer.the-variants.{Accepted, Refused}
-use Rattle.reading.specs.Value.{valueAnswer, flat}
+use Rattle.value_meaning.specs.declared.ValueAnswer.{ValueAnswer}
+use Rattle.value_meaning.specs.declared.ValueAnswer.the-variants.{Accepted, Refused}
+use Rattle.value_meaning.specs.Value.{valueAnswer, flat}
 use Rattle.value.specs.declared.ItemAnswer.{ItemAnswer}
 use Rattle.value.specs.declared.ItemAnswer.the-variants.{Given, Refused as NoItem}
 use Rattle.value.specs.Single.{itemAnswer}
-use Rattle.written.specs.declared.RewriteAnswer.{RewriteAnswer}
-use Rattle.written.specs.declared.RewriteAnswer.the-variants.{Accepted as writtenTo, Refused as notWritten}
-use Rattle.written.specs.Written.{Target, target}
-use Rattle.written.specs.Rewriting.{rewriteAnswer}
-use Rattle.words.specs.Words.{orderWord}
-use Rattle.words.specs.Fields.{FieldsOf, are, notFields, RewriteFields, rewrites, notRewrite, NumberedFields, numbered, notNumbered}
-use Rattle.printing.specs.declared.Reply.{Reply}
-use Rattle.printing.specs.declared.Reply.the-variants.{NoQuestion}
-use Rattle.printing.specs.Items.{itemsOf}
+use Rattle.rewrite_meaning.specs.declared.RewriteAnswer.{RewriteAnswer}
+use Rattle.rewrite_meaning.specs.declared.RewriteAnswer.the-variants.{Accepted as writtenTo, Refused as notWritten}
+use Rattle.rewrite_meaning.specs.Written.{Target, target}
+use Rattle.rewrite_meaning.specs.Rewriting.{rewriteAnswer}
+use Rattle.ask_words.specs.Words.{orderWord}
+use Rattle.ask_words.specs.Fields.{FieldsOf, are, notFields, RewriteFields, rewrites, notRewrite, NumberedFields, numbered, notNumbered}
+use Rattle.ask_text.specs.declared.Reply.{Reply}
+use Rattle.ask_text.specs.declared.Reply.the-variants.{NoQuestion}
+use Rattle.ask_text.specs.Items.{itemsOf}
 use Rattle.questions.specs.Octets.{Octets, octets, notOctets, octetsWord, loneOctets}
 use Rattle.questions.specs.Questions.{Question, typeIn, valueIn, itemIn, rewriteIn, profileIn, componentIn, noQuestion, octetsQuestion, namedType, typeQuestion, About, about, notAbout, aboutOf, onAbout, aboutQuestion, rewriteQuestion, profileQuestion, componentQuestion}
 use Rattle.questions.specs.Replies.{typeReply, valueReply, itemReply, rewriteReply, profileReply, componentReply, roomOf, replyTo, itemsIn, octetsIn}

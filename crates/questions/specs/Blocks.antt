@@ -28,7 +28,7 @@ use lib.Seq.{sets}
 use Rattle.choices.specs.Branch.{choose}
 use Rattle.lines.specs.declared.Taken.{Taken}
 use Rattle.lines.specs.Lines.{linesFrom, takenOf, keptInto}
-use Rattle.reading.specs.Value.{flat}
+use Rattle.value_meaning.specs.Value.{flat}
 use Rattle.questions.specs.declared.Progress.{Progress}
 use Rattle.questions.specs.Questions.{Question, questionOf}
 use Rattle.questions.specs.Replies.{itemsIn, answerLine}

@@ -16,12 +16,12 @@ use mathlib.Core.List.{List}
 use Prim.Native.Nat.{ℕ, _*_, _≤_}
 use lib.ListN.{length, take}
 use Rattle.cdr.specs.Align.{indexOf}
-use Rattle.reading.specs.Sinks.{source}
-use Rattle.words.specs.declared.Subject.{Subject}
-use Rattle.words.specs.Inner.{subjectWords}
-use Rattle.printing.specs.declared.Reply.{Reply}
-use Rattle.printing.specs.declared.Reply.the-variants.{Typed, Read, Refused, Unread, Signed, Unsigned, Single, Double, Rewritten, Profiled, Component, NoQuestion}
-use Rattle.printing.specs.Items.{itemsOf}
+use Rattle.value_meaning.specs.Sinks.{source}
+use Rattle.ask_words.specs.declared.Subject.{Subject}
+use Rattle.ask_words.specs.Inner.{subjectWords}
+use Rattle.ask_text.specs.declared.Reply.{Reply}
+use Rattle.ask_text.specs.declared.Reply.the-variants.{Typed, Read, Refused, Unread, Signed, Unsigned, Single, Double, Rewritten, Profiled, Component, NoQuestion}
+use Rattle.ask_text.specs.Items.{itemsOf}
 use Rattle.questions.specs.declared.octets.Octets.{Octets}
 use Rattle.questions.specs.declared.octets.Octets.the-variants.{Count, NotOctets}
 use Rattle.questions.specs.declared.about.About.{About}

@@ -11,7 +11,7 @@ use lib.Dec.{eqb}
 use lib.ListN.{length}
 use Rattle.choices.specs.Branch.{choose}
 use Rattle.hexline.specs.Decoding.{allDigits, lineOctets}
-use Rattle.words.specs.Words.{sameWord}
+use Rattle.ask_words.specs.Words.{sameWord}
 
 abbrev pub noneWord : List ℕ
 noneWord = 45 ∷ []

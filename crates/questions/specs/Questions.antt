@@ -28,10 +28,10 @@ use Rattle.cdr.specs.declared.Order.{Order}
 use Rattle.cdr.specs.declared.Named.{Named}
 use Rattle.cdr.specs.declared.Named.the-variants.{Is, NoOrder}
 use Rattle.cdr.specs.Align.{indexOf}
-use Rattle.reading.specs.Sinks.{Source, source}
-use Rattle.words.specs.Words.{words, sameWord, orderWord}
-use Rattle.words.specs.Fields.{SubjectOf, FieldsOf, are, notFields, fieldsOf, RewriteFields, rewrites, notRewrite, rewriteFieldsOf, NumberedFields, numbered, notNumbered, numberedFieldsOf}
-use Rattle.written.specs.Written.{Target, target}
+use Rattle.value_meaning.specs.Sinks.{Source, source}
+use Rattle.ask_words.specs.Words.{words, sameWord, orderWord}
+use Rattle.ask_words.specs.Fields.{SubjectOf, FieldsOf, are, notFields, fieldsOf, RewriteFields, rewrites, notRewrite, rewriteFieldsOf, NumberedFields, numbered, notNumbered, numberedFieldsOf}
+use Rattle.rewrite_meaning.specs.Written.{Target, target}
 use Rattle.questions.specs.Octets.{Octets, octets, notOctets, octetsWord, loneOctets}
 
 abbrev pub lineMost : ℕ

@@ -20,30 +20,30 @@
 use mathlib.Core.List.{List, []}
 use Prim.Native.Nat.{ℕ, zero, suc, min}
 use lib.ListN.{length}
-use Rattle.items.specs.Items.{caseOf, bitsOf}
-use Rattle.parts.specs.Parts.{refusalNumber}
+use Rattle.value_items.specs.Items.{caseOf, bitsOf}
+use Rattle.profile_parts.specs.Parts.{refusalNumber}
 use Rattle.profile.specs.declared.ProfileAnswer.{ProfileAnswer}
 use Rattle.profile.specs.declared.ProfileAnswer.the-variants.{Read as says, Refused as notRead}
 use Rattle.profile.specs.declared.ComponentAnswer.{ComponentAnswer}
 use Rattle.profile.specs.declared.ComponentAnswer.the-variants.{Found, Refused as notFound}
 use Rattle.profile.specs.Profile.{profileOf, componentOf}
-use Rattle.reading.specs.declared.ValueAnswer.{ValueAnswer}
-use Rattle.reading.specs.declared.ValueAnswer.the-variants.{Accepted as accepted, Refused as notAccepted}
-use Rattle.reading.specs.Sinks.{Item}
-use Rattle.reading.specs.Reading.{roomFor}
-use Rattle.reading.specs.Value.{valueAnswer, readingOf}
+use Rattle.value_meaning.specs.declared.ValueAnswer.{ValueAnswer}
+use Rattle.value_meaning.specs.declared.ValueAnswer.the-variants.{Accepted as accepted, Refused as notAccepted}
+use Rattle.value_meaning.specs.Sinks.{Item}
+use Rattle.value_meaning.specs.Reading.{roomFor}
+use Rattle.value_meaning.specs.Value.{valueAnswer, readingOf}
 use Rattle.typecode.specs.declared.TypeAnswer.{TypeAnswer}
 use Rattle.typecode.specs.declared.TypeAnswer.the-variants.{Accepted as ok, Refused as refused, Loop}
 use Rattle.typecode.specs.TypeCode.{answerNumber, checkedType}
-use Rattle.printing.specs.declared.Reply.{Reply}
-use Rattle.printing.specs.declared.Reply.the-variants.{Typed, Read, Refused, Unread, Signed, Unsigned, Single, Double, Rewritten, Profiled, Component, NoQuestion}
-use Rattle.printing.specs.Replies.{replyText}
+use Rattle.ask_text.specs.declared.Reply.{Reply}
+use Rattle.ask_text.specs.declared.Reply.the-variants.{Typed, Read, Refused, Unread, Signed, Unsigned, Single, Double, Rewritten, Profiled, Component, NoQuestion}
+use Rattle.ask_text.specs.Replies.{replyText}
 use Rattle.value.specs.declared.ItemAnswer.{ItemAnswer}
 use Rattle.value.specs.declared.ItemAnswer.the-variants.{Given, Refused as noItem}
 use Rattle.value.specs.Single.{itemAnswer}
-use Rattle.written.specs.declared.RewriteAnswer.{RewriteAnswer}
-use Rattle.written.specs.declared.RewriteAnswer.the-variants.{Accepted as writtenTo, Refused as notWritten}
-use Rattle.written.specs.Rewriting.{rewriteAnswer, rewritten}
+use Rattle.rewrite_meaning.specs.declared.RewriteAnswer.{RewriteAnswer}
+use Rattle.rewrite_meaning.specs.declared.RewriteAnswer.the-variants.{Accepted as writtenTo, Refused as notWritten}
+use Rattle.rewrite_meaning.specs.Rewriting.{rewriteAnswer, rewritten}
 use Rattle.questions.specs.Questions.{Question, typeIn, valueIn, itemIn, rewriteIn, profileIn, componentIn, noQuestion, questionOf}
 
 abbrev pub typeReply : TypeAnswer → Reply

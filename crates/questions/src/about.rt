@@ -1,12 +1,12 @@
 // The octets of the type and the value that a question is about.
 ghost use Prim.Native.Nat.{_*_, _≤_};
 ghost use lib.ListN.{length};
-ghost use Rattle.words.specs.Inner.{WithinSubject};
+ghost use Rattle.ask_words.specs.Inner.{WithinSubject};
 ghost use Rattle.questions.specs.Inner.{AboutRead};
 use crate::octets;
 use cdr::Order;
 use octets::Octets;
-use words::Subject;
+use ask_words::Subject;
 
 // The order and the number of octets of the type, the same of the value, and the index of its first octet.
 pub(crate) enum About {

@@ -9,7 +9,7 @@ use crate::LINE_ROOM;
 use crate::LONGEST;
 use crate::Progress;
 use crate::TABLE_ROOM;
-use writing::Written;
+use cdr_write::Written;
 
 // Whether characters are left in the block, and there is room for any line, its items and its answer.
 pub(crate) fn goes_on(block: usize, line: usize, out: usize, table: usize, at: Progress) -> bool

@@ -3,14 +3,14 @@
 ghost use mathlib.Core.Path.{_≡_};
 ghost use Prim.Native.Nat.{_^_, _<_, _≤_};
 ghost use lib.ListN.{length};
-ghost use Rattle.writing.specs.Write.{Stored};
-ghost use Rattle.words.specs.Words.{words};
+ghost use Rattle.cdr_write.specs.Write.{Stored};
+ghost use Rattle.ask_words.specs.Words.{words};
 ghost use Rattle.questions.specs.Questions.{lineMost, wordQuestion, questionOf};
 ghost use Rattle.questions.specs.Replies.{answerLine};
 ghost use Rattle.questions.specs.Inner.{numbersOf, Replied, octetsMost, octetsOf, Held};
 ghost use Rattle.questions.specs.Blocks.{tableRoom, tableFor, BlockAnswered};
-use printing::Reply;
-use writing::Written;
+use ask_text::Reply;
+use cdr_write::Written;
 
 mod about;
 mod block;
@@ -74,7 +74,7 @@ fn answer_line(line: &[u8], out: &mut [u8], table: &mut [u64], at: usize) -> Wri
     let reply = reply_to(line, table, &mut memory);
     let n = numbers_of(reply);
     let m = octets_of(reply);
-    printing::write_reply(out, at, reply, &table[..n], &memory[..m])
+    ask_text::write_reply(out, at, reply, &table[..n], &memory[..m])
 }
 
 // The numbers of the table that an answer has.
@@ -140,7 +140,7 @@ fn reply_to(line: &[u8], table: &mut [u64], memory: &mut [u8]) -> Reply
     if LINE_LIMIT < line.len() {
         return Reply::NoQuestion;
     }
-    let end = words::first_end(line);
+    let end = ask_words::first_end(line);
     if end == line.len() {
         return Reply::NoQuestion;
     }
@@ -152,22 +152,22 @@ fn reply_words(word: &[u8], rest: &[u8], table: &mut [u64], memory: &mut [u8]) -
     requires { ⌜ (length (now rest) ≤ lineMost) × (tableRoom ≤ length (now table)) × (octetsMost ≤ length (now memory)) ⌝ }
     ensures { λ r. ⌜ (Replied (wordQuestion (now (word .entry)) (words (now (rest .entry)))) (now (table .entry)) r (now (table .exit))) × Held (wordQuestion (now (word .entry)) (words (now (rest .entry)))) r (now (memory .exit)) ⌝ }
 {
-    if words::same(word, b"type") {
+    if ask_words::same(word, b"type") {
         return types::reply_type(rest);
     }
-    if words::same(word, b"value") {
+    if ask_words::same(word, b"value") {
         return values::reply_value(rest, table);
     }
-    if words::same(word, b"item") {
+    if ask_words::same(word, b"item") {
         return values::reply_item(rest);
     }
-    if words::same(word, b"rewrite") {
+    if ask_words::same(word, b"rewrite") {
         return rewrites::reply_rewrite(rest, memory);
     }
-    if words::same(word, b"profile") {
+    if ask_words::same(word, b"profile") {
         return profiles::reply_profile(rest, memory);
     }
-    if words::same(word, b"component") {
+    if ask_words::same(word, b"component") {
         return profiles::reply_component(rest, memory);
     }
     Reply::NoQuestion

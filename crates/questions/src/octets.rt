@@ -1,7 +1,7 @@
 // The octets that a word stands for.
 ghost use Prim.Native.Nat.{_*_, _≤_};
 ghost use lib.ListN.{length};
-ghost use Rattle.words.specs.Words.{words};
+ghost use Rattle.ask_words.specs.Words.{words};
 ghost use Rattle.questions.specs.Octets.{octetsWord, loneOctets};
 ghost use Rattle.questions.specs.Inner.{OctetsRead};
 use hexline::Decoded;
@@ -20,7 +20,7 @@ pub(crate) fn read(word: &[u8], octets: &mut [u8]) -> Octets
     requires { ⌜ length (now word) ≤ length (now octets) * 2 ⌝ }
     ensures { λ r. ⌜ OctetsRead (octetsWord (now (word .entry))) r (now (octets .exit)) ⌝ }
 {
-    if words::same(word, b"-") {
+    if ask_words::same(word, b"-") {
         return Octets::Count(0);
     }
     if word.len() == 0 {
@@ -37,7 +37,7 @@ pub(crate) fn read_lone(line: &[u8], octets: &mut [u8]) -> Octets
     requires { ⌜ length (now line) ≤ length (now octets) * 2 ⌝ }
     ensures { λ r. ⌜ OctetsRead (loneOctets (words (now (line .entry)))) r (now (octets .exit)) ⌝ }
 {
-    if words::first_end(line) < line.len() {
+    if ask_words::first_end(line) < line.len() {
         return Octets::NotOctets;
     }
     read(line, octets)

@@ -1,16 +1,16 @@
 // The questions `profile OCTETS` and `component OCTETS NUMBER`.
 ghost use Prim.Native.Nat.{_≤_};
 ghost use lib.ListN.{length};
-ghost use Rattle.words.specs.Words.{words};
-ghost use Rattle.words.specs.Fields.{numberedFieldsOf};
+ghost use Rattle.ask_words.specs.Words.{words};
+ghost use Rattle.ask_words.specs.Fields.{numberedFieldsOf};
 ghost use Rattle.questions.specs.Questions.{lineMost, profileQuestion, componentQuestion};
 ghost use Rattle.questions.specs.Inner.{octetsMost, Held};
 use crate::octets;
 use octets::Octets;
-use printing::Reply;
+use ask_text::Reply;
 use profile::ComponentAnswer;
 use profile::ProfileAnswer;
-use words::Numbered;
+use ask_words::Numbered;
 
 // Answers the word behind `profile`, and leaves the body in the lent memory.
 pub(crate) fn reply_profile(rest: &[u8], memory: &mut [u8]) -> Reply
@@ -23,7 +23,7 @@ pub(crate) fn reply_profile(rest: &[u8], memory: &mut [u8]) -> Reply
     };
     match profile::read(&v[..n]) {
         ProfileAnswer::Read(said) => {
-            writing::write_octets(memory, 0, &v[..n]);
+            cdr_write::write_octets(memory, 0, &v[..n]);
             Reply::Profiled(said, n)
         }
         ProfileAnswer::Refused(refusal) => Reply::Refused(refusal.number()),
@@ -35,7 +35,7 @@ pub(crate) fn reply_component(rest: &[u8], memory: &mut [u8]) -> Reply
     requires { ⌜ (length (now rest) ≤ lineMost) × (octetsMost ≤ length (now memory)) ⌝ }
     ensures { λ r. ⌜ Held (componentQuestion (numberedFieldsOf (words (now (rest .entry))))) r (now (memory .exit)) ⌝ }
 {
-    let Numbered::Is { end, number } = words::read_numbered(rest) else {
+    let Numbered::Is { end, number } = ask_words::read_numbered(rest) else {
         return Reply::NoQuestion;
     };
     let mut v = [0u8; octets::MOST];
@@ -44,7 +44,7 @@ pub(crate) fn reply_component(rest: &[u8], memory: &mut [u8]) -> Reply
     };
     match profile::component(&v[..n], number) {
         ComponentAnswer::Found { tag, octets } => {
-            writing::write_octets(memory, 0, &v[..n]);
+            cdr_write::write_octets(memory, 0, &v[..n]);
             Reply::Component(tag, octets, n)
         }
         ComponentAnswer::Refused(refusal) => Reply::Refused(refusal.number()),

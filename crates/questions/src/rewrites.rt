@@ -2,10 +2,10 @@
 ghost use Prim.Native.Nat.{_≤_};
 ghost use lib.ListN.{length};
 ghost use Rattle.cdr.specs.Align.{indexOf};
-ghost use Rattle.reading.specs.Sinks.{source};
-ghost use Rattle.written.specs.Written.{target};
-ghost use Rattle.words.specs.Words.{words};
-ghost use Rattle.words.specs.Fields.{rewriteFieldsOf};
+ghost use Rattle.value_meaning.specs.Sinks.{source};
+ghost use Rattle.rewrite_meaning.specs.Written.{target};
+ghost use Rattle.ask_words.specs.Words.{words};
+ghost use Rattle.ask_words.specs.Fields.{rewriteFieldsOf};
 ghost use Rattle.questions.specs.Questions.{lineMost, rewriteIn, rewriteQuestion};
 ghost use Rattle.questions.specs.Inner.{octetsMost, Held};
 use crate::about;
@@ -14,9 +14,9 @@ use crate::octets;
 use about::About;
 use cdr::Index;
 use cdr::Order;
-use printing::Reply;
-use words::Rewrite;
-use written::RewriteAnswer;
+use ask_text::Reply;
+use ask_words::Rewrite;
+use rewrite_meaning::RewriteAnswer;
 
 // The most octets of a rewritten value: seven more than a value may have.
 pub(crate) const MOST: usize = 16391;
@@ -26,7 +26,7 @@ pub(crate) fn reply_rewrite(rest: &[u8], memory: &mut [u8]) -> Reply
     requires { ⌜ (length (now rest) ≤ lineMost) × (octetsMost ≤ length (now memory)) ⌝ }
     ensures { λ r. ⌜ Held (rewriteQuestion (rewriteFieldsOf (words (now (rest .entry))))) r (now (memory .exit)) ⌝ }
 {
-    let Rewrite::Asks(asked) = words::read_rewrite(rest) else {
+    let Rewrite::Asks(asked) = ask_words::read_rewrite(rest) else {
         return Reply::NoQuestion;
     };
     let subject = asked.subject;
@@ -74,7 +74,7 @@ fn rewrite(
     let n = block::least(room as usize, MOST);
     let first = Index(start as usize);
     let to = Index(index as usize);
-    let answer = rewriting::rewrite(t, typed, v, order, first, chosen, to, &mut memory[..n]);
+    let answer = rewrite::rewrite(t, typed, v, order, first, chosen, to, &mut memory[..n]);
     match answer {
         RewriteAnswer::Accepted(count) => Reply::Rewritten(count),
         RewriteAnswer::Refused(number) => Reply::Refused(number),

@@ -3,14 +3,14 @@ ghost use mathlib.Core.Path.{_≡_};
 ghost use Prim.Native.Nat.{_≤_};
 ghost use lib.ListN.{length};
 ghost use Rattle.typecode.specs.TypeCode.{checkedType};
-ghost use Rattle.words.specs.Words.{words};
+ghost use Rattle.ask_words.specs.Words.{words};
 ghost use Rattle.questions.specs.Questions.{lineMost, orderedType, typeQuestion};
 ghost use Rattle.questions.specs.Replies.{replyTo, typeReply};
 use crate::octets;
 use cdr::Named;
 use cdr::Order;
 use octets::Octets;
-use printing::Reply;
+use ask_text::Reply;
 use typecode::TypeAnswer;
 
 // Answers the words `ORDER TYPE`.
@@ -18,11 +18,11 @@ pub(crate) fn reply_type(rest: &[u8]) -> Reply
     requires { ⌜ length (now rest) ≤ lineMost ⌝ }
     ensures { λ r. ⌜ r ≡ replyTo (typeQuestion (words (now (rest .entry)))) ⌝ }
 {
-    let end = words::first_end(rest);
+    let end = ask_words::first_end(rest);
     if end == rest.len() {
         return Reply::NoQuestion;
     }
-    let Named::Is(order) = words::read_order(&rest[..end]) else {
+    let Named::Is(order) = ask_words::read_order(&rest[..end]) else {
         return Reply::NoQuestion;
     };
     reply_ordered(order, &rest[end + 1..])

@@ -3,9 +3,9 @@ ghost use mathlib.Core.Path.{_≡_};
 ghost use Prim.Native.Nat.{_≤_};
 ghost use lib.ListN.{length};
 ghost use Rattle.cdr.specs.Align.{indexOf};
-ghost use Rattle.reading.specs.Sinks.{source};
-ghost use Rattle.words.specs.Words.{words};
-ghost use Rattle.words.specs.Fields.{fieldsOf};
+ghost use Rattle.value_meaning.specs.Sinks.{source};
+ghost use Rattle.ask_words.specs.Words.{words};
+ghost use Rattle.ask_words.specs.Fields.{fieldsOf};
 ghost use Rattle.questions.specs.Questions.{lineMost, valueIn, itemIn, aboutQuestion};
 ghost use Rattle.questions.specs.Replies.{itemShown, roomOf, replyTo};
 ghost use Rattle.questions.specs.Blocks.{tableRoom};
@@ -15,10 +15,10 @@ use crate::octets;
 use about::About;
 use cdr::Index;
 use cdr::Order;
-use printing::Reply;
-use reading::ValueAnswer;
+use ask_text::Reply;
+use value_meaning::ValueAnswer;
 use value::ItemAnswer;
-use words::Fields;
+use ask_words::Fields;
 
 // The most items of an answer.
 const ITEMS: u64 = 16384;
@@ -39,7 +39,7 @@ pub(crate) fn reply_value(rest: &[u8], table: &mut [u64]) -> Reply
     requires { ⌜ (length (now rest) ≤ lineMost) × (tableRoom ≤ length (now table)) ⌝ }
     ensures { λ r. ⌜ Replied (aboutQuestion valueIn (fieldsOf (words (now (rest .entry))))) (now (table .entry)) r (now (table .exit)) ⌝ }
 {
-    let Fields::Are(asked) = words::read_fields(rest) else {
+    let Fields::Are(asked) = ask_words::read_fields(rest) else {
         return Reply::NoQuestion;
     };
     let subject = asked.subject;
@@ -100,7 +100,7 @@ pub(crate) fn reply_item(rest: &[u8]) -> Reply
     requires { ⌜ length (now rest) ≤ lineMost ⌝ }
     ensures { λ r. ⌜ r ≡ replyTo (aboutQuestion itemIn (fieldsOf (words (now (rest .entry))))) ⌝ }
 {
-    let Fields::Are(asked) = words::read_fields(rest) else {
+    let Fields::Are(asked) = ask_words::read_fields(rest) else {
         return Reply::NoQuestion;
     };
     let subject = asked.subject;

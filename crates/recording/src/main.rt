@@ -4,10 +4,10 @@
 use libc::STDERR_FILENO;
 use libc::STDIN_FILENO;
 use libc::STDOUT_FILENO;
-use listing::LINE_ROOM;
-use listing::State;
-use places::PLACES_SIZE;
-use writing::Written;
+use recording_text::LINE_ROOM;
+use recording_text::State;
+use join_places::PLACES_SIZE;
+use cdr_write::Written;
 
 // Where the recording stands, and whether every read and write has gone well.
 struct Reading {
@@ -69,7 +69,7 @@ fn take_block(
     let mut state = before;
     let mut from = 0;
     while from < block.len() {
-        let done = listing::answer_block(block, from, line, places, out, state);
+        let done = recording_text::answer_block(block, from, line, places, out, state);
         state = done.state;
         let next = done.next;
         if next <= from {
@@ -90,7 +90,7 @@ fn close(line: &mut [u8], places: &mut [u8], out: &mut [u8], state: State) {
         return;
     }
     let last = ended.state;
-    match listing::answer_end(line, places, out, last) {
+    match recording_text::answer_end(line, places, out, last) {
         Written::Upto(end) => {
             write_text(out, end);
         }

@@ -10,10 +10,10 @@ use lib.ListN.{replicate}
 use Prim.Native.Nat.{ℕ}
 use Rattle.cdr.specs.Number.{littleNumber, littleOctets, numberOf, octetsOf, numberAt, readOf}
 use Rattle.choices.specs.Branch.{choose}
-use Rattle.texts.specs.Text.{textOf, endsText, overBound, runOf}
-use Rattle.encapsulation.specs.Encapsulation.{fieldOf, stringOf, countedOf}
+use Rattle.cdr_text.specs.Text.{textOf, endsText, overBound, runOf}
+use Rattle.cdr_fields.specs.Encapsulation.{fieldOf, stringOf, countedOf}
 use Rattle.version.specs.Versions.{majorExists, minorExists, hasComponents}
-use Rattle.parts.specs.Parts.{orderAt, minorAt, versionAt, hostAt, numberPartAt, keyAt, componentAt}
+use Rattle.profile_parts.specs.Parts.{orderAt, minorAt, versionAt, hostAt, numberPartAt, keyAt, componentAt}
 use Rattle.profile.specs.List.{skipFrom, listFrom, countedList, listAt, componentFrom}
 use Rattle.profile.specs.Profile.{profileOf, componentThen, componentOf}
 use Rattle.samples.specs.Samples.{paper, profile, component, Sample, holds}

@@ -23,32 +23,32 @@ use Rattle.frame.specs.Frames.{sizeAllowed, fragmentAllowed, eightsAllowed, siz
 use Rattle.choices.specs.Branch.{choose}
 use Rattle.choices.specs.Lists.{anyOf}
 use Rattle.cdr.specs.Number.{readOf}
-use Rattle.texts.specs.Text.{textOf, endsText, overBound, runOf}
-use Rattle.encapsulation.specs.Encapsulation.{fieldOf, stringOf, countedOf}
-use Rattle.kinds.specs.Forms.{formOf}
-use Rattle.kinds.specs.Parts.{fieldIn, skipField, skipCounted, targetOf, aimed, spotAt, memberAt, namesIn}
-use Rattle.kinds.specs.Members.{membersFrom, typesOf}
-use Rattle.kinds.specs.Parameters.{countIn, typeIn, elementIn, unionIn, encapsulated, parametersAt}
-use Rattle.met.specs.Met.{findKind, positionOf, parametersOf, foundAt, insideOf}
-use Rattle.met.specs.Discriminants.{leafLabels, labelsAfter, labelsFor, outOfKind}
-use Rattle.met.specs.Arms.{caseFrom}
-use Rattle.met.specs.Shapes.{shapeOf, look}
-use Rattle.fields.specs.Fields.{belowTop, entryOf, textStep, namesStep, numberStep, countStep, anyCount, headStep, exceptionStep, lengthStep, textsStep, enumStep, partOf, badDefault, switchStep, labelBefore}
-use Rattle.checking.specs.Walk.{entered, closed}
-use Rattle.checking.specs.Types.{targetStep, indirectionAt, nameStep, membersAt, labelsAt, switchedAt, discriminantAt, endedAt, compositeAt, enteredAt, kindAt, enterAt, typeAt, walkedOf}
-use Rattle.loops.specs.Loops.{closure, anyBelow, loopFound}
-use Rattle.steps.specs.Steps.{stepsOf, steps}
+use Rattle.cdr_text.specs.Text.{textOf, endsText, overBound, runOf}
+use Rattle.cdr_fields.specs.Encapsulation.{fieldOf, stringOf, countedOf}
+use Rattle.type_kinds.specs.Forms.{formOf}
+use Rattle.type_kinds.specs.Parts.{fieldIn, skipField, skipCounted, targetOf, aimed, spotAt, memberAt, namesIn}
+use Rattle.type_kinds.specs.Members.{membersFrom, typesOf}
+use Rattle.type_kinds.specs.Parameters.{countIn, typeIn, elementIn, unionIn, encapsulated, parametersAt}
+use Rattle.type_list.specs.Met.{findKind, positionOf, parametersOf, foundAt, insideOf}
+use Rattle.type_list.specs.Discriminants.{leafLabels, labelsAfter, labelsFor, outOfKind}
+use Rattle.type_list.specs.Arms.{caseFrom}
+use Rattle.type_list.specs.Shapes.{shapeOf, look}
+use Rattle.type_fields.specs.Fields.{belowTop, entryOf, textStep, namesStep, numberStep, countStep, anyCount, headStep, exceptionStep, lengthStep, textsStep, enumStep, partOf, badDefault, switchStep, labelBefore}
+use Rattle.type_walk.specs.Walk.{entered, closed}
+use Rattle.type_walk.specs.Types.{targetStep, indirectionAt, nameStep, membersAt, labelsAt, switchedAt, discriminantAt, endedAt, compositeAt, enteredAt, kindAt, enterAt, typeAt, walkedOf}
+use Rattle.type_loops.specs.Loops.{closure, anyBelow, loopFound}
+use Rattle.type_steps.specs.Steps.{stepsOf, steps}
 use Rattle.typecode.specs.TypeCode.{answerNumbers, loopLast, checkedType}
 use Rattle.cdr.specs.Align.{indexOf}
 use Rattle.cdr.specs.Number.{signExtended}
-use Rattle.reading.specs.Sinks.{Source, source, after, repeats, taken, done, numberStep as numberTaken, octetsStep}
-use Rattle.reading.specs.Visit.{sizeOf, contentOf, leafDone, leafAt, textDone, textGot, textAt, countDone, countAt, inertAt}
-use Rattle.reading.specs.Reading.{reads, reading}
-use Rattle.reading.specs.Opens.{readsNode, enterNode, ownOf, opens, closes, shuts, next, entries}
-use Rattle.reading.specs.Value.{roomIn, answerNumbers as valueNumbers, readingOf, valueAnswer, flat, tableAfter}
-use Rattle.written.specs.Written.{Target, target, wrote, writes}
+use Rattle.value_meaning.specs.Sinks.{Source, source, after, repeats, taken, done, numberStep as numberTaken, octetsStep}
+use Rattle.value_meaning.specs.Visit.{sizeOf, contentOf, leafDone, leafAt, textDone, textGot, textAt, countDone, countAt, inertAt}
+use Rattle.value_meaning.specs.Reading.{reads, reading}
+use Rattle.value_meaning.specs.Opens.{readsNode, enterNode, ownOf, opens, closes, shuts, next, entries}
+use Rattle.value_meaning.specs.Value.{roomIn, answerNumbers as valueNumbers, readingOf, valueAnswer, flat, tableAfter}
+use Rattle.rewrite_meaning.specs.Written.{Target, target, wrote, writes}
 use Rattle.profile.specs.Profile.{profileNumbers, profileOf, componentNumbers, componentOf}
-use Rattle.written.specs.Rewriting.{rewriteNumbers, rewriteOf, rewriteAnswer, outputAfter}
+use Rattle.rewrite_meaning.specs.Rewriting.{rewriteNumbers, rewriteOf, rewriteAnswer, outputAfter}
 
 abbrev pub paper : ℕ → ℕ → List ℕ
 paper n digits = octetsOf Big n digits

@@ -10,13 +10,13 @@
 --   checkedType     the check
 --   toldBy          what the struct that the code gives stands for
 use Rattle.choices.specs.{ℕ, List, [], _∷_, length, choose}
-use Rattle.loops.specs.Loops.{loopFound}
+use Rattle.type_loops.specs.Loops.{loopFound}
 use Rattle.cdr.specs.{Index, Order}
-use Rattle.kinds.specs.{Kind}
-use Rattle.met.specs.Arrays.{kindsMet}
-use Rattle.fields.specs.{Step, Refused as refused, Next, Refusals.refusalNumber}
-use Rattle.checking.specs.Types.{walkedOf}
-use Rattle.steps.specs.Steps.{steps}
+use Rattle.type_kinds.specs.{Kind}
+use Rattle.type_list.specs.Arrays.{kindsMet}
+use Rattle.type_fields.specs.{Step, Refused as refused, Next, Refusals.refusalNumber}
+use Rattle.type_walk.specs.Types.{walkedOf}
+use Rattle.type_steps.specs.Steps.{steps}
 use Rattle.typecode.specs.declared.TypeAnswer.{TypeAnswer}
 use Rattle.typecode.specs.declared.TypeAnswer.the-variants.{Accepted, Refused, Loop}
 use Rattle.typecode.specs.declared.CheckedType as given

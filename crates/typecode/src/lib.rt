@@ -1,12 +1,12 @@
 // The check of a TypeCode: octets used and kinds written, or 01's refusal, 30 to 40 and 42; and the kinds met, for whoever reads values.
 ghost use mathlib.Core.Path.{_≡_};
-ghost use Rattle.met.specs.Arrays.{kindsMet};
+ghost use Rattle.type_list.specs.Arrays.{kindsMet};
 ghost use Rattle.typecode.specs.TypeCode.{answerNumber, refusedWith, loopLast, checkedType, toldBy};
 use cdr::Index;
 use cdr::Order;
-use fields::Refusal;
-use fields::Step;
-use met::Met;
+use type_fields::Refusal;
+use type_fields::Step;
+use type_list::Met;
 
 // What the check of a type answers.
 pub enum TypeAnswer {
@@ -48,10 +48,10 @@ fn refused_with(answer: TypeAnswer) -> CheckedType
 fn loop_last(v: &[u8], end: Index, met: Met) -> CheckedType
     ensures { λ r. ⌜ toldBy r ≡ loopLast (now (v .entry)) end (kindsMet met) ⌝ }
 {
-    if steps::loops_back(v, met) {
+    if type_steps::loops_back(v, met) {
         return refused_with(TypeAnswer::Loop);
     }
-    let kinds = met::held_in(met.count);
+    let kinds = type_list::held_in(met.count);
     CheckedType {
         answer: TypeAnswer::Accepted { used: end.0, kinds },
         met,
@@ -62,7 +62,7 @@ fn loop_last(v: &[u8], end: Index, met: Met) -> CheckedType
 pub fn check_type(v: &[u8], order: Order) -> CheckedType
     ensures { λ r. ⌜ toldBy r ≡ checkedType (now (v .entry)) order ⌝ }
 {
-    let c = checking::walk_type(v, order);
+    let c = type_walk::walk_type(v, order);
     let walk = c.walk;
     let met = walk.met;
     let step = c.step;

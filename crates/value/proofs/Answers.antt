@@ -11,20 +11,20 @@ use lib.ListN.{length}
 use Rattle.choices.specs.Branch.{choose}
 use Rattle.choices.proofs.Choices.{by-test, clash, neither}
 use Rattle.cdr.specs.declared.Order.{Order}
-use Rattle.kinds.specs.declared.Kind.{Kind}
+use Rattle.type_kinds.specs.declared.Kind.{Kind}
 use Rattle.typecode.specs.declared.TypeAnswer.{TypeAnswer}
 use Rattle.typecode.specs.declared.TypeAnswer.the-variants.{Accepted as accepted, Refused as refused, Loop}
 use Rattle.typecode.specs.TypeCode.{checkedType}
-use Rattle.accepted.proofs.Accepted.{AcceptedAs}
-use Rattle.accepted.proofs.Exact.{accepted-as}
-use Rattle.reading.specs.declared.ValueAnswer.{ValueAnswer}
-use Rattle.reading.specs.declared.ValueAnswer.the-variants.{Refused}
-use Rattle.reading.specs.Sinks.{Source}
-use Rattle.reading.specs.Visit.{checked}
-use Rattle.reading.specs.Reading.{anyRoom, roomFor, reading}
+use Rattle.type_laws.proofs.Accepted.{AcceptedAs}
+use Rattle.type_laws.proofs.Exact.{accepted-as}
+use Rattle.value_meaning.specs.declared.ValueAnswer.{ValueAnswer}
+use Rattle.value_meaning.specs.declared.ValueAnswer.the-variants.{Refused}
+use Rattle.value_meaning.specs.Sinks.{Source}
+use Rattle.value_meaning.specs.Visit.{checked}
+use Rattle.value_meaning.specs.Reading.{anyRoom, roomFor, reading}
 use Rattle.cdr.specs.Limit.{octetsLimit}
-use Rattle.reading.specs.Value.{roomIn, onType, answerOf, readingOf, valueAnswer, filledBy, tableAfter}
-use Rattle.reading.proofs.Bound.{visits-bound, items-bound}
+use Rattle.value_meaning.specs.Value.{roomIn, onType, answerOf, readingOf, valueAnswer, filledBy, tableAfter}
+use Rattle.value_meaning.proofs.Bound.{visits-bound, items-bound}
 use Rattle.value.specs.declared.Judged.{Judged}
 use Rattle.value.specs.declared.Judged.the-variants.{Accepted as acceptedType, Refused as refusedType}
 use Rattle.value.specs.declared.ItemAnswer.the-variants.{Refused as refusedItem}

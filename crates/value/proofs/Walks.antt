@@ -7,18 +7,18 @@ use native.Mathlib.Omega.{arith}
 use lib.ListN.{length, getD}
 use borrow.Author.Tests.{eq-eqb, ne-eqb, lt-ltb, le-ltb}
 use Rattle.choices.specs.Branch.{choose}
-use Rattle.items.specs.Items.{itemOf}
-use Rattle.reading.specs.declared.ValueAnswer.{ValueAnswer}
-use Rattle.reading.specs.declared.ValueAnswer.the-variants.{Accepted, Refused}
-use Rattle.reading.specs.Sinks.{Source, St}
-use Rattle.reading.specs.Visit.{Checked}
-use Rattle.reading.specs.Reading.{Log, reads, levels, topOf, anyRoom, roomFor, reading}
-use Rattle.reading.specs.Value.{roomIn, filledBy, itemNo}
-use Rattle.reading.proofs.Room.{room-kept}
-use Rattle.leaves.specs.declared.Cursor.{Cursor}
-use Rattle.leaves.specs.Lent.{Lent, lent}
-use Rattle.leaves.specs.Walk.{stateOf, startOf}
-use Rattle.leaves.proofs.Filling.{fullAt, stored, Small, walked, filled, row, picked}
+use Rattle.value_items.specs.Items.{itemOf}
+use Rattle.value_meaning.specs.declared.ValueAnswer.{ValueAnswer}
+use Rattle.value_meaning.specs.declared.ValueAnswer.the-variants.{Accepted, Refused}
+use Rattle.value_meaning.specs.Sinks.{Source, St}
+use Rattle.value_meaning.specs.Visit.{Checked}
+use Rattle.value_meaning.specs.Reading.{Log, reads, levels, topOf, anyRoom, roomFor, reading}
+use Rattle.value_meaning.specs.Value.{roomIn, filledBy, itemNo}
+use Rattle.value_meaning.proofs.Room.{room-kept}
+use Rattle.value_leaves.specs.declared.Cursor.{Cursor}
+use Rattle.value_leaves.specs.Lent.{Lent, lent}
+use Rattle.value_leaves.specs.Walk.{stateOf, startOf}
+use Rattle.value_leaves.proofs.Filling.{fullAt, stored, Small, walked, filled, row, picked}
 use Rattle.value.specs.declared.ItemAnswer.the-variants.{Given, Refused as refusedItem}
 use Rattle.value.specs.Single.{givenBy}
 use Rattle.value.specs.Typed.{Bounded}

@@ -2,8 +2,8 @@
 --   readInto   what reading into a table answers
 --   Read       an answer and a table that are those of a reading
 use Rattle.choices.specs.{_≡_, List, ℕ}
-use Rattle.reading.specs.{Source, roomFor, reading, declared.ValueAnswer.ValueAnswer, Visit.Checked, Value.roomIn, Value.answerOf}
-use Rattle.reading.specs.{Value.filledBy}
+use Rattle.value_meaning.specs.{Source, roomFor, reading, declared.ValueAnswer.ValueAnswer, Visit.Checked, Value.roomIn, Value.answerOf}
+use Rattle.value_meaning.specs.{Value.filledBy}
 
 abbrev pub readInto : Checked → Source → List ℕ → ValueAnswer
 readInto t x table = answerOf (reading (roomFor (roomIn table)) x t)

@@ -5,8 +5,8 @@
 --   itemAnswer       the answer
 use Rattle.choices.specs.{ℕ, List, ltb, eqb, length, choose}
 use Rattle.cdr.specs.{Order}
-use Rattle.items.specs.Items.{itemOf, itemNumbers}
-use Rattle.reading.specs.{Source, St, Log, anyRoom, Value.readingOf, Value.underType, Value.itemNo}
+use Rattle.value_items.specs.Items.{itemOf, itemNumbers}
+use Rattle.value_meaning.specs.{Source, St, Log, anyRoom, Value.readingOf, Value.underType, Value.itemNo}
 use Rattle.value.specs.declared.ItemAnswer.{ItemAnswer}
 use Rattle.value.specs.declared.ItemAnswer.the-variants.{Given, Refused}
 

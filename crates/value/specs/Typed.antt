@@ -6,10 +6,10 @@
 --   Bounded     a machine word holds the visits and the items of every reading
 use Rattle.choices.specs.{ℕ, _^_, _<_, List, [], Bool, _||_, ltb, length, choose}
 use Rattle.cdr.specs.{Order, octetsLimit}
-use Rattle.kinds.specs.{Kind}
-use Rattle.met.specs.Arrays.{kindsMet}
+use Rattle.type_kinds.specs.{Kind}
+use Rattle.type_list.specs.Arrays.{kindsMet}
 use Rattle.typecode.specs.{TypeAnswer, TypeCode.checkedType}
-use Rattle.reading.specs.{Source, reading, Visit.Checked, Value.onType}
+use Rattle.value_meaning.specs.{Source, reading, Visit.Checked, Value.onType}
 use Rattle.value.specs.{declared.Judged.Judged, declared.Judged.the-variants.Accepted, declared.Judged.the-variants.Refused}
 use Rattle.value.specs.declared.Typed as given
 

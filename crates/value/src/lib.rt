@@ -2,22 +2,22 @@
 ghost use mathlib.Core.Path.{_≡_};
 ghost use mathlib.Core.Bool.{_||_};
 ghost use lib.Dec.{ltb};
-ghost use Rattle.reading.specs.Sinks.{source};
-ghost use Rattle.reading.specs.Visit.{checked};
-ghost use Rattle.reading.specs.Reading.{anyRoom, reading};
+ghost use Rattle.value_meaning.specs.Sinks.{source};
+ghost use Rattle.value_meaning.specs.Visit.{checked};
+ghost use Rattle.value_meaning.specs.Reading.{anyRoom, reading};
 ghost use Rattle.cdr.specs.Limit.{octetsLimit};
-ghost use Rattle.reading.specs.Value.{roomIn, valueAnswer, tableAfter};
-ghost use Rattle.met.specs.Arrays.{kindsMet};
+ghost use Rattle.value_meaning.specs.Value.{roomIn, valueAnswer, tableAfter};
+ghost use Rattle.type_list.specs.Arrays.{kindsMet};
 ghost use Rattle.value.specs.Typed.{typedBy, judgedBy, typedFor};
 ghost use Rattle.value.specs.Single.{givenBy, itemAnswer};
 ghost use Rattle.value.specs.Typed.{Bounded};
 ghost use Rattle.value.specs.Inner.{Read};
 use cdr::Index;
 use cdr::Order;
-use items::Item;
-use leaves::Mode;
-use met::Met;
-use reading::ValueAnswer;
+use value_items::Item;
+use value_leaves::Mode;
+use type_list::Met;
+use value_meaning::ValueAnswer;
 use typecode::TypeAnswer;
 
 // Whether a value may be read under a type, or 01's number of the refusal.
@@ -140,7 +140,7 @@ fn read_into(
         fill: false,
         first: 0,
     };
-    let c = walking::walk(t, met, v, looking, table);
+    let c = value_walk::walk(t, met, v, looking, table);
     if c.fault != 0 {
         return ValueAnswer::Refused {
             number: c.fault,
@@ -154,7 +154,7 @@ fn read_into(
         fill: true,
         first: 0,
     };
-    let d = walking::walk(t, met, v, filling, table);
+    let d = value_walk::walk(t, met, v, filling, table);
     ValueAnswer::Accepted {
         used: d.at,
         items: d.items,
@@ -175,12 +175,12 @@ fn pick(t: &[u8], met: Met, v: &[u8], order: Order, start: Index, number: u64) -
         fill: true,
         first: number as usize,
     };
-    let c = walking::walk(t, met, v, picking, &mut row);
+    let c = value_walk::walk(t, met, v, picking, &mut row);
     if c.fault != 0 {
         return ItemAnswer::Refused(c.fault);
     }
     if c.items as u64 <= number {
         return ItemAnswer::Refused(refusals::NO_SUCH_ITEM);
     }
-    ItemAnswer::Given(items::item_of(row[0], row[2]))
+    ItemAnswer::Given(value_items::item_of(row[0], row[2]))
 }

@@ -3,7 +3,7 @@ use mathlib.Core.Path.{sym, _∙_}
 use lib.ListN.{length}
 use borrow.Author.Needs.{needs}
 use Rattle.frame.specs.declared.RequestId.the-variants.{Id, NoId}
-use Rattle.answers.specs.declared.Refusal.the-variants.{BadRecord}
+use Rattle.join_answers.specs.declared.Refusal.the-variants.{BadRecord}
 use Rattle.joining.specs.Steps.{Passes, written, withId}
 use Rattle.joining.proofs.Doing.{by-step, refuses}
 use Rattle.joining.proofs.Deciding.{bad-refused, by-id}

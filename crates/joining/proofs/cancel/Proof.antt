@@ -3,10 +3,10 @@ use mathlib.Core.Path.{ap, subst, _∙_}
 use lib.ListN.{length}
 use native.Mathlib.Omega.{arith}
 use borrow.Author.Needs.{needs}
-use Rattle.places.specs.declared.Found.the-variants.{At}
-use Rattle.answers.specs.declared.Refusal.the-variants.{NoRoom}
+use Rattle.join_places.specs.declared.Found.the-variants.{At}
+use Rattle.join_answers.specs.declared.Refusal.the-variants.{NoRoom}
 use Rattle.joining.specs.Steps.{Passes, Frees, written, cancelled}
-use Rattle.places.specs.Places.{Within}
+use Rattle.join_places.specs.Places.{Within}
 use Rattle.joining.proofs.Doing.{by-step, refuses, frees}
 use Rattle.joining.proofs.Deciding.{no-room}
 use Rattle.joining.proofs.cancel.Statement.{statement}

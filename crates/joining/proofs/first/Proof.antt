@@ -2,8 +2,8 @@
 use Prim.Native.Nat.{_<_}
 use native.Mathlib.Omega.{arith}
 use borrow.Author.Needs.{needs}
-use Rattle.places.specs.Places.{placesCount}
-use Rattle.answers.specs.declared.Refusal.the-variants.{FourOpen}
+use Rattle.join_places.specs.Places.{placesCount}
+use Rattle.join_answers.specs.declared.Refusal.the-variants.{FourOpen}
 use Rattle.joining.specs.Steps.{Opens}
 use Rattle.joining.proofs.Doing.{by-step, refuses, opens}
 use Rattle.joining.proofs.Deciding.{no-place, free-place, opens-place}

@@ -3,7 +3,7 @@ use mathlib.Core.Path.{sym, ap, _∙_}
 use borrow.Author.Tests.{eq-eqb, ne-eqb}
 use lib.ListN.{length}
 use borrow.Author.Needs.{needs}
-use Rattle.answers.specs.declared.Refusal.the-variants.{IdNotOpen}
+use Rattle.join_answers.specs.declared.Refusal.the-variants.{IdNotOpen}
 use Rattle.joining.specs.Steps.{cancelled, continued, fragmentOf, startOf}
 use Rattle.joining.proofs.Doing.{by-step, refuses}
 use Rattle.joining.proofs.Deciding.{place-within, cancels, fragments, begins, continues}

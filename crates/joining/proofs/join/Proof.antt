@@ -3,7 +3,7 @@ use mathlib.Core.Path.{sym, _∙_}
 use lib.ListN.{length}
 use borrow.Author.Needs.{needs}
 use Rattle.frame.specs.declared.Frame.the-variants.{Accepted, Refused}
-use Rattle.answers.specs.declared.Refusal.the-variants.{Frame}
+use Rattle.join_answers.specs.declared.Refusal.the-variants.{Frame}
 use Rattle.joining.specs.Steps.{messageStep}
 use Rattle.joining.proofs.Doing.{by-step, refuses}
 use Rattle.joining.proofs.Deciding.{step-of}

@@ -3,8 +3,8 @@ use mathlib.Core.Path.{sym, _∙_}
 use borrow.Author.Tests.{not-true, not-false}
 use lib.ListN.{length}
 use borrow.Author.Needs.{needs}
-use Rattle.places.specs.Places.{lowestFree}
-use Rattle.answers.specs.declared.Refusal.the-variants.{IdOpen, FourOpen}
+use Rattle.join_places.specs.Places.{lowestFree}
+use Rattle.join_answers.specs.declared.Refusal.the-variants.{IdOpen, FourOpen}
 use Rattle.joining.specs.Steps.{Passes, written, firstOf}
 use Rattle.joining.proofs.Doing.{by-step, refuses}
 use Rattle.joining.proofs.Deciding.{id-open, starts-whole, lacks-refused, starts-first, opening}

@@ -1,7 +1,7 @@
 -- 27, or the message as it is.
 use lib.ListN.{length}
 use borrow.Author.Needs.{needs}
-use Rattle.answers.specs.declared.Refusal.the-variants.{NoRoom}
+use Rattle.join_answers.specs.declared.Refusal.the-variants.{NoRoom}
 use Rattle.joining.proofs.Doing.{refuses, passes}
 use Rattle.joining.proofs.Deciding.{no-room}
 use Rattle.joining.specs.Steps.{Passes}

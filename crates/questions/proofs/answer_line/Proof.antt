@@ -5,9 +5,9 @@ use Prim.Native.Nat.{ℕ}
 use native.Mathlib.Omega.{arith}
 use lib.ListN.{take}
 use lib.Seq.{length-take-le}
-use Rattle.writing.specs.Write.{Stored}
-use Rattle.printing.specs.Items.{itemsOf}
-use Rattle.printing.specs.Replies.{replyText}
+use Rattle.cdr_write.specs.Write.{Stored}
+use Rattle.ask_text.specs.Items.{itemsOf}
+use Rattle.ask_text.specs.Replies.{replyText}
 use Rattle.questions.specs.Inner.{numbersOf}
 use Rattle.questions.proofs.Firsts.{replied-text}
 use borrow.Author.Needs.{needs}

@@ -3,7 +3,7 @@ use borrow.Author.Needs.{needs}
 use Rattle.typecode.proofs.refused_with.Statement.{statement}
 use Rattle.typecode.proofs.refused_with.Tie as tie
 use mathlib.Core.Path.{_≡_}
-use Rattle.met.specs.Arrays.{kindsMet, kindsFrom}
+use Rattle.type_list.specs.Arrays.{kindsMet, kindsFrom}
 
 none-requires : tie.Need-none-requires
 none-requires c κs = search needs

@@ -10,7 +10,7 @@ use Rattle.value.specs.Typed.{typed, judgedBy}
 use Rattle.value.proofs.Answers as answers
 use mathlib.Core.List.{[]}
 use mathlib.Core.Path.{_≡_, refl}
-use Rattle.met.specs.Arrays.{kindsFrom, kindsMet, noKinds}
+use Rattle.type_list.specs.Arrays.{kindsFrom, kindsMet, noKinds}
 
 over-long-requires : tie.Need-over-long-requires
 over-long-requires c κs = search needs

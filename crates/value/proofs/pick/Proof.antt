@@ -3,11 +3,11 @@ use borrow.Author.Needs.{needs}
 use Rattle.value.proofs.pick.Statement.{statement}
 use Rattle.value.proofs.pick.Tie as tie
 use mathlib.Core.Path.{ap, _∙_}
-use Rattle.reading.specs.Sinks.{source}
-use Rattle.reading.specs.Visit.{checked}
+use Rattle.value_meaning.specs.Sinks.{source}
+use Rattle.value_meaning.specs.Visit.{checked}
 use Rattle.value.proofs.Walks as walks
 use Rattle.value.specs.declared.ItemAnswer.the-variants.{Given}
-use Rattle.met.specs.Arrays.{kindsMet}
+use Rattle.type_list.specs.Arrays.{kindsMet}
 
 slice-aggregate-walk : tie.Need-slice-aggregate-walk
 slice-aggregate-walk c = search needs

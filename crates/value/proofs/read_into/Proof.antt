@@ -2,10 +2,10 @@
 use borrow.Author.Needs.{needs}
 use Rattle.value.proofs.read_into.Statement.{statement}
 use Rattle.value.proofs.read_into.Tie as tie
-use Rattle.reading.specs.Sinks.{source}
-use Rattle.reading.specs.Visit.{checked}
+use Rattle.value_meaning.specs.Sinks.{source}
+use Rattle.value_meaning.specs.Visit.{checked}
 use Rattle.value.proofs.Walks as walks
-use Rattle.met.specs.Arrays.{kindsMet}
+use Rattle.type_list.specs.Arrays.{kindsMet}
 
 walk-requires : tie.Need-walk-requires
 walk-requires c κs = search needs

@@ -4,9 +4,9 @@ use Rattle.value.proofs.read_item.Statement.{statement}
 use Rattle.value.proofs.read_item.Tie as tie
 use mathlib.Core.Path.{_≡_, _∙_}
 use lib.ListN.{length}
-use Rattle.reading.specs.Sinks.{source}
+use Rattle.value_meaning.specs.Sinks.{source}
 use Rattle.value.proofs.Answers as answers
-use Rattle.met.specs.Arrays.{kindsMet}
+use Rattle.type_list.specs.Arrays.{kindsMet}
 use Rattle.value.specs.Typed.{typedBy}
 
 check-requires : tie.Need-check-requires

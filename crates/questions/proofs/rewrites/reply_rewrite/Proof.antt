@@ -2,7 +2,7 @@
 use mathlib.Core.Path.{sym, _∙_}
 use lib.Seq.{length-take-le}
 use Rattle.cdr.specs.Align.{indexOf}
-use Rattle.written.specs.Written.{target}
+use Rattle.rewrite_meaning.specs.Written.{target}
 use Rattle.questions.specs.Questions.{rewriteIn}
 use Rattle.questions.proofs.Readings.{rewrite-within, rewrite-none, rewrite-about, types-within, values-within, about-nothing, about-asks}
 use Rattle.questions.proofs.Without.{none-held}

@@ -1,6 +1,6 @@
 -- An accepted type, or its number.
 use mathlib.Core.Path.{ap, _∙_}
-use Rattle.printing.specs.declared.Reply.the-variants.{Refused}
+use Rattle.ask_text.specs.declared.Reply.the-variants.{Refused}
 use Rattle.questions.proofs.Answers.{type-refused}
 use borrow.Author.Needs.{needs}
 use Rattle.questions.proofs.types.check.Statement.{statement}

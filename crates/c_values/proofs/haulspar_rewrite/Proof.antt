@@ -1,0 +1,53 @@
+-- A value in a chosen order.
+use borrow.Author.Needs.{needs}
+use Rattle.c_values.proofs.haulspar_rewrite.Statement.{statement}
+use Rattle.c_values.proofs.haulspar_rewrite.Tie as tie
+use mathlib.Core.Path.{ap}
+use Rattle.cdr.specs.declared.Order.{Order}
+use Rattle.cdr.specs.Align.{indexOf}
+use Rattle.rewrite_meaning.specs.Written.{target}
+use Rattle.c_values.specs.Types.{orderIs}
+use Rattle.c_values.proofs.Values.{rewrites-as}
+
+order-is-requires : tie.Need-order-is-requires
+order-is-requires c κs = search needs
+
+order-is-requires-2 : tie.Need-order-is-requires-2
+order-is-requires-2 c κs = search needs
+
+order-is-requires-3 : tie.Need-order-is-requires-3
+order-is-requires-3 c κs = search needs
+
+rewrite-requires : tie.Need-rewrite-requires
+rewrite-requires c κs = search needs
+
+rewritten-count-requires : tie.Need-rewritten-count-requires
+rewritten-count-requires c κs = search needs
+
+rewritten-number-requires : tie.Need-rewritten-number-requires
+rewritten-number-requires c κs = search needs
+
+same-length : tie.Need-same-length
+same-length c = search needs
+
+returns : tie.Need-returns
+returns c =
+    let a = c .before .before .before .before .before .before .before .before .before .before .before .before .before .args in
+    let order-is = c .before .before .before .before .before .before .before .before .before .order-is in
+    let order-is3 = c .before .before .before .before .before .before .before .order-is3 in
+    let order-is2 = c .before .before .before .before .before .before .before .before .order-is2 in
+    let rewrite = c .before .before .before .before .before .rewrite in
+    rewrites-as (a .t .now) (a .little) (a .v .now) (a .order) (a .start) _ _ (order-is .ensures) (order-is3 .ensures) _ (target (orderIs (a .to)) (indexOf (a .index))) (ap (λ (o : Order). target o (indexOf (a .index))) (order-is2 .ensures)) (a .out .now) (a .count .now) _ _ (rewrite .ensures) _ _ (c .before .rewritten-count .ensures) (c .rewritten-number .ensures)
+
+pub haulspar-rewrite-spec : {M : Type 1} → statement M
+haulspar-rewrite-spec =
+    tie.close
+    (tie.spec
+    order-is-requires
+    order-is-requires-2
+    order-is-requires-3
+    rewrite-requires
+    rewritten-count-requires
+    rewritten-number-requires
+    same-length
+    returns)

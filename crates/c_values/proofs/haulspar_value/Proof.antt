@@ -1,0 +1,56 @@
+-- A value read into the table.
+use borrow.Author.Needs.{needs}
+use Rattle.c_values.proofs.haulspar_value.Statement.{statement}
+use Rattle.c_values.proofs.haulspar_value.Tie as tie
+use Rattle.c_values.proofs.Values.{reads-as}
+
+order-is-requires : tie.Need-order-is-requires
+order-is-requires c κs = search needs
+
+order-is-requires-2 : tie.Need-order-is-requires-2
+order-is-requires-2 c κs = search needs
+
+read-value-requires : tie.Need-read-value-requires
+read-value-requires c κs = search needs
+
+enum-known-answer : tie.Need-enum-known-answer
+enum-known-answer c = search needs
+
+enum-known-answer-2 : tie.Need-enum-known-answer-2
+enum-known-answer-2 c = search needs
+
+same-length : tie.Need-same-length
+same-length c = search needs
+
+returns : tie.Need-returns
+returns c =
+    let a = c .before .before .before .before .before .before .before .before .before .before .before .before .before .args in
+    let order-is = c .before .before .before .before .before .before .before .before .before .order-is in
+    let order-is2 = c .before .before .before .before .before .before .before .before .order-is2 in
+    let read-value = c .before .before .before .before .before .before .read-value in
+    reads-as (a .t .now) (a .little) (a .v .now) (a .order) (a .start) _ _ (order-is .ensures) (order-is2 .ensures) (a .table .now) (a .numbers .now) _ _ (read-value .ensures) _ (c .before .before .answer .given .1)
+
+same-length-2 : tie.Need-same-length-2
+same-length-2 c = search needs
+
+returns-2 : tie.Need-returns-2
+returns-2 c =
+    let a = c .before .before .before .before .before .before .before .before .before .before .before .before .args in
+    let order-is = c .before .before .before .before .before .before .before .before .order-is in
+    let order-is2 = c .before .before .before .before .before .before .before .order-is2 in
+    let read-value = c .before .before .before .before .before .read-value in
+    reads-as (a .t .now) (a .little) (a .v .now) (a .order) (a .start) _ _ (order-is .ensures) (order-is2 .ensures) (a .table .now) (a .numbers .now) _ _ (read-value .ensures) _ (c .before .answer2 .given .1)
+
+pub haulspar-value-spec : {M : Type 1} → statement M
+haulspar-value-spec =
+    tie.close
+    (tie.spec
+    order-is-requires
+    order-is-requires-2
+    read-value-requires
+    enum-known-answer
+    enum-known-answer-2
+    same-length
+    returns
+    same-length-2
+    returns-2)

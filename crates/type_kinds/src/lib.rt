@@ -1,0 +1,267 @@
+// Kinds of type: what stands at a kind, read again by its place, its encapsulation's start and its order, without judging it. Every
+// function answers for any octets and places.
+ghost use mathlib.Core.Path.{_≡_};
+ghost use Rattle.type_kinds.specs.Forms.{formOf};
+ghost use Rattle.type_kinds.specs.Parts.{placeIn, fieldIn, targetOf, spotAt, memberAt};
+ghost use Rattle.type_kinds.specs.Members.{labelAt};
+ghost use Rattle.type_kinds.specs.Parameters.{parametersAt};
+use cdr::Index;
+use cdr::Order;
+use cdr::Place;
+use cdr::Size;
+use cdr_fields::Field;
+
+mod inside;
+mod parts;
+
+// What follows a kind.
+pub enum Form {
+    Unlisted,
+    Plain,
+    Bounded,
+    Composite(Layout),
+}
+
+// What an encapsulation holds.
+pub enum Layout {
+    Objref,
+    Struct,
+    Union,
+    Enum,
+    Sequence,
+    Array,
+    Alias,
+    Exception,
+}
+
+// The number behind the kinds from null to octet, which have no parameters.
+const PLAIN_END: u64 = type_numbers::OCTET + 1;
+
+// What follows a kind, by its number.
+pub fn form_of(kind: u64) -> Form
+    ensures { λ r. ⌜ r ≡ formOf kind ⌝ }
+{
+    if kind < PLAIN_END {
+        return Form::Plain;
+    }
+    if kind == type_numbers::OBJREF {
+        return Form::Composite(Layout::Objref);
+    }
+    if kind == type_numbers::STRUCT {
+        return Form::Composite(Layout::Struct);
+    }
+    if kind == type_numbers::UNION {
+        return Form::Composite(Layout::Union);
+    }
+    if kind == type_numbers::ENUM {
+        return Form::Composite(Layout::Enum);
+    }
+    if kind == type_numbers::STRING {
+        return Form::Bounded;
+    }
+    if kind == type_numbers::SEQUENCE {
+        return Form::Composite(Layout::Sequence);
+    }
+    if kind == type_numbers::ARRAY {
+        return Form::Composite(Layout::Array);
+    }
+    if kind == type_numbers::ALIAS {
+        return Form::Composite(Layout::Alias);
+    }
+    if kind == type_numbers::EXCEPTION {
+        return Form::Composite(Layout::Exception);
+    }
+    if kind == type_numbers::LONG_LONG {
+        return Form::Plain;
+    }
+    if kind == type_numbers::UNSIGNED_LONG_LONG {
+        return Form::Plain;
+    }
+    Form::Unlisted
+}
+
+// The index after something that is passed over, or that the octets end.
+pub enum Skip {
+    Past(Index),
+    NoEnd,
+}
+
+// Where an offset leads: to a place, or to none that there can be.
+pub enum Target {
+    To(Place),
+    Outside,
+}
+
+// A kind that is written: its place, and the start and order of the encapsulation it stands in.
+pub struct Kind {
+    pub place: Place,
+    pub start: Place,
+    pub order: Order,
+}
+
+// A type inside another: a kind that is written there, or an indirection, by its target's place.
+pub enum Inner {
+    Here(Kind),
+    There(Place),
+}
+
+// The type that stands at an index, and the index after it.
+pub enum Spot {
+    At { inner: Inner, next: Index },
+    Nowhere,
+}
+
+// The labels before a union's members, of a size, and below a limit of which 0 is none; a struct's members have none.
+pub enum Labels {
+    Of { size: Size, limit: u64 },
+    NoLabels,
+}
+
+// The type and the number of a sequence or an array.
+pub enum Element {
+    Holds { inner: Inner, number: u64 },
+    NoElement,
+}
+
+// Where members are listed: the start and order of their encapsulation, their count, and the first one's index.
+pub struct Fields {
+    pub start: Place,
+    pub order: Order,
+    pub count: u64,
+    pub first: Index,
+}
+
+// A kind that holds no other: of a leaf its kind, of a string its bound, of an enum the number of its names.
+pub enum Inert {
+    Leaf(u64),
+    Text(u64),
+    Objref,
+    Enum(u64),
+}
+
+// The parameters of a kind; a union's default as the unsigned long that is recorded. A fault is what octets give that are no kind's
+// parameters.
+pub enum Parameters {
+    Fault,
+    Flat(Inert),
+    Struct(Fields),
+    Exception(Fields),
+    Union {
+        fields: Fields,
+        discriminant: Inner,
+        default: u64,
+    },
+    Sequence {
+        element: Inner,
+        bound: u64,
+    },
+    Array {
+        element: Inner,
+        length: u64,
+    },
+    Alias(Inner),
+}
+
+// The place of a type inside another, an indirection counting as its target.
+pub fn place_in(inner: Inner) -> Place
+    ensures { λ r. ⌜ r ≡ placeIn inner ⌝ }
+{
+    match inner {
+        Inner::Here(kind) => kind.place,
+        Inner::There(place) => place,
+    }
+}
+
+// The number at an index of the encapsulation that starts at a place.
+pub fn field_in(v: &[u8], start: Place, at: Index, size: Size, order: Order) -> Field
+    ensures { λ r. ⌜ r ≡ fieldIn (now (v .entry)) start at size order ⌝ }
+{
+    let b = start.0;
+    if v.len() < b {
+        return Field::NoField;
+    }
+    cdr_fields::read_field(&v[b..], at, size, order)
+}
+
+// Where an offset leads that stands at a place.
+pub fn target_of(at: Place, offset: u64) -> Target
+    ensures { λ r. ⌜ r ≡ targetOf at offset ⌝ }
+{
+    let p = at.0;
+    if offset < 2147483648 {
+        return if p <= usize::MAX - offset as usize {
+            Target::To(Place(p + offset as usize))
+        } else {
+            Target::Outside
+        };
+    }
+    let back = parts::back(offset);
+    if p < back {
+        return Target::Outside;
+    }
+    Target::To(Place(p - back))
+}
+
+// The type that stands at an index of the encapsulation that starts at a place, and the index after it.
+pub fn spot_at(v: &[u8], start: Place, at: Index, order: Order) -> Spot
+    ensures { λ r. ⌜ r ≡ spotAt (now (v .entry)) start at order ⌝ }
+{
+    let Field::Value { value: kind, next } = field_in(v, start, at, Size::Four, order) else {
+        return Spot::Nowhere;
+    };
+    if kind == type_numbers::INDIRECTION {
+        return parts::aimed(v, start, next, order);
+    }
+    match parts::skip_kind(form_of(kind), v, start, next, order) {
+        Skip::Past(over) => Spot::At {
+            inner: Inner::Here(Kind {
+                place: parts::behind(start, next),
+                start,
+                order,
+            }),
+            next: over,
+        },
+        Skip::NoEnd => Spot::Nowhere,
+    }
+}
+
+// A member at an index, with a label before it or none: its type, and the index after it.
+pub fn member_at(labels: Labels, v: &[u8], start: Place, at: Index, order: Order) -> Spot
+    ensures { λ r. ⌜ r ≡ memberAt labels (now (v .entry)) start at order ⌝ }
+{
+    let Skip::Past(name) = parts::lead_in(labels, v, start, at, order) else {
+        return Spot::Nowhere;
+    };
+    let Skip::Past(i) = parts::skip_counted(v, start, name, order) else {
+        return Spot::Nowhere;
+    };
+    spot_at(v, start, i, order)
+}
+
+// The label at an index, 0 where members have no labels.
+pub fn label_at(labels: Labels, v: &[u8], start: Place, at: Index, order: Order) -> u64
+    ensures { λ r. ⌜ r ≡ labelAt labels (now (v .entry)) start at order ⌝ }
+{
+    let Labels::Of { size, limit: _ } = labels else {
+        return 0;
+    };
+    match field_in(v, start, at, size, order) {
+        Field::Value { value, next: _ } => value,
+        Field::NoField => 0,
+    }
+}
+
+// The parameters of a kind that is written.
+pub fn parameters_at(v: &[u8], kind: Kind) -> Parameters
+    ensures { λ r. ⌜ r ≡ parametersAt (now (v .entry)) kind ⌝ }
+{
+    let start = kind.start;
+    let order = kind.order;
+    let at = parts::since(kind.place, start);
+    match field_in(v, start, at, Size::Four, order) {
+        Field::Value { value, next } => {
+            inside::parameters_after(form_of(value), v, start, order, value, next)
+        }
+        Field::NoField => Parameters::Fault,
+    }
+}

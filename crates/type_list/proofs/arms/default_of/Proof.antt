@@ -1,0 +1,26 @@
+-- The default member, if there is one.
+use borrow.Author.Needs.{needs}
+use Rattle.type_list.proofs.arms.default_of.Statement.{statement}
+use Rattle.type_list.proofs.arms.default_of.Tie as tie
+use Rattle.type_list.proofs.arms.default_of.Reads as reads
+use Rattle.type_list.proofs.arms.default_of.Lts as lts
+use Rattle.type_list.proofs.arms.member_no.Reads as member-no-reads
+use mathlib.Core.Path.{_≡_, sym, ap, _∙_}
+use Rattle.type_kinds.specs.Members.{membersOf}
+use Rattle.type_list.proofs.Choosing.{default-none, default-some}
+
+returns : tie.Need-returns
+returns c =
+    let a = c .before .before .args in
+    default-none (membersOf (a .labels) (a .v .now) (a .fields)) (a .default) (c .if1 .taken)
+
+member-no-requires : tie.Need-member-no-requires
+member-no-requires c κs = search needs
+
+returns-2 : tie.Need-returns-2
+returns-2 c =
+    let a = c .before .before .before .args in
+    c .member-no .ensures ∙ default-some (membersOf (a .labels) (a .v .now) (a .fields)) (a .default) (c .before .if1 .left)
+
+pub default-of-spec : {M : Type 1} → statement M
+default-of-spec = tie.close (tie.spec returns member-no-requires returns-2)

@@ -1,0 +1,24 @@
+-- The parameters of the kind at a position.
+use borrow.Author.Needs.{needs}
+use Rattle.type_list.proofs.parameters_of.Statement.{statement}
+use Rattle.type_list.proofs.parameters_of.Tie as tie
+use Rattle.type_list.proofs.parameters_of.Reads as reads
+use Rattle.type_list.proofs.parameters_of.Lts as lts
+use Rattle.type_kinds.proofs.parameters_at.Reads as parameters-at-reads
+use Rattle.type_list.proofs.entry_at.Reads as entry-at-reads
+use mathlib.Core.Path.{_≡_, sym, ap, _∙_}
+use Rattle.type_kinds.specs.Parameters.{parametersAt}
+use Rattle.type_list.specs.Met.{parametersOf}
+
+entry-at-requires : tie.Need-entry-at-requires
+entry-at-requires c κs = search needs
+
+parameters-at-requires : tie.Need-parameters-at-requires
+parameters-at-requires c κs = search needs
+
+returns : tie.Need-returns
+unfolding parametersOf
+returns c = c .parameters-at .ensures ∙ ap (parametersAt (c .before .before .before .args .v .now)) (c .before .entry-at .ensures)
+
+pub parameters-of-spec : {M : Type 1} → statement M
+parameters-of-spec = tie.close (tie.spec entry-at-requires parameters-at-requires returns)

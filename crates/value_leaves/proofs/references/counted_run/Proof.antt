@@ -1,0 +1,68 @@
+-- Octets behind their count.
+use borrow.Author.Needs.{needs}
+use Rattle.value_leaves.proofs.references.counted_run.Statement.{statement}
+use Rattle.value_leaves.proofs.references.counted_run.Tie as tie
+use mathlib.Core.Path.{sym, ap, _∙_}
+use Prim.Native.Nat.{_-_}
+use native.Mathlib.Omega.{arith}
+use Rattle.cdr.specs.declared.Size.the-variants.{Four}
+use Rattle.cdr.proofs.Alignment.{read-facts}
+use Rattle.value_meaning.specs.Visit.{runGot, runAt}
+use Rattle.value_meaning.proofs.Ways as way
+use Rattle.value_leaves.specs.Walk.{sinkOf, sourceOf, stateOf}
+
+number-at-requires : tie.Need-number-at-requires
+number-at-requires c κs = search needs
+
+enum-known-at : tie.Need-enum-known-at
+enum-known-at c = search needs
+
+add-took : tie.Need-add-took
+add-took c =
+    let a = c .before .before .before .before .before .before .before .args in
+    let number-at = c .before .before .before .before .number-at in
+    omega (arith, read-facts (a .v .now) (a .m .start) (a .c .at) Four (a .m .order) _ _ (sym (number-at .ensures) ∙ c .before .before .at .given .1) .fits)
+
+took-requires : tie.Need-took-requires
+took-requires c κs = search needs
+
+run-got-requires : tie.Need-run-got-requires
+run-got-requires c κs = search needs
+
+enum-told : tie.Need-enum-told
+enum-told c = search needs
+
+refused-requires : tie.Need-refused-requires
+refused-requires c κs = search needs
+
+same-length : tie.Need-same-length
+same-length c = search needs
+
+returns : tie.Need-returns
+unfolding runAt
+returns c =
+    let a = c .before .before .before .before .before .before .before .before .before .before .before .args in
+    let number-at = c .before .before .before .before .before .before .before .before .number-at in
+    let at2 = c .before .before .before .before .before .before .at in
+    c .before .before .run-got .ensures _ ∙ ap (runGot (sinkOf (a .m)) (sourceOf (a .m) (a .v .now)) _ _) (c .before .before .before .took .ensures (a .m) (a .table .now) _ _ 4) ∙ sym (way.number-some (sinkOf (a .m)) (sourceOf (a .m) (a .v .now)) Four (runGot (sinkOf (a .m)) (sourceOf (a .m) (a .v .now))) (stateOf (a .c) (a .table .now)) _ _ (sym (number-at .ensures) ∙ at2 .given .1))
+
+returns-2 : tie.Need-returns-2
+unfolding runAt
+returns-2 c =
+    let a = c .before .before .before .before .before .before .args in
+    c .refused .ensures (a .table .now) ∙ sym (way.number-none (sinkOf (a .m)) (sourceOf (a .m) (a .v .now)) Four (runGot (sinkOf (a .m)) (sourceOf (a .m) (a .v .now))) (stateOf (a .c) (a .table .now)) (sym (c .before .before .before .number-at .ensures) ∙ c .before .enum-told .given .1))
+
+pub counted-run-spec : {M : Type 1} → statement M
+counted-run-spec =
+    tie.close
+    (tie.spec
+    number-at-requires
+    enum-known-at
+    add-took
+    took-requires
+    run-got-requires
+    enum-told
+    refused-requires
+    same-length
+    returns
+    returns-2)

@@ -1,0 +1,71 @@
+-- So many profiles.
+use borrow.Author.Needs.{needs}
+use Rattle.value_leaves.proofs.references.profile_list.Statement.{statement}
+use Rattle.value_leaves.proofs.references.profile_list.Tie as tie
+use mathlib.Core.Path.{_∙_}
+use Prim.Native.Nat.{_-_}
+use native.Mathlib.Omega.{arith}
+use Rattle.value_meaning.specs.Sinks.{taken}
+use Rattle.value_meaning.specs.Visit.{profileAt}
+use Rattle.value_leaves.specs.Walk.{sinkOf, sourceOf, stateOf}
+use Rattle.value_leaves.proofs.Loops.{Going, going-none, going-all, going-stop, going-more}
+
+abbrev Inv-loop : tie.InvT-loop
+Inv-loop v m table₀ count d₀ k₀ table d k = Going (profileAt (sinkOf m) (sourceOf m v)) count k (stateOf d₀ table₀) (stateOf d table)
+
+abbrev μ-loop : tie.MeasureT-loop
+μ-loop v m table₀ count d₀ k₀ table d k = count - k
+
+loop-holds : tie.Need-loop-holds Inv-loop μ-loop
+loop-holds c = going-none
+
+profile-requires : tie.Need-profile-requires Inv-loop μ-loop
+profile-requires c κs = search needs
+
+same-length : tie.Need-same-length Inv-loop μ-loop
+same-length c =
+    let profile = c .before .before .before .before .profile in
+    let loop = c .before .before .before .before .before .before .before .loop in
+    profile .kept .1 .1 .0 ∙ loop .inv .same
+
+returns : tie.Need-returns Inv-loop μ-loop
+returns c =
+    let loop = c .before .before .before .before .before .before .before .loop in
+    let loop-test = c .before .before .before .before .before .before .loop-test in
+    let profile = c .before .before .before .before .profile in
+    going-stop (loop .inv) (loop-test .taken) (profile .ensures) (c .if1 .taken)
+
+add-k : tie.Need-add-k Inv-loop μ-loop
+add-k c = search needs
+
+loop-less : tie.Need-loop-less Inv-loop μ-loop
+loop-less c = omega arith
+
+loop-again : tie.Need-loop-again Inv-loop μ-loop
+loop-again c =
+    let loop = c .before .before .before .before .before .before .before .loop in
+    let loop-test = c .before .before .before .before .before .before .loop-test in
+    let profile = c .before .before .before .before .profile in
+    going-more (loop .inv) (loop-test .taken) (profile .ensures) (profile .kept .1 .1 .0) (c .if1 .left)
+
+same-length-2 : tie.Need-same-length-2 Inv-loop μ-loop
+same-length-2 c = c .before .loop .inv .same
+
+returns-2 : tie.Need-returns-2 Inv-loop μ-loop
+returns-2 c = going-all (c .before .loop .inv) (c .loop-test .left)
+
+pub profile-list-spec : {M : Type 1} → statement M
+profile-list-spec =
+    tie.close
+    (tie.spec
+    Inv-loop
+    μ-loop
+    loop-holds
+    profile-requires
+    same-length
+    returns
+    add-k
+    loop-less
+    loop-again
+    same-length-2
+    returns-2)
