@@ -17,4 +17,4 @@ pub component-spec : {M : Type 1} → statement M
 unfolding code.routine
 component-spec 𝓤 H 𝓜 𝓖 𝓡 =
     Three.proved P.the-type componentAt P′.the-laws tt 𝓤 H 𝓜 𝓖 𝓡 (component.clauses 𝓤 H (𝓖 .A) (𝓜 .mem) (𝓡 .run)) code.env #reader·component callee.name
-    (λ κs d g r out e. factI 𝓤 _ (emp 𝓤) e) (code.unfolded 𝓤 H 𝓜 𝓡) callee.routine code.calls-parts·component-at (callee-thm.met 𝓤 H 𝓜 𝓖 𝓡)
+    (λ κs d g r out e. factI 𝓤 _ (emp 𝓤) e) (code.unfolded 𝓤 H 𝓜 𝓡) callee.routine code.calls-profile-parts·component-at (callee-thm.met 𝓤 H 𝓜 𝓖 𝓡)

@@ -17,4 +17,4 @@ pub count-spec : {M : Type 1} → statement M
 unfolding code.routine
 count-spec 𝓤 H 𝓜 𝓖 𝓡 =
     Three.proved P.the-type countAt P′.the-laws tt 𝓤 H 𝓜 𝓖 𝓡 (count.clauses 𝓤 H (𝓖 .A) (𝓜 .mem) (𝓡 .run)) code.env #reader·count callee.name
-    (λ κs d g r out e. factI 𝓤 _ (emp 𝓤) e) (code.unfolded 𝓤 H 𝓜 𝓡) callee.routine code.calls-parts·count-at (callee-thm.met 𝓤 H 𝓜 𝓖 𝓡)
+    (λ κs d g r out e. factI 𝓤 _ (emp 𝓤) e) (code.unfolded 𝓤 H 𝓜 𝓡) callee.routine code.calls-profile-parts·count-at (callee-thm.met 𝓤 H 𝓜 𝓖 𝓡)

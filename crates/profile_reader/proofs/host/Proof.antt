@@ -17,4 +17,4 @@ pub host-spec : {M : Type 1} → statement M
 unfolding code.routine
 host-spec 𝓤 H 𝓜 𝓖 𝓡 =
     Three.proved P.the-type hostAt P′.the-laws tt 𝓤 H 𝓜 𝓖 𝓡 (host.clauses 𝓤 H (𝓖 .A) (𝓜 .mem) (𝓡 .run)) code.env #reader·host callee.name
-    (λ κs d g r out e. factI 𝓤 _ (emp 𝓤) e) (code.unfolded 𝓤 H 𝓜 𝓡) callee.routine code.calls-parts·host-at (callee-thm.met 𝓤 H 𝓜 𝓖 𝓡)
+    (λ κs d g r out e. factI 𝓤 _ (emp 𝓤) e) (code.unfolded 𝓤 H 𝓜 𝓡) callee.routine code.calls-profile-parts·host-at (callee-thm.met 𝓤 H 𝓜 𝓖 𝓡)

@@ -17,4 +17,4 @@ pub order-spec : {M : Type 1} → statement M
 unfolding code.routine
 order-spec 𝓤 H 𝓜 𝓖 𝓡 =
     Two.proved P.the-type orderAt P′.the-laws tt 𝓤 H 𝓜 𝓖 𝓡 (order.clauses 𝓤 H (𝓖 .A) (𝓜 .mem) (𝓡 .run)) code.env #reader·order callee.name
-    (λ κs d g r out e. factI 𝓤 _ (emp 𝓤) e) (code.unfolded 𝓤 H 𝓜 𝓡) callee.routine code.calls-parts·order-at (callee-thm.met 𝓤 H 𝓜 𝓖 𝓡)
+    (λ κs d g r out e. factI 𝓤 _ (emp 𝓤) e) (code.unfolded 𝓤 H 𝓜 𝓡) callee.routine code.calls-profile-parts·order-at (callee-thm.met 𝓤 H 𝓜 𝓖 𝓡)
