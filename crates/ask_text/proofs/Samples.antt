@@ -10,7 +10,7 @@ use Rattle.decimals.specs.Decimal.{decimalWithin}
 use Rattle.hexline.specs.Digit.{upperDigit}
 use Rattle.hexline.specs.Encoding.{octetDigits}
 use Rattle.profile.specs.declared.Profile.{Profile}
-use Rattle.profile.specs.Profile.{extent, octetsIn}
+use Rattle.cdr_fields.specs.Extents.{extent, extentOctets}
 use Rattle.value_meaning.specs.Sinks.{item}
 use Rattle.ask_text.specs.declared.Reply.the-variants.{Typed, Read, Refused, Unread, Signed, Unsigned, Single, Double, Rewritten, Profiled, Component, NoQuestion}
 use Rattle.ask_text.specs.Items.{itemText, joined}
@@ -72,5 +72,5 @@ pub profiles :
     × (replyText (Profiled hostless 3) [] body ≡ 111 ∷ 107 ∷ 32 ∷ 98 ∷ 105 ∷ 103 ∷ 32 ∷ 49 ∷ 32 ∷ 48 ∷ 32 ∷ 45 ∷ 32 ∷ 48 ∷ 32 ∷ 65 ∷ 70 ∷ 32 ∷ 48 ∷ 32 ∷ 48 ∷ 10 ∷ [])
     × (replyText (Component 7 (extent (indexOf 2) 1) 3) [] body ≡ 111 ∷ 107 ∷ 32 ∷ 55 ∷ 32 ∷ 65 ∷ 70 ∷ 10 ∷ [])
     × (replyText (Component 0 (extent (indexOf 3) 0) 3) [] body ≡ 111 ∷ 107 ∷ 32 ∷ 48 ∷ 32 ∷ 45 ∷ 10 ∷ [])
-unfolding choose decimalWithin upperDigit octetDigits octetsIn saidText replyText
+unfolding choose decimalWithin upperDigit octetDigits extentOctets saidText replyText
 profiles = (refl, refl, refl, refl)

@@ -1,5 +1,4 @@
 -- The text of an answer, its LF included.
---   space                               the character between two words
 --   okText, noText                      `ok` and `no`, and what stands behind them
 --   signedText                          "X is a signed (`-` before the digits) decimal": a number of 64 bits in two's complement
 --   bitsText                            "BITS 8 or 16 upper-case hexadecimal digits": those of so many octets, the most significant first
@@ -21,17 +20,16 @@ use Rattle.cdr.specs.declared.Order.the-variants.{Big, Little}
 use Rattle.cdr.specs.Number.{octetsOf}
 use Rattle.decimals.specs.Decimal.{decimal}
 use Rattle.hexline.specs.Encoding.{octetDigits}
+pub use Rattle.lines.specs.Lines.{space}
 use Rattle.profile.specs.declared.Head.{Head}
 use Rattle.profile.specs.declared.Profile.{Profile}
-use Rattle.profile.specs.Profile.{octetsIn}
+use Rattle.cdr_fields.specs.Extents.{extentOctets}
 use Rattle.value_meaning.specs.Sinks.{Item}
 use Rattle.ask_words.specs.Words.{bigWord, littleWord}
 use Rattle.ask_text.specs.declared.Reply.{Reply}
-use Rattle.ask_text.specs.declared.Reply.the-variants.{Typed, Read, Refused, Unread, Signed, Unsigned, Single, Double, Rewritten, Profiled, Component, NoQuestion}
-use Rattle.ask_text.specs.Items.{dash, lf, itemsText}
-
-abbrev pub space : ℕ
-space = 32
+use Rattle.ask_text.specs.declared.Reply.the-variants.{Typed, Read, Refused, Unread, Signed, Unsigned, Single, Double}
+use Rattle.ask_text.specs.declared.Reply.the-variants.{Rewritten, Profiled, Component, NoQuestion}
+use Rattle.ask_text.specs.Items.{hyphen, lf, itemsText}
 
 abbrev pub okText : List ℕ → List ℕ
 okText rest = 111 ∷ 107 ∷ space ∷ rest
@@ -40,13 +38,13 @@ abbrev pub noText : List ℕ → List ℕ
 noText rest = 110 ∷ 111 ∷ space ∷ rest
 
 unfoldable pub signedText : ℕ → List ℕ
-signedText x = choose (ltb x (2 ^ 63)) (λ _. decimal x) (λ _. dash ∷ decimal (2 ^ 64 - x))
+signedText x = choose (ltb x (2 ^ 63)) (λ _. decimal x) (λ _. hyphen ∷ decimal (2 ^ 64 - x))
 
 abbrev pub bitsText : ℕ → ℕ → List ℕ
 bitsText n x = octetDigits (octetsOf Big n x)
 
 abbrev pub octetsText : List ℕ → ℕ → List ℕ
-octetsText [] behind = dash ∷ behind ∷ []
+octetsText [] behind = hyphen ∷ behind ∷ []
 octetsText (x ∷ xs) behind = octetDigits (x ∷ xs) ++ (behind ∷ [])
 
 abbrev pub signedWord : List ℕ
@@ -70,8 +68,8 @@ versionText head = orderText (head .order) ++ (space ∷ (decimal (head .major) 
 
 unfoldable pub saidText : Profile → List ℕ → List ℕ
 saidText said v =
-    octetsText (octetsIn v (said .host)) space
-    ++ (decimal (said .port) ++ (space ∷ (octetsText (octetsIn v (said .key)) space
+    octetsText (extentOctets v (said .host)) space
+    ++ (decimal (said .port) ++ (space ∷ (octetsText (extentOctets v (said .key)) space
     ++ (decimal (said .components) ++ (space ∷ (decimal (said .extra) ++ (lf ∷ [])))))))
 
 abbrev pub headText : Reply → List ℕ
@@ -92,7 +90,7 @@ abbrev pub tailText : Reply → List Item → List ℕ → List ℕ
 tailText (Read used visits count) is octets = itemsText is
 tailText (Rewritten count) is octets = octetsText octets lf
 tailText (Profiled said body) is octets = saidText said octets
-tailText (Component tag part body) is octets = octetsText (octetsIn octets part) lf
+tailText (Component tag part body) is octets = octetsText (extentOctets octets part) lf
 tailText (Typed used kinds) is octets = []
 tailText (Refused number) is octets = []
 tailText (Unread number visits) is octets = []

@@ -7,12 +7,13 @@ ghost use Rattle.cdr.specs.Align.{octets};
 ghost use Rattle.decimals.specs.Decimal.{decimal};
 ghost use Rattle.decimals.specs.Puts.{Put};
 ghost use Rattle.ask_text.specs.Items.{lf};
-ghost use Rattle.ask_text.specs.Replies.{space, okText, noText, signedWord, unsignedWord, singleWord, doubleWord, signedText, bitsText, orderText, versionText, headText};
+ghost use Rattle.ask_text.specs.Replies.{space, okText, noText, signedWord, unsignedWord, singleWord, doubleWord};
+ghost use Rattle.ask_text.specs.Replies.{signedText, bitsText, orderText, versionText, headText};
 use crate::Reply;
 use cdr::Order;
 use cdr::Size;
-use profile::Head;
 use cdr_write::Written;
+use profile::Head;
 
 const SPACE: u8 = b' ';
 
@@ -50,7 +51,10 @@ fn put_typed(out: &mut [u8], used: u64, kinds: u64) -> usize
 // Puts `ok USED VISITS COUNT` and a space.
 fn put_read(out: &mut [u8], used: u64, visits: u64, count: u64) -> usize
     requires { ⌜ 66 ≤ length (now out) ⌝ }
-    ensures { λ r. ⌜ Put (now (out .entry)) 0 (okText (decimal used ++ (space ∷ (decimal visits ++ (space ∷ (decimal count ++ (space ∷ []))))))) r (now (out .exit)) ⌝ }
+    ensures { λ r. ⌜
+        Put (now (out .entry)) 0 (okText (decimal used ++ (space ∷ (decimal visits ++ (space ∷ (decimal count ++ (space ∷ [])))))))
+        r (now (out .exit))
+        ⌝ }
 {
     cdr_write::write_octets(out, 0, b"ok ");
     let next = put_number(out, 3, used, SPACE);

@@ -7,9 +7,8 @@ ghost use lib.ListN.{length};
 ghost use Rattle.decimals.specs.Decimal.{decimal};
 ghost use Rattle.decimals.specs.Puts.{Put};
 ghost use Rattle.cdr_write.specs.Write.{Stored};
-ghost use Rattle.ask_text.specs.Items.{dash, itemNumbers, itemText, itemsOf, joined, itemsText};
+ghost use Rattle.ask_text.specs.Items.{hyphen, itemFrom, itemText, itemsOf, joined, itemsText};
 ghost use Rattle.ask_text.specs.Inner.{behindAt};
-use cdr_text::Run;
 use cdr_write::Written;
 
 const COLON: u8 = b':';
@@ -30,7 +29,7 @@ fn behind(next: usize, count: usize) -> u8
 // The characters of an item, and of one behind it.
 fn item_length(items: &[u64], j: usize) -> usize
     requires { ⌜ j + 2 < length (now items) ⌝ }
-    ensures { λ r. ⌜ r ≡ length (itemText (itemNumbers (now (items .entry)) j)) + 1 ⌝ }
+    ensures { λ r. ⌜ r ≡ length (itemText (itemFrom (now (items .entry)) j)) + 1 ⌝ }
 {
     let kind = decimals::count_digits(items[j]);
     let place = decimals::count_digits(items[j + 1]);
@@ -69,8 +68,8 @@ fn put_number(out: &mut [u8], at: usize, x: u64, behind: u8) -> usize
 
 // Puts an item and the character behind it.
 fn put_item(out: &mut [u8], at: usize, items: &[u64], j: usize, behind: u8) -> usize
-    requires { ⌜ (j + 2 < length (now items)) × (at + length (itemText (itemNumbers (now items) j)) + 1 ≤ length (now out)) ⌝ }
-    ensures { λ r. ⌜ Put (now (out .entry)) at (itemText (itemNumbers (now (items .entry)) j) ++ (behind ∷ [])) r (now (out .exit)) ⌝ }
+    requires { ⌜ (j + 2 < length (now items)) × (at + length (itemText (itemFrom (now items) j)) + 1 ≤ length (now out)) ⌝ }
+    ensures { λ r. ⌜ Put (now (out .entry)) at (itemText (itemFrom (now (items .entry)) j) ++ (behind ∷ [])) r (now (out .exit)) ⌝ }
 {
     let placed = put_number(out, at, items[j], COLON);
     let filled = put_number(out, placed, items[j + 1], COLON);
@@ -105,7 +104,7 @@ fn fit(items: &[u64], room: usize) -> bool
 // Puts `-`, which stands for no items or octets, and the character behind it.
 pub(crate) fn put_none(out: &mut [u8], at: usize, behind: u8) -> usize
     requires { ⌜ at + 2 ≤ length (now out) ⌝ }
-    ensures { λ r. ⌜ Put (now (out .entry)) at (dash ∷ behind ∷ []) r (now (out .exit)) ⌝ }
+    ensures { λ r. ⌜ Put (now (out .entry)) at (hyphen ∷ behind ∷ []) r (now (out .exit)) ⌝ }
 {
     out[at] = DASH;
     out[at + 1] = behind;
@@ -127,9 +126,10 @@ fn put(out: &mut [u8], at: usize, items: &[u64]) -> usize
 pub(crate) fn write(out: &mut [u8], at: usize, head: &[u8], items: &[u64]) -> Written
     ensures { λ r. ⌜ Stored (now (out .entry)) at (now (head .entry) ++ itemsText (itemsOf (now (items .entry)))) r (now (out .exit)) ⌝ }
 {
-    let Run::To(end) = cdr_text::read_run(out, at, head.len()) else {
+    if !cdr::fits(out.len(), at, head.len()) {
         return Written::NoRoom;
-    };
+    }
+    let end = at + head.len();
     if !fit(items, out.len() - end) {
         return Written::NoRoom;
     }

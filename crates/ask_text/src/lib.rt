@@ -2,9 +2,9 @@
 ghost use Rattle.cdr_write.specs.Write.{Stored};
 ghost use Rattle.ask_text.specs.Items.{itemsOf};
 ghost use Rattle.ask_text.specs.Replies.{replyText};
-use profile::Extent;
-use profile::Profile;
+use cdr_fields::Extent;
 use cdr_write::Written;
+use profile::Profile;
 
 mod head;
 mod items;
@@ -67,7 +67,13 @@ pub fn write_reply(out: &mut [u8], at: usize, reply: Reply, items: &[u64], octet
         Reply::Rewritten(_) => octets::write(out, at, &head[..end], octets, LF),
         Reply::Profiled(said, _) => profiles::write(out, at, &head[..end], said, octets),
         Reply::Component(_, part, _) => {
-            octets::write(out, at, &head[..end], profile::octets_in(octets, part), LF)
+            octets::write(
+                out,
+                at,
+                &head[..end],
+                cdr_fields::octets_in(octets, part),
+                LF,
+            )
         }
         Reply::Typed { used: _, kinds: _ }
         | Reply::Refused(_)

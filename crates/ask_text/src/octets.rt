@@ -4,36 +4,30 @@ ghost use mathlib.Core.List.{_++_};
 ghost use Prim.Native.Nat.{ℕ, _+_, _≤_};
 ghost use lib.ListN.{length};
 ghost use Rattle.decimals.specs.Puts.{Put};
-ghost use Rattle.cdr_text.specs.Text.{runOf};
+ghost use Rattle.cdr.specs.Limit.{fits};
 ghost use Rattle.cdr_write.specs.Write.{Stored};
 ghost use Rattle.ask_text.specs.Replies.{octetsText};
 use crate::items;
-use cdr_text::Run;
 use cdr_write::Written;
 
-// Where the text of octets and a character behind it end from `at` on, if there is room for them.
-fn text_end(out: &[u8], at: usize, octets: &[u8]) -> Run
-    requires { ⌜ at ≤ length (now out) ⌝ }
-    ensures { λ r. ⌜ ((behind : ℕ) → r ≡ runOf (now (out .entry)) at (length (octetsText (now (octets .entry)) behind))) ⌝ }
+// The characters of the text of octets and of one behind it.
+pub(crate) fn text_length(octets: &[u8]) -> usize
+    ensures { λ r. ⌜ ((behind : ℕ) → r ≡ length (octetsText (now (octets .entry)) behind)) ⌝ }
 {
     if octets.len() == 0 {
-        return cdr_text::read_run(out, at, 2);
+        return 2;
     }
-    // The room is halved, since twice the octets need not fit a usize.
-    if (out.len() - at) / 2 < octets.len() {
-        return Run::Past;
-    }
-    cdr_text::read_run(out, at, octets.len() * 2 + 1)
+    octets.len() * 2 + 1
 }
 
-// Where what stands before the octets, their text and a character behind it end from `at` on, if there is room for them.
-pub(crate) fn end_of(out: &[u8], at: usize, head: &[u8], octets: &[u8]) -> Run
-    ensures { λ r. ⌜ ((behind : ℕ) → r ≡ runOf (now (out .entry)) at (length (now (head .entry) ++ octetsText (now (octets .entry)) behind))) ⌝ }
+// Whether what stands before the octets, their text and a character behind it fit from `at` on in so many octets.
+pub(crate) fn has_room(len: usize, at: usize, head: &[u8], octets: &[u8]) -> bool
+    ensures { λ r. ⌜ ((behind : ℕ) → r ≡ fits len at (length (now (head .entry) ++ octetsText (now (octets .entry)) behind))) ⌝ }
 {
-    let Run::To(end) = cdr_text::read_run(out, at, head.len()) else {
-        return Run::Past;
-    };
-    text_end(out, end, octets)
+    if cdr::fits(len, at, head.len()) {
+        return cdr::fits(len, at + head.len(), text_length(octets));
+    }
+    false
 }
 
 // Puts the text of octets and the character behind it.
@@ -54,9 +48,9 @@ fn put(out: &mut [u8], at: usize, octets: &[u8], behind: u8) -> usize
 pub(crate) fn write(out: &mut [u8], at: usize, head: &[u8], octets: &[u8], behind: u8) -> Written
     ensures { λ r. ⌜ Stored (now (out .entry)) at (now (head .entry) ++ octetsText (now (octets .entry)) behind) r (now (out .exit)) ⌝ }
 {
-    let Run::To(_) = end_of(out, at, head, octets) else {
+    if !has_room(out.len(), at, head, octets) {
         return Written::NoRoom;
-    };
+    }
     cdr_write::write_octets(out, at, head);
     Written::Upto(put(out, at + head.len(), octets, behind))
 }

@@ -4,9 +4,8 @@ ghost use Rattle.cdr_write.specs.Write.{Stored};
 ghost use Rattle.ask_text.specs.Replies.{space, octetsText, saidText};
 use crate::head;
 use crate::octets;
-use profile::Profile;
-use cdr_text::Run;
 use cdr_write::Written;
+use profile::Profile;
 
 const SPACE: u8 = b' ';
 
@@ -20,8 +19,8 @@ pub(crate) fn write(out: &mut [u8], at: usize, head: &[u8], said: Profile, body:
     let n = head::put_number(&mut port, 0, said.port, SPACE);
     let mut counts = [0u8; 42];
     let m = head::put_two(&mut counts, 0, said.components, said.extra as u64, LF);
-    let host = profile::octets_in(body, said.host);
-    let key = profile::octets_in(body, said.key);
+    let host = cdr_fields::octets_in(body, said.host);
+    let key = cdr_fields::octets_in(body, said.key);
     write_parts(out, at, head, host, &port[..n], key, &counts[..m])
 }
 
@@ -35,17 +34,24 @@ fn write_parts(
     key: &[u8],
     counts: &[u8],
 ) -> Written
-    ensures { λ r. ⌜ Stored (now (out .entry)) at ((now (head .entry) ++ octetsText (now (host .entry)) space) ++ ((now (port .entry) ++ octetsText (now (key .entry)) space) ++ now (counts .entry))) r (now (out .exit)) ⌝ }
+    ensures { λ r. ⌜
+        Stored (now (out .entry)) at
+        ((now (head .entry) ++ octetsText (now (host .entry)) space)
+        ++ ((now (port .entry) ++ octetsText (now (key .entry)) space) ++ now (counts .entry)))
+        r (now (out .exit))
+        ⌝ }
 {
-    let Run::To(next) = octets::end_of(out, at, head, host) else {
+    if !octets::has_room(out.len(), at, head, host) {
         return Written::NoRoom;
-    };
-    let Run::To(last) = octets::end_of(out, next, port, key) else {
+    }
+    let next = at + head.len() + octets::text_length(host);
+    if !octets::has_room(out.len(), next, port, key) {
         return Written::NoRoom;
-    };
-    let Run::To(_) = cdr_text::read_run(out, last, counts.len()) else {
+    }
+    let last = next + port.len() + octets::text_length(key);
+    if !cdr::fits(out.len(), last, counts.len()) {
         return Written::NoRoom;
-    };
+    }
     octets::write(out, at, head, host, SPACE);
     octets::write(out, next, port, key, SPACE);
     cdr_write::write_octets(out, last, counts)

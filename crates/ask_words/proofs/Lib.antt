@@ -1,6 +1,6 @@
 -- Words found and compared, words by their places, where the words of the questions stand, and samples.
-pub mod Found
-pub mod Left
-pub mod Stands
-pub mod Subjects
+pub mod FirstWordEnds
+pub mod WordsLeft
+pub mod AnswersDecided
+pub mod FieldsFound
 pub mod Samples

@@ -10,8 +10,8 @@ use Rattle.decimals.specs.Numerals.{allNumerals, numberUpto, numberFrom, number
 use Rattle.ask_words.specs.declared.Fields.{Fields}
 use Rattle.ask_words.specs.declared.Fields.the-variants.{Are}
 use Rattle.ask_words.specs.Words.{wordsFrom, sameWord, orderWord}
-use Rattle.ask_words.specs.Fields.{codedFirst, subjectFirst, fieldsOf}
-use Rattle.ask_words.specs.Places.{placeOf, fieldsIn}
+use Rattle.ask_words.specs.Fields.{codedFirst, subjectFirst, valueFields}
+use Rattle.ask_words.specs.Places.{wordPlace, fieldsIn}
 
 abbrev standing : (typed typedEnd value valueEnd : ℕ) → Fields
 standing typed typedEnd value valueEnd =
@@ -25,9 +25,9 @@ standing typed typedEnd value valueEnd =
     })
 
 pub same-words : fieldsIn (98 ∷ 105 ∷ 103 ∷ 32 ∷ 48 ∷ 48 ∷ 32 ∷ 98 ∷ 105 ∷ 103 ∷ 32 ∷ 48 ∷ 48 ∷ 32 ∷ 48 ∷ 32 ∷ 53 ∷ []) ≡ standing 4 6 11 13
-unfolding fieldsIn placeOf fieldsOf subjectFirst codedFirst orderWord sameWord wordsFrom choose numberWord numberFrom numberUpto allNumerals
+unfolding fieldsIn wordPlace valueFields subjectFirst codedFirst orderWord sameWord wordsFrom choose numberWord numberFrom numberUpto allNumerals
 same-words = refl
 
 pub no-characters : fieldsIn (98 ∷ 105 ∷ 103 ∷ 32 ∷ 32 ∷ 98 ∷ 105 ∷ 103 ∷ 32 ∷ 32 ∷ 48 ∷ 32 ∷ 53 ∷ []) ≡ standing 4 4 9 9
-unfolding fieldsIn placeOf fieldsOf subjectFirst codedFirst orderWord sameWord wordsFrom choose numberWord numberFrom numberUpto allNumerals
+unfolding fieldsIn wordPlace valueFields subjectFirst codedFirst orderWord sameWord wordsFrom choose numberWord numberFrom numberUpto allNumerals
 no-characters = refl

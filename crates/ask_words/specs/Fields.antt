@@ -3,7 +3,7 @@
 --   First             what the first words stand for, and the words behind them; or that they do not stand for it
 --   onFirst           what follows where they do
 --   wordFirst         any word
---   orderIs           the order that a word names
+--   orderInWord       the order that a word names
 --   orderFirst        a word that names an order
 --   numberIs          the number that a word is
 --   numberFirst       a word that is a decimal number of 64 bits
@@ -15,7 +15,7 @@
 --   subjectFirst      ORDER TYPE ORDER VALUE START
 --   noMore            what the words are where they end, and where more follow
 --   FieldsOf          a value, and ROOM or NUMBER; or that the words are others
---   fieldsOf          by the words behind `value` or `item`
+--   valueFields       by the words behind `value` or `item`
 --   RewriteFields     a value, the chosen order and index, and ROOM; or that the words are others
 --   rewriteFieldsOf   by the words behind `rewrite`
 --   NumberedFields    a word, and NUMBER; or that the words are others
@@ -42,12 +42,12 @@ abbrev pub wordFirst : List (List ℕ) → First (List ℕ)
 wordFirst [] = none
 wordFirst (word ∷ rest) = first word rest
 
-abbrev pub orderIs : Named → List (List ℕ) → First Order
-orderIs (Is order) rest = first order rest
-orderIs NoOrder rest = none
+abbrev pub orderInWord : Named → List (List ℕ) → First Order
+orderInWord (Is order) rest = first order rest
+orderInWord NoOrder rest = none
 
 abbrev pub orderFirst : List (List ℕ) → First Order
-orderFirst ws = onFirst (wordFirst ws) none (λ word rest. orderIs (orderWord word) rest)
+orderFirst ws = onFirst (wordFirst ws) none (λ word rest. orderInWord (orderWord word) rest)
 
 abbrev pub numberIs : Number → List (List ℕ) → First ℕ
 numberIs (IsNumber x) rest = first x rest
@@ -89,8 +89,8 @@ pub data FieldsOf : Type 0 where
   are : SubjectOf → (number : ℕ) → FieldsOf
   notFields : FieldsOf
 
-unfoldable pub fieldsOf : List (List ℕ) → FieldsOf
-fieldsOf ws =
+unfoldable pub valueFields : List (List ℕ) → FieldsOf
+valueFields ws =
     onFirst (subjectFirst ws) notFields
     (λ subject behindSubject. onFirst (numberFirst behindSubject) notFields
     (λ number behindNumber. noMore behindNumber (are subject number) notFields))

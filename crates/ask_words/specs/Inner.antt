@@ -1,36 +1,36 @@
 -- Words by their places in a line, as the functions of the crate promise each other, and what the words of a question are read as.
---   left           the words from a place on; behind the last word there is a place more than the line has characters, and none are left
---   part           the characters from a place up to another
---   wordsAt        the words from a place on, by the end of the first
---   Within         a word's place and end are within the line
---   WithinWord     the same of the word that an answer has
---   WordAt         the word at a place was found, and is within the line
---   Passed         from a place on there is a word, and those behind it are those from another place on
---   orderAt        an order that was read, and the words behind it
---   PassedOrder    the order's word was passed
---   OrderRead      a word that names an order was read
---   codedWord      an order and a word, by the word's place and end
---   pairAt         what the words at a place are, by the answer
---   WithinPair     the word that the answer has is within the line
---   PassedPair     ORDER was passed, and the word behind it
---   CodedRead      ORDER and the word behind it were read
---   numberAt       a number that was read, and the words behind it
---   subjectWords   the value that is asked about, by the places of its words
---   WithinSubject  its two words are within the line
---   subjectAt      the first words of a question, by the answer, and those behind them
---   WithinAbout    the two words that the answer has are within the line
---   Placed         TYPE and VALUE stand where the words of number 1 and 3 do
---   PlacedAbout    so do the two words that the answer has
---   SubjectRead    the first words of a question were read
---   fieldsAt       the words of a question, by the answer
---   WithinFields   the two words that the answer has are within the line
---   FieldsRead     the words behind `value` or `item` were read, and the answer is `fieldsIn`
---   rewriteAt      the words behind `rewrite`, by the answer
---   WithinRewrite  the two words that the answer has are within the line
---   RewriteRead    they were read, and the answer is `rewriteIn`
---   numberedAt     the words behind `component`, by the answer
---   WithinNumbered the first of them is within the line
---   NumberedRead   they were read, and the answer is `numberedIn`
+--   left            the words from a place on; behind the last word there is a place more than the line has characters, and none are left
+--   part            the characters from a place up to another
+--   wordsAt         the words from a place on, by the end of the first
+--   InLine          a word's place and end are within the line
+--   WithinWord      the same of the word that an answer has
+--   WordAt          the word at a place was found, and is within the line
+--   Passed          from a place on there is a word, and those behind it are those from another place on
+--   orderFound      an order that was read, and the words behind it
+--   PassedOrder     the order's word was passed
+--   OrderRead       a word that names an order was read
+--   codedWord       an order and a word, by the word's place and end
+--   pairAt          what the words at a place are, by the answer
+--   WithinPair      the word that the answer has is within the line
+--   PassedPair      ORDER was passed, and the word behind it
+--   CodedRead       ORDER and the word behind it were read
+--   numberFound     a number that was read, and the words behind it
+--   subjectWords    the value that is asked about, by the places of its words
+--   WithinSubject   its two words are within the line
+--   subjectAt       the first words of a question, by the answer, and those behind them
+--   WithinAbout     the two words that the answer has are within the line
+--   Placed          TYPE and VALUE stand where the words of number 1 and 3 do
+--   PlacedAbout     so do the two words that the answer has
+--   SubjectRead     the first words of a question were read
+--   fieldsAt        the words of a question, by the answer
+--   WithinFields    the two words that the answer has are within the line
+--   FieldsRead      the words behind `value` or `item` were read, and the answer is `fieldsIn`
+--   rewriteAt       the words behind `rewrite`, by the answer
+--   WithinRewrite   the two words that the answer has are within the line
+--   RewriteRead     they were read, and the answer is `rewriteFieldsIn`
+--   numberedAt      the words behind `component`, by the answer
+--   WithinNumbered  the first of them is within the line
+--   NumberedRead    they were read, and the answer is `numberedIn`
 use mathlib.Core.Path.{_≡_}
 use mathlib.Core.List.{List, [], _∷_}
 use Prim.Native.Nat.{ℕ, _+_, _-_, _<_, _≤_}
@@ -57,8 +57,10 @@ use Rattle.ask_words.specs.declared.places.Count.the-variants.{Is as IsC
 use Rattle.ask_words.specs.declared.places.About.{About}
 use Rattle.ask_words.specs.declared.places.About.the-variants.{Is as IsAbout, NotAbout}
 use Rattle.ask_words.specs.Words.{words}
-use Rattle.ask_words.specs.Places.{placeOf, fieldsIn, rewriteIn, numberedIn}
-use Rattle.ask_words.specs.Fields.{First, first, none, orderFirst, WordIn, wordIn, codedFirst, SubjectOf, subjectOf, subjectFirst, FieldsOf, are, notFields, fieldsOf, RewriteFields, rewrites, notRewrite, rewriteFieldsOf, NumberedFields, numbered, notNumbered, numberedFieldsOf}
+use Rattle.ask_words.specs.Places.{wordPlace, fieldsIn, rewriteFieldsIn, numberedIn}
+use Rattle.ask_words.specs.Fields.{First, first, none, orderFirst, WordIn, wordIn, codedFirst, SubjectOf, subjectOf, subjectFirst}
+use Rattle.ask_words.specs.Fields.{FieldsOf, are, notFields, valueFields, RewriteFields, rewrites, notRewrite, rewriteFieldsOf}
+use Rattle.ask_words.specs.Fields.{NumberedFields, numbered, notNumbered, numberedFieldsOf}
 
 unfoldable pub left : List ℕ → ℕ → List (List ℕ)
 left line from = choose (ltb (length line) from) (λ _. []) (λ _. words (drop from line))
@@ -70,12 +72,12 @@ abbrev pub wordsAt : Word → List ℕ → ℕ → List (List ℕ)
 wordsAt (Upto end) line from = part line from end ∷ left line (end + 1)
 wordsAt NoWord line from = []
 
-pub record Within (line : List ℕ) (from end : ℕ) : Type 0 where
+pub record InLine (line : List ℕ) (from end : ℕ) : Type 0 where
   pub forward : from ≤ end
   pub inside : end ≤ length line
 
 abbrev pub WithinWord : Word → List ℕ → ℕ → Type 0
-WithinWord (Upto end) line from = Within line from end
+WithinWord (Upto end) line from = InLine line from end
 WithinWord NoWord line from = Unit {0}
 
 pub record WordAt (line : List ℕ) (from : ℕ) (r : Word) : Type 0 where
@@ -87,16 +89,16 @@ pub record Passed (line : List ℕ) (from next : ℕ) : Type 0 where
   pub inside : next ≤ length line + 1
   pub found : left line from ≡ part line from (next - 1) ∷ left line next
 
-abbrev pub orderAt : Ordered → List ℕ → First Order
-orderAt (IsOrder order next) line = first order (left line next)
-orderAt NotOrder line = none
+abbrev pub orderFound : Ordered → List ℕ → First Order
+orderFound (IsOrder order next) line = first order (left line next)
+orderFound NotOrder line = none
 
 abbrev pub PassedOrder : Ordered → List ℕ → ℕ → Type 0
 PassedOrder (IsOrder order next) line from = Passed line from next
 PassedOrder NotOrder line from = Unit {0}
 
 pub record OrderRead (line : List ℕ) (from : ℕ) (r : Ordered) : Type 0 where
-  pub read : orderAt r line ≡ orderFirst (left line from)
+  pub read : orderFound r line ≡ orderFirst (left line from)
   pub passed : PassedOrder r line from
 
 abbrev pub codedWord : Coded → List ℕ → WordIn
@@ -107,7 +109,7 @@ pairAt (IsPair c) line = first (codedWord c line) (left line (c .end + 1))
 pairAt NotCoded line = none
 
 abbrev pub WithinPair : Pair → List ℕ → Type 0
-WithinPair (IsPair c) line = Within line (c .from) (c .end)
+WithinPair (IsPair c) line = InLine line (c .from) (c .end)
 WithinPair NotCoded line = Unit {0}
 
 abbrev pub PassedPair : Pair → List ℕ → ℕ → Type 0
@@ -119,15 +121,15 @@ pub record CodedRead (line : List ℕ) (from : ℕ) (r : Pair) : Type 0 where
   pub within : WithinPair r line
   pub passed : PassedPair r line from
 
-abbrev pub numberAt : Count → List ℕ → First ℕ
-numberAt (IsCount number next) line = first number (left line next)
-numberAt NotNumber line = none
+abbrev pub numberFound : Count → List ℕ → First ℕ
+numberFound (IsCount number next) line = first number (left line next)
+numberFound NotNumber line = none
 
 abbrev pub subjectWords : Subject → List ℕ → SubjectOf
 subjectWords s line = subjectOf (codedWord (s .typed) line) (codedWord (s .value) line) (s .start)
 
 abbrev pub WithinSubject : Subject → List ℕ → Type 0
-WithinSubject s line = Within line (s .typed .from) (s .typed .end) × Within line (s .value .from) (s .value .end)
+WithinSubject s line = InLine line (s .typed .from) (s .typed .end) × InLine line (s .value .from) (s .value .end)
 
 abbrev pub subjectAt : About → List ℕ → First SubjectOf
 subjectAt (IsAbout s next) line = first (subjectWords s line) (left line next)
@@ -138,8 +140,8 @@ WithinAbout (IsAbout s next) line = WithinSubject s line
 WithinAbout NotAbout line = Unit {0}
 
 pub record Placed (line : List ℕ) (s : Subject) : Type 0 where
-  pub typed : s .typed .from ≡ placeOf 1 (words line)
-  pub value : s .value .from ≡ placeOf 3 (words line)
+  pub typed : s .typed .from ≡ wordPlace 1 (words line)
+  pub value : s .value .from ≡ wordPlace 3 (words line)
 
 abbrev pub PlacedAbout : About → List ℕ → Type 0
 PlacedAbout (IsAbout s next) line = Placed line s
@@ -159,7 +161,7 @@ WithinFields (Are a) line = WithinSubject (a .subject) line
 WithinFields NotFields line = Unit {0}
 
 pub record FieldsRead (line : List ℕ) (r : Fields) : Type 0 where
-  pub read : fieldsAt r line ≡ fieldsOf (words line)
+  pub read : fieldsAt r line ≡ valueFields (words line)
   pub within : WithinFields r line
   pub decided : r ≡ fieldsIn line
 
@@ -174,7 +176,7 @@ WithinRewrite NotRewrite line = Unit {0}
 pub record RewriteRead (line : List ℕ) (r : Rewrite) : Type 0 where
   pub read : rewriteAt r line ≡ rewriteFieldsOf (words line)
   pub within : WithinRewrite r line
-  pub decided : r ≡ rewriteIn line
+  pub decided : r ≡ rewriteFieldsIn line
 
 abbrev pub numberedAt : Numbered → List ℕ → NumberedFields
 numberedAt (IsNumbered end number) line = numbered (take end line) number

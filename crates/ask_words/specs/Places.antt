@@ -1,13 +1,13 @@
 -- What the words of a question are answered, and where in the line they stand.
---   placeOf        the place of the word of a number, counted from 0: behind each word before it there is a space
---   codedIn        an order, and the place and the end of the word of a number
---   subjectIn      the value that is asked about: TYPE is the word of number 1, VALUE that of number 3
---   fieldsFrom     by what the words behind `value` or `item` are
---   fieldsIn       the answer, by the line
---   rewriteFrom    by what the words behind `rewrite` are
---   rewriteIn      the answer, by the line
---   numberedFrom   by what the words behind `component` are: the end of OCTETS, which stands first, and NUMBER
---   numberedIn     the answer, by the line
+--   wordPlace        the place of the word of a number, counted from 0: behind each word before it there is a space
+--   codedIn          an order, and the place and the end of the word of a number
+--   subjectIn        the value that is asked about: TYPE is the word of number 1, VALUE that of number 3
+--   fieldsFrom       by what the words behind `value` or `item` are
+--   fieldsIn         the answer, by the line
+--   rewriteFrom      by what the words behind `rewrite` are
+--   rewriteFieldsIn  the answer, by the line
+--   numberedFrom     by what the words behind `component` are: the end of OCTETS, which stands first, and NUMBER
+--   numberedIn       the answer, by the line
 use mathlib.Core.List.{List, [], _∷_}
 use Prim.Native.Nat.{ℕ, zero, suc, _+_}
 use lib.ListN.{length}
@@ -20,15 +20,16 @@ use Rattle.ask_words.specs.declared.Rewrite.the-variants.{Asks, NotRewri
 use Rattle.ask_words.specs.declared.Numbered.{Numbered}
 use Rattle.ask_words.specs.declared.Numbered.the-variants.{Is, NotNumbered}
 use Rattle.ask_words.specs.Words.{words}
-use Rattle.ask_words.specs.Fields.{WordIn, SubjectOf, FieldsOf, are, notFields, fieldsOf, RewriteFields, rewrites, notRewrite, rewriteFieldsOf, NumberedFields, numbered, notNumbered, numberedFieldsOf}
+use Rattle.ask_words.specs.Fields.{WordIn, SubjectOf, FieldsOf, are, notFields, valueFields, RewriteFields, rewrites, notRewrite}
+use Rattle.ask_words.specs.Fields.{rewriteFieldsOf, NumberedFields, numbered, notNumbered, numberedFieldsOf}
 
-unfoldable pub placeOf : ℕ → List (List ℕ) → ℕ
-placeOf zero ws = 0
-placeOf (suc k) [] = 0
-placeOf (suc k) (word ∷ rest) = length word + 1 + placeOf k rest
+unfoldable pub wordPlace : ℕ → List (List ℕ) → ℕ
+wordPlace zero ws = 0
+wordPlace (suc k) [] = 0
+wordPlace (suc k) (word ∷ rest) = length word + 1 + wordPlace k rest
 
 abbrev pub codedIn : ℕ → List (List ℕ) → WordIn → Coded
-codedIn k ws w = record { order = w .order; from = placeOf k ws; end = placeOf k ws + length (w .word) }
+codedIn k ws w = record { order = w .order; from = wordPlace k ws; end = wordPlace k ws + length (w .word) }
 
 abbrev pub subjectIn : List (List ℕ) → SubjectOf → Subject
 subjectIn ws s = record { typed = codedIn 1 ws (s .typed); value = codedIn 3 ws (s .value); start = s .start }
@@ -38,15 +39,15 @@ fieldsFrom ws (are subject number) = Are (record { subject = subjectIn ws subjec
 fieldsFrom ws notFields = NotFields
 
 unfoldable pub fieldsIn : List ℕ → Fields
-fieldsIn line = fieldsFrom (words line) (fieldsOf (words line))
+fieldsIn line = fieldsFrom (words line) (valueFields (words line))
 
 abbrev pub rewriteFrom : List (List ℕ) → RewriteFields → Rewrite
 rewriteFrom ws (rewrites subject order index room) =
     Asks (record { subject = subjectIn ws subject; order = order; index = index; room = room })
 rewriteFrom ws notRewrite = NotRewrite
 
-unfoldable pub rewriteIn : List ℕ → Rewrite
-rewriteIn line = rewriteFrom (words line) (rewriteFieldsOf (words line))
+unfoldable pub rewriteFieldsIn : List ℕ → Rewrite
+rewriteFieldsIn line = rewriteFrom (words line) (rewriteFieldsOf (words line))
 
 abbrev pub numberedFrom : NumberedFields → Numbered
 numberedFrom (numbered word number) = Is (length word) number

@@ -1,5 +1,4 @@
 -- The words of a line: "Words are separated by one space."
---   space                  the character between two words
 --   wordsFrom              the words of characters, the first of which has been begun
 --   words                  the words of a line, one more than it has spaces: a second space makes a word without characters
 --   sameWord               whether two words have the same characters
@@ -13,9 +12,7 @@ use Rattle.choices.specs.Branch.{choose}
 use Rattle.cdr.specs.declared.Order.the-variants.{Big, Little}
 use Rattle.cdr.specs.declared.Named.{Named}
 use Rattle.cdr.specs.declared.Named.the-variants.{Is, NoOrder}
-
-abbrev pub space : ℕ
-space = 32
+pub use Rattle.lines.specs.Lines.{space}
 
 unfoldable pub wordsFrom : List ℕ → List ℕ → List (List ℕ)
 wordsFrom begun [] = begun ∷ []

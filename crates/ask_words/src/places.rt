@@ -1,7 +1,7 @@
 // The words of a question, one after the other, each from its place in the line.
 ghost use mathlib.Core.Path.{_≡_};
 ghost use Rattle.ask_words.specs.Fields.{numberFirst};
-ghost use Rattle.ask_words.specs.Inner.{WordAt, left, OrderRead, CodedRead, numberAt, SubjectRead};
+ghost use Rattle.ask_words.specs.Inner.{WordAt, left, OrderRead, CodedRead, numberFound, SubjectRead};
 use crate::Coded;
 use crate::Subject;
 use cdr::Named;
@@ -83,7 +83,7 @@ fn coded_at(line: &[u8], from: usize) -> Pair
 
 // A number at a place.
 pub(crate) fn number_at(line: &[u8], from: usize) -> Count
-    ensures { λ r. ⌜ numberAt r (now (line .entry)) ≡ numberFirst (left (now (line .entry)) from) ⌝ }
+    ensures { λ r. ⌜ numberFound r (now (line .entry)) ≡ numberFirst (left (now (line .entry)) from) ⌝ }
 {
     let Word::Upto(end) = word_at(line, from) else {
         return Count::NotNumber;

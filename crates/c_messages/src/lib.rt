@@ -4,13 +4,13 @@ ghost use mathlib.Core.Bool.{cond};
 ghost use Rattle.frame.specs.Frames.{headerNumbers};
 ghost use Rattle.join_answers.specs.Answers.{outputIn};
 ghost use Rattle.c_messages.specs.Answers.{decodedCount, encodedCount, joinedCount, DecodesC, EncodesC, JudgesC, JoinsC};
-use join_answers::Answer;
-use join_answers::Output;
 use frame::Frame;
 use frame::Header;
 use frame::RequestId;
 use hexline::Decoded;
 use hexline::Encoded;
+use join_answers::Answer;
+use join_answers::Output;
 use join_places::Record;
 
 // A line's characters to octets in `out`, and their number in `count`; 10, 11, or 27 where `out` is too short.
@@ -117,7 +117,11 @@ pub extern "C" fn haulspar_join(
     out: &mut [u8],
     count: &mut u64,
 ) -> u32
-    ensures { λ r. ⌜ JoinsC (now (octets .entry)) (now («record» .entry)) (now (places .entry)) (now (out .entry)) (now (count .entry)) (record { number = r; after = now («record» .exit) }) (now (places .exit)) (now (out .exit)) (now (count .exit)) ⌝ }
+    ensures { λ r. ⌜
+        JoinsC (now (octets .entry)) (now («record» .entry)) (now (places .entry)) (now (out .entry)) (now (count .entry))
+        (record { number = r; after = now («record» .exit) })
+        (now (places .exit)) (now (out .exit)) (now (count .exit))
+        ⌝ }
 {
     let r = joined(octets, *record, places, out, count);
     *record = r.after;
@@ -138,7 +142,10 @@ fn joined(
     out: &mut [u8],
     count: &mut u64,
 ) -> Numbered
-    ensures { λ r. ⌜ JoinsC (now (octets .entry)) before (now (places .entry)) (now (out .entry)) (now (count .entry)) r (now (places .exit)) (now (out .exit)) (now (count .exit)) ⌝ }
+    ensures { λ r. ⌜
+        JoinsC (now (octets .entry)) before (now (places .entry)) (now (out .entry)) (now (count .entry))
+        r (now (places .exit)) (now (out .exit)) (now (count .exit))
+        ⌝ }
 {
     let r = joining::join(octets, before, places, out);
     let answer = r.answer;

@@ -5,13 +5,13 @@ use Prim.Native.Nat.{ℕ}
 use Rattle.profile.specs.declared.ProfileAnswer.{ProfileAnswer}
 use Rattle.profile.specs.declared.ComponentAnswer.{ComponentAnswer}
 use Rattle.profile.specs.Profile.{profileNumber, profileOf, componentNumber, componentOf}
-use Rattle.c_profiles.specs.Answers.{rowAfter, foundAfter, ReadsC, FindsC}
+use Rattle.c_profiles.specs.Answers.{rowAfter, foundAfter, ReadsProfileC, FindsComponentC}
 
 pub reads-c : (v before : List ℕ) (r : ℕ) (after : List ℕ) (a : ProfileAnswer) → profileOf v ≡ a → r ≡ profileNumber a → after ≡ rowAfter a before
-    → ReadsC v before r after
+    → ReadsProfileC v before r after
 reads-c v before r after a e n w = record { answer = n ∙ ap profileNumber (sym e); row = w ∙ ap (λ (x : ProfileAnswer). rowAfter x before) (sym e) }
 
 pub finds-c : (v : List ℕ) (number : ℕ) (before : List ℕ) (r : ℕ) (after : List ℕ) (a : ComponentAnswer) → componentOf v number ≡ a
-    → r ≡ componentNumber a → after ≡ foundAfter a before → FindsC v number before r after
+    → r ≡ componentNumber a → after ≡ foundAfter a before → FindsComponentC v number before r after
 finds-c v number before r after a e n w =
     record { answer = n ∙ ap componentNumber (sym e); found = w ∙ ap (λ (x : ComponentAnswer). foundAfter x before) (sym e) }

@@ -1,9 +1,9 @@
 // The C interface's functions about profile bodies: each answers 01's number, and a refusal leaves all that was lent as it was.
 ghost use mathlib.Core.Path.{_≡_};
 ghost use Rattle.profile.specs.Profile.{profileRow, componentRow};
-ghost use Rattle.c_profiles.specs.Answers.{ReadsC, FindsC};
+ghost use Rattle.c_profiles.specs.Answers.{ReadsProfileC, FindsComponentC};
+use cdr_fields::Extent;
 use profile::ComponentAnswer;
-use profile::Extent;
 use profile::Profile;
 use profile::ProfileAnswer;
 
@@ -11,7 +11,7 @@ use profile::ProfileAnswer;
 // length without its zero, port, the index of the key's first octet and its length, number of components, octets after them.
 #[no_mangle]
 pub extern "C" fn haulspar_profile(octets: &[u8], numbers: &mut [u64; 10]) -> u32
-    ensures { λ r. ⌜ ReadsC (now (octets .entry)) (now (numbers .entry)) r (now (numbers .exit)) ⌝ }
+    ensures { λ r. ⌜ ReadsProfileC (now (octets .entry)) (now (numbers .entry)) r (now (numbers .exit)) ⌝ }
 {
     match profile::read(octets) {
         ProfileAnswer::Read(p) => {
@@ -49,7 +49,7 @@ fn profile_row(p: Profile) -> [u64; 10]
 // its octets' first one, and their length.
 #[no_mangle]
 pub extern "C" fn haulspar_component(octets: &[u8], number: u64, found: &mut [u64; 3]) -> u32
-    ensures { λ r. ⌜ FindsC (now (octets .entry)) number (now (found .entry)) r (now (found .exit)) ⌝ }
+    ensures { λ r. ⌜ FindsComponentC (now (octets .entry)) number (now (found .entry)) r (now (found .exit)) ⌝ }
 {
     match profile::component(octets, number) {
         ComponentAnswer::Found { tag, octets: part } => {

@@ -1,4 +1,4 @@
 -- Laws of the calls.
-pub mod Gathering
-pub mod Types
-pub mod Values
+pub mod EntriesGathered
+pub mod TypeCallLeaves
+pub mod ValueCallsLeave

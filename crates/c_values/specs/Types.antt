@@ -1,5 +1,5 @@
 -- What the C interface leaves in what it is lent for a type: it is filled by an accepted type, and kept by a refusal.
---   orderIs      the byte order that a flag says
+--   orderOfFlag  the byte order that a flag says
 --   entriesOf    a number of each kind, one after the other, and 0 past the last, of the 64 that there can be
 --   placeNumber, startNumber, orderNumber   these numbers: its place, its start and its order octet
 --   Entries      a struct that has them of each kind
@@ -19,10 +19,10 @@ use Rattle.typecode.specs.declared.TypeAnswer.the-variants.{Accepted as TypeAcc
 use Rattle.cdr.specs.Orders.{orderOctet}
 use Rattle.type_kinds.specs.declared.Kind.{Kind}
 use Rattle.type_list.specs.declared.Met.{Met}
-use Rattle.typecode.specs.TypeCode.{checkedType, answerNumber as typeNumber}
+use Rattle.typecode.specs.TypeCode.{checkedType, typeAnswerNumber as typeNumber}
 
-abbrev pub orderIs : Bool → Order
-orderIs little = cond little Little Big
+abbrev pub orderOfFlag : Bool → Order
+orderOfFlag little = cond little Little Big
 
 abbrev pub entriesOf : (Kind → ℕ) → List Kind → List ℕ
 entriesOf f ks = sets (replicate 64 0) 0 (map f ks)
@@ -51,9 +51,10 @@ usedAfter (TypeAccepted used kinds) before = used ∷ kinds ∷ []
 usedAfter (TypeRefused r) before = before
 usedAfter Loop before = before
 
-pub record ChecksC (v : List ℕ) (little : Bool) (places starts orders numbers : List ℕ) (r : ℕ) (placesLast startsLast ordersLast numbersLast : List ℕ) : Type 0 where
-  pub number : r ≡ typeNumber (checkedType v (orderIs little) .answer)
-  pub places-are : placesLast ≡ metAfter (checkedType v (orderIs little) .answer) (entriesOf placeNumber (checkedType v (orderIs little) .kinds)) places
-  pub starts-are : startsLast ≡ metAfter (checkedType v (orderIs little) .answer) (entriesOf startNumber (checkedType v (orderIs little) .kinds)) starts
-  pub orders-are : ordersLast ≡ metAfter (checkedType v (orderIs little) .answer) (entriesOf orderNumber (checkedType v (orderIs little) .kinds)) orders
-  pub numbers-are : numbersLast ≡ usedAfter (checkedType v (orderIs little) .answer) numbers
+pub record ChecksC (v : List ℕ) (little : Bool) (places starts orders numbers : List ℕ) (r : ℕ)
+    (placesLast startsLast ordersLast numbersLast : List ℕ) : Type 0 where
+  pub number : r ≡ typeNumber (checkedType v (orderOfFlag little) .answer)
+  pub places-are : placesLast ≡ metAfter (checkedType v (orderOfFlag little) .answer) (entriesOf placeNumber (checkedType v (orderOfFlag little) .kinds)) places
+  pub starts-are : startsLast ≡ metAfter (checkedType v (orderOfFlag little) .answer) (entriesOf startNumber (checkedType v (orderOfFlag little) .kinds)) starts
+  pub orders-are : ordersLast ≡ metAfter (checkedType v (orderOfFlag little) .answer) (entriesOf orderNumber (checkedType v (orderOfFlag little) .kinds)) orders
+  pub numbers-are : numbersLast ≡ usedAfter (checkedType v (orderOfFlag little) .answer) numbers

@@ -1,7 +1,7 @@
 -- What the C interface leaves in what it is lent for a value: numbers and items, output and count are filled by an accepted value and kept by
 -- a refusal, and the visits are always told.
 --   valueAt       a value's octets, its order by a flag, and its starting index
---   ReadsC        what a call ensures of a value,
+--   ReadsValueC   what a call ensures of a value,
 --   PicksC        of an item,
 --   RewritesC     and of a value that is rewritten
 use mathlib.Core.Path.{_≡_}
@@ -15,24 +15,24 @@ use lib.ListN.{length}
 use Rattle.rewrite_meaning.specs.Written.{Target}
 use Rattle.rewrite_meaning.specs.Rewriting.{rewriteNumber, writtenCount, rewriteAnswer, outputAfter}
 use Rattle.value.specs.Single.{itemNumber, givenIn, itemAnswer}
-use Rattle.c_values.specs.Types.{orderIs}
+use Rattle.c_values.specs.Types.{orderOfFlag}
 
 abbrev pub valueAt : List ℕ → Bool → ℕ → Source
-valueAt v little start = source v (orderIs little) (indexOf start)
+valueAt v little start = source v (orderOfFlag little) (indexOf start)
 
-pub record ReadsC (t : List ℕ) (little : Bool) (x : Source) (table numbers : List ℕ) (r : ℕ) (tableLast numbersLast : List ℕ)
+pub record ReadsValueC (t : List ℕ) (little : Bool) (x : Source) (table numbers : List ℕ) (r : ℕ) (tableLast numbersLast : List ℕ)
     (visitsLast : ℕ) : Type 0 where
-  pub number : r ≡ valueNumber (valueAnswer t (orderIs little) x (roomIn table))
-  pub table-is : tableLast ≡ tableAfter t (orderIs little) x table
-  pub numbers-are : numbersLast ≡ usedIn (valueAnswer t (orderIs little) x (roomIn table)) numbers
-  pub visits-are : visitsLast ≡ visitsIn (valueAnswer t (orderIs little) x (roomIn table))
+  pub number : r ≡ valueNumber (valueAnswer t (orderOfFlag little) x (roomIn table))
+  pub table-is : tableLast ≡ tableAfter t (orderOfFlag little) x table
+  pub numbers-are : numbersLast ≡ usedIn (valueAnswer t (orderOfFlag little) x (roomIn table)) numbers
+  pub visits-are : visitsLast ≡ visitsIn (valueAnswer t (orderOfFlag little) x (roomIn table))
 
 pub record PicksC (t : List ℕ) (little : Bool) (x : Source) (n : ℕ) (given : List ℕ) (r : ℕ) (givenLast : List ℕ) : Type 0 where
-  pub number : r ≡ itemNumber (itemAnswer t (orderIs little) x n)
-  pub given-is : givenLast ≡ givenIn (itemAnswer t (orderIs little) x n) given
+  pub number : r ≡ itemNumber (itemAnswer t (orderOfFlag little) x n)
+  pub given-is : givenLast ≡ givenIn (itemAnswer t (orderOfFlag little) x n) given
 
 pub record RewritesC (t : List ℕ) (little : Bool) (x : Source) (to : Target) (out : List ℕ) (count r : ℕ) (outLast : List ℕ) (countLast : ℕ) : Type 0
   where
-    pub number : r ≡ rewriteNumber (rewriteAnswer t (orderIs little) x to (length out))
-    pub output : outLast ≡ outputAfter t (orderIs little) x to out
-    pub counted : countLast ≡ writtenCount (rewriteAnswer t (orderIs little) x to (length out)) count
+    pub number : r ≡ rewriteNumber (rewriteAnswer t (orderOfFlag little) x to (length out))
+    pub output : outLast ≡ outputAfter t (orderOfFlag little) x to out
+    pub counted : countLast ≡ writtenCount (rewriteAnswer t (orderOfFlag little) x to (length out)) count

@@ -6,19 +6,19 @@ ghost use Rattle.cdr.specs.Orders.{orderOctet};
 ghost use Rattle.type_list.specs.Arrays.{orderIn, kindsMet};
 ghost use Rattle.rewrite_meaning.specs.Written.{target, unnamedOrder};
 ghost use Rattle.rewrite_meaning.specs.Rewriting.{rewriteNumber, writtenCount};
-ghost use Rattle.c_values.specs.Values.{valueAt, ReadsC, PicksC, RewritesC};
-ghost use Rattle.c_values.specs.Types.{orderIs, Entries, ChecksC};
+ghost use Rattle.c_values.specs.Values.{valueAt, ReadsValueC, PicksC, RewritesC};
+ghost use Rattle.c_values.specs.Types.{orderOfFlag, Entries, ChecksC};
 use cdr::Index;
 use cdr::Order;
+use rewrite_meaning::RewriteAnswer;
 use type_list::Met;
-use value_meaning::ValueAnswer;
 use typecode::TypeAnswer;
 use value::ItemAnswer;
-use rewrite_meaning::RewriteAnswer;
+use value_meaning::ValueAnswer;
 
 // The byte order that a flag says.
 fn order_is(little: bool) -> Order
-    ensures { λ r. ⌜ r ≡ orderIs little ⌝ }
+    ensures { λ r. ⌜ r ≡ orderOfFlag little ⌝ }
 {
     if little { Order::Little } else { Order::Big }
 }
@@ -57,7 +57,10 @@ pub extern "C" fn haulspar_type(
     orders: &mut [u8; type_numbers::KINDS_LIMIT],
     numbers: &mut [u64; 2],
 ) -> u32
-    ensures { λ r. ⌜ ChecksC (now (octets .entry)) little (now (places .entry)) (now (starts .entry)) (now (orders .entry)) (now (numbers .entry)) r (now (places .exit)) (now (starts .exit)) (now (orders .exit)) (now (numbers .exit)) ⌝ }
+    ensures { λ r. ⌜
+        ChecksC (now (octets .entry)) little (now (places .entry)) (now (starts .entry)) (now (orders .entry)) (now (numbers .entry)) r
+        (now (places .exit)) (now (starts .exit)) (now (orders .exit)) (now (numbers .exit))
+        ⌝ }
 {
     let c = typecode::check_type(octets, order_is(little));
     let answer = c.answer;
@@ -82,18 +85,24 @@ pub extern "C" fn haulspar_type(
 // and the items; `visits` gets the visits begun, also of a refused one. `little` says that the type is little-endian, `order` that the value is.
 #[no_mangle]
 pub extern "C" fn haulspar_value(
-    t: &[u8],
+    types: &[u8],
     little: bool,
-    v: &[u8],
+    value: &[u8],
     order: bool,
     start: usize,
     table: &mut [u64],
     numbers: &mut [u64; 2],
     visits: &mut u64,
 ) -> u32
-    ensures { λ r. ⌜ ReadsC (now (t .entry)) little (valueAt (now (v .entry)) order start) (now (table .entry)) (now (numbers .entry)) r (now (table .exit)) (now (numbers .exit)) (now (visits .exit)) ⌝ }
+    ensures { λ r. ⌜
+        ReadsValueC (now (types .entry)) little (valueAt (now (value .entry)) order start) (now (table .entry)) (now (numbers .entry)) r
+        (now (table .exit)) (now (numbers .exit)) (now (visits .exit))
+        ⌝ }
 {
-    let answer = value::read_value(t, order_is(little), v, order_is(order), Index(start), table);
+    let typed = order_is(little);
+    let recorded = order_is(order);
+    let first = Index(start);
+    let answer = value::read_value(types, typed, value, recorded, first, table);
     match answer {
         ValueAnswer::Accepted {
             used,
@@ -118,24 +127,20 @@ pub extern "C" fn haulspar_value(
 // 3 double) and its 64 bits. `little` says that the type is little-endian, `order` that the value is.
 #[no_mangle]
 pub extern "C" fn haulspar_item(
-    t: &[u8],
+    types: &[u8],
     little: bool,
-    v: &[u8],
+    value: &[u8],
     order: bool,
     start: usize,
     number: u64,
     given: &mut [u64; 2],
 ) -> u32
-    ensures { λ r. ⌜ PicksC (now (t .entry)) little (valueAt (now (v .entry)) order start) number (now (given .entry)) r (now (given .exit)) ⌝ }
+    ensures { λ r. ⌜ PicksC (now (types .entry)) little (valueAt (now (value .entry)) order start) number (now (given .entry)) r (now (given .exit)) ⌝ }
 {
-    let answer = value::read_item(
-        t,
-        order_is(little),
-        v,
-        order_is(order),
-        Index(start),
-        number,
-    );
+    let typed = order_is(little);
+    let recorded = order_is(order);
+    let first = Index(start);
+    let answer = value::read_item(types, typed, value, recorded, first, number);
     match answer {
         ItemAnswer::Given(item) => {
             *given = [item.case(), item.bits()];
@@ -149,9 +154,9 @@ pub extern "C" fn haulspar_item(
 // and `count` their number. `little` says that the type is little-endian, `order` that the value is, `to` that the chosen order is.
 #[no_mangle]
 pub extern "C" fn haulspar_rewrite(
-    t: &[u8],
+    types: &[u8],
     little: bool,
-    v: &[u8],
+    value: &[u8],
     order: bool,
     start: usize,
     to: bool,
@@ -159,16 +164,21 @@ pub extern "C" fn haulspar_rewrite(
     out: &mut [u8],
     count: &mut u64,
 ) -> u32
-    ensures { λ r. ⌜ RewritesC (now (t .entry)) little (valueAt (now (v .entry)) order start) (target (orderIs to) (indexOf index)) (now (out .entry)) (now (count .entry)) r (now (out .exit)) (now (count .exit)) ⌝ }
+    ensures { λ r. ⌜
+        RewritesC (now (types .entry)) little (valueAt (now (value .entry)) order start) (target (orderOfFlag to) (indexOf index)) (now (out .entry))
+        (now (count .entry)) r (now (out .exit)) (now (count .exit))
+        ⌝ }
 {
     let typed = order_is(little);
     let chosen = order_is(to);
+    let recorded = order_is(order);
+    let first = Index(start);
     let answer = rewrite::rewrite(
-        t,
+        types,
         typed,
-        v,
-        order_is(order),
-        Index(start),
+        value,
+        recorded,
+        first,
         chosen,
         Index(index),
         out,
@@ -180,27 +190,24 @@ pub extern "C" fn haulspar_rewrite(
 // The same where no order is named.
 #[no_mangle]
 pub extern "C" fn haulspar_rewrite_unnamed(
-    t: &[u8],
+    types: &[u8],
     little: bool,
-    v: &[u8],
+    value: &[u8],
     order: bool,
     start: usize,
     index: usize,
     out: &mut [u8],
     count: &mut u64,
 ) -> u32
-    ensures { λ r. ⌜ RewritesC (now (t .entry)) little (valueAt (now (v .entry)) order start) (target unnamedOrder (indexOf index)) (now (out .entry)) (now (count .entry)) r (now (out .exit)) (now (count .exit)) ⌝ }
+    ensures { λ r. ⌜
+        RewritesC (now (types .entry)) little (valueAt (now (value .entry)) order start) (target unnamedOrder (indexOf index)) (now (out .entry))
+        (now (count .entry)) r (now (out .exit)) (now (count .exit))
+        ⌝ }
 {
     let typed = order_is(little);
-    let answer = rewrite::rewrite_unnamed(
-        t,
-        typed,
-        v,
-        order_is(order),
-        Index(start),
-        Index(index),
-        out,
-    );
+    let recorded = order_is(order);
+    let first = Index(start);
+    let answer = rewrite::rewrite_unnamed(types, typed, value, recorded, first, Index(index), out);
     *count = rewritten_count(answer, *count);
     rewritten_number(answer)
 }

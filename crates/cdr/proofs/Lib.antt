@@ -1,3 +1,4 @@
 -- Laws that other crates cite.
 pub mod Alignment
 pub mod Numbers
+pub mod RoomFits

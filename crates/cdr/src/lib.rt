@@ -4,11 +4,22 @@ ghost use mathlib.Core.Path.{_≡_};
 ghost use Rattle.cdr.specs.Align.{octets, gap, alignedOf};
 ghost use Rattle.cdr.specs.Orders.{orderOctet, orderOf};
 ghost use Rattle.cdr.specs.Number.{readOf, signExtended};
+ghost use Rattle.cdr.specs.Limit.{fits};
 
 mod load;
 
 // The most octets of a TypeCode, a value or a profile body.
 pub const OCTETS_LIMIT: usize = 16384;
+
+// Whether `count` octets fit from `at` on in `len`.
+pub fn fits(len: usize, at: usize, count: usize) -> bool
+    ensures { λ r. ⌜ r ≡ fits len at count ⌝ }
+{
+    if len < at {
+        return false;
+    }
+    count <= len - at
+}
 
 // A byte order.
 pub enum Order {

@@ -1,3 +1,5 @@
 -- Laws that other crates cite.
-pub mod Fields
-pub mod Found
+pub mod FieldsRead
+pub mod FieldsWithin
+pub mod ExtentsTaken
+pub mod TaggedWithin

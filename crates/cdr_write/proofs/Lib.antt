@@ -1,2 +1,3 @@
--- Runs of stores.
-pub mod Stores
+-- Laws that other crates cite.
+pub mod BufferHolds
+pub mod PiecesWritten

@@ -1,2 +1,3 @@
--- Octets stored in lent memory.
+-- Octets stored in lent memory, and pieces written one after the other.
 pub mod Write
+pub mod Pieces

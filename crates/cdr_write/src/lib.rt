@@ -5,7 +5,6 @@ ghost use Rattle.cdr.specs.Number.{octetsOf};
 ghost use Rattle.cdr_write.specs.Write.{Stored};
 use cdr::Order;
 use cdr::Size;
-use cdr_text::Run;
 
 mod store;
 
@@ -19,31 +18,32 @@ pub enum Written {
 pub fn write_number(out: &mut [u8], at: usize, size: Size, order: Order, x: u64) -> Written
     ensures { λ r. ⌜ Stored (now (out .entry)) at (octetsOf order (octets size) x) r (now (out .exit)) ⌝ }
 {
-    let Run::To(end) = cdr_text::read_run(out, at, size.octets()) else {
-        return Written::NoRoom;
-    };
-    store::number(out, at, size, order, x);
-    Written::Upto(end)
+    let count = size.octets();
+    if cdr::fits(out.len(), at, count) {
+        store::number(out, at, size, order, x);
+        return Written::Upto(at + count);
+    }
+    Written::NoRoom
 }
 
 // Writes zeros from `at` on, as a gap holds them.
 pub fn write_zeros(out: &mut [u8], at: usize, count: usize) -> Written
     ensures { λ r. ⌜ Stored (now (out .entry)) at (replicate count 0) r (now (out .exit)) ⌝ }
 {
-    let Run::To(end) = cdr_text::read_run(out, at, count) else {
-        return Written::NoRoom;
-    };
-    store::zeros(out, at, count);
-    Written::Upto(end)
+    if cdr::fits(out.len(), at, count) {
+        store::zeros(out, at, count);
+        return Written::Upto(at + count);
+    }
+    Written::NoRoom
 }
 
 // Writes octets from `at` on, as they are.
 pub fn write_octets(out: &mut [u8], at: usize, octets: &[u8]) -> Written
     ensures { λ r. ⌜ Stored (now (out .entry)) at (now («octets» .entry)) r (now (out .exit)) ⌝ }
 {
-    let Run::To(end) = cdr_text::read_run(out, at, octets.len()) else {
-        return Written::NoRoom;
-    };
-    store::copy(out, at, octets);
-    Written::Upto(end)
+    if cdr::fits(out.len(), at, octets.len()) {
+        store::copy(out, at, octets);
+        return Written::Upto(at + octets.len());
+    }
+    Written::NoRoom
 }

@@ -10,7 +10,7 @@ use Rattle.choices.proofs.Choices.{clash}
 use Rattle.cdr_write.specs.declared.Written.{Written}
 use Rattle.cdr_write.specs.declared.Written.the-variants.{Upto, NoRoom}
 use Rattle.cdr_write.specs.Write.{Stored}
-use Rattle.cdr_write.proofs.Stores.{sets-append, take-stored, stored-upto, stored-fits}
+use Rattle.cdr_write.proofs.BufferHolds.{sets-append, take-stored, stored-upto, stored-fits}
 use Rattle.decimals.specs.Decimal.{decimal}
 use Rattle.decimals.specs.Puts.{Put}
 use Rattle.decimals.proofs.Decimal.{decimal-most}

@@ -13,8 +13,9 @@ use Rattle.frame.specs.declared.Frame.{Frame}
 use Rattle.frame.specs.declared.Frame.the-variants.{Accepted, Refused}
 use Rattle.frame.specs.declared.Refusal.{Refusal}
 use Rattle.frame.specs.declared.Refusal.the-variants.{TooLong, Short, NotGiop, NoSuchVersion, NoSuchFlags, NoSuchType, SizeAbove, SizeBelow, SizeOfType, NoFragments, NotInEights}
-use Rattle.frame.specs.Messages.{versionExists, flagsAllowed, typeExists}
-use Rattle.frame.specs.Header.{headerSize, giop, magicAt, majorAt, minorAt, flagsAt, kindAt, moreAt, sizeAt, headerOf}
+use Rattle.version.specs.Versions.{flagsAllowed, typeExists}
+use Rattle.frame.specs.Messages.{versionExists}
+use Rattle.frame.specs.Header.{headerSize, giop, magicAt, majorAt, minorAt, flagsAt, messageTypeAt, moreAt, sizeAt, headerOf}
 use Rattle.frame.specs.Frames.{messageLimit, sizeAllowed, fragmentAllowed, eightsAllowed, sizedOf, messageOf, frameOf}
 
 pub record Accepts (v : List ℕ) (h : Header) : Type 0 where
@@ -23,9 +24,9 @@ pub record Accepts (v : List ℕ) (h : Header) : Type 0 where
   pub magic : magicAt v ≡ giop
   pub version : versionExists (majorAt v) (minorAt v) ≡ true
   pub flags : flagsAllowed (minorAt v) (flagsAt v) ≡ true
-  pub kind : typeExists (minorAt v) (kindAt v) ≡ true
-  pub size : sizeAllowed (minorAt v) (kindAt v) (sizeAt v) ≡ true
-  pub fragment : fragmentAllowed (minorAt v) (kindAt v) (moreAt v) ≡ true
+  pub kind : typeExists (minorAt v) (messageTypeAt v) ≡ true
+  pub size : sizeAllowed (minorAt v) (messageTypeAt v) (sizeAt v) ≡ true
+  pub fragment : fragmentAllowed (minorAt v) (messageTypeAt v) (moreAt v) ≡ true
   pub eights : eightsAllowed (moreAt v) (sizeAt v) ≡ true
 
 -- a row that does not refuse lets the rest decide
@@ -49,11 +50,11 @@ message-accepts v h e =
     let giop = passes (not (eqb (magicAt v) giop)) NotGiop _ h (short .1) in
     let version = passes (not (versionExists (majorAt v) (minorAt v))) NoSuchVersion _ h (giop .1) in
     let flags = passes (not (flagsAllowed (minorAt v) (flagsAt v))) NoSuchFlags _ h (version .1) in
-    let kind = passes (not (typeExists (minorAt v) (kindAt v))) NoSuchType _ h (flags .1) in
+    let kind = passes (not (typeExists (minorAt v) (messageTypeAt v))) NoSuchType _ h (flags .1) in
     let above = passes (ltb (length v - headerSize) (sizeAt v)) SizeAbove _ h (kind .1) in
     let below = passes (ltb (sizeAt v) (length v - headerSize)) SizeBelow _ h (above .1) in
-    let size = passes (not (sizeAllowed (minorAt v) (kindAt v) (sizeAt v))) SizeOfType _ h (below .1) in
-    let fragment = passes (not (fragmentAllowed (minorAt v) (kindAt v) (moreAt v))) NoFragments _ h (size .1) in
+    let size = passes (not (sizeAllowed (minorAt v) (messageTypeAt v) (sizeAt v))) SizeOfType _ h (below .1) in
+    let fragment = passes (not (fragmentAllowed (minorAt v) (messageTypeAt v) (moreAt v))) NoFragments _ h (size .1) in
     let eights = passes (not (eightsAllowed (moreAt v) (sizeAt v))) NotInEights _ h (fragment .1) in
     let a : headerSize ≤ length v = ltb-false (length v) headerSize (short .0) in
     let b : sizeAt v ≤ length v - headerSize = ltb-false (length v - headerSize) (sizeAt v) (above .0) in

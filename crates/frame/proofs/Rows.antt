@@ -9,8 +9,9 @@ use lib.ListN.{length}
 use borrow.Author.Tests.{lt-ltb, le-ltb, eq-eqb, ne-eqb, leb-true, eqb-true}
 use Rattle.frame.specs.declared.Frame.the-variants.{Accepted, Refused}
 use Rattle.frame.specs.declared.Refusal.the-variants.{TooLong, Short, NotGiop, NoSuchVersion, NoSuchFlags, NoSuchType, SizeAbove, SizeBelow, SizeOfType, NoFragments, NotInEights}
-use Rattle.frame.specs.Messages.{versionExists, flagsAllowed, typeExists, isRequestOrReply, bodyStartsWithId, hasRequestId}
-use Rattle.frame.specs.Header.{headerSize, giop, magicAt, majorAt, flagsAt, minorAt, kindAt, moreAt, sizeAt, headerOf}
+use Rattle.version.specs.Versions.{flagsAllowed, typeExists, bodyStartsWithId}
+use Rattle.frame.specs.Messages.{versionExists, isRequestOrReply, hasRequestId}
+use Rattle.frame.specs.Header.{headerSize, giop, magicAt, majorAt, flagsAt, minorAt, messageTypeAt, moreAt, sizeAt, headerOf}
 use Rattle.frame.specs.Inner.{IdThere}
 use Rattle.frame.specs.Frames.{messageLimit, sizeAllowed, fragmentAllowed, eightsAllowed, sizedOf, messageOf, frameOf}
 
@@ -45,22 +46,22 @@ module _ (v : List ℕ) where
   sized-below h = rw (le-ltb (length v - headerSize) (sizeAt v) (omega arith), lt-ltb (sizeAt v) (length v - headerSize) h)
 
   module _ (e : sizeAt v ≡ length v - headerSize) where
-    pub sized-of-type : sizeAllowed (minorAt v) (kindAt v) (sizeAt v) ≡ false → sizedOf v ≡ Refused SizeOfType
+    pub sized-of-type : sizeAllowed (minorAt v) (messageTypeAt v) (sizeAt v) ≡ false → sizedOf v ≡ Refused SizeOfType
     unfolding sizedOf
     sized-of-type a =
         rw (le-ltb (length v - headerSize) (sizeAt v) (omega arith), le-ltb (sizeAt v) (length v - headerSize) (omega arith), a)
 
-    module _ (a : sizeAllowed (minorAt v) (kindAt v) (sizeAt v) ≡ true) where
+    module _ (a : sizeAllowed (minorAt v) (messageTypeAt v) (sizeAt v) ≡ true) where
       pub id-there : headerSize ≤ length v → IdThere v
       id-there h =
-          record { header = h; id = λ k. let f = id-fits (minorAt v) (kindAt v) (sizeAt v) a k in omega arith }
+          record { header = h; id = λ k. let f = id-fits (minorAt v) (messageTypeAt v) (sizeAt v) a k in omega arith }
 
-      pub sized-fragmented : fragmentAllowed (minorAt v) (kindAt v) (moreAt v) ≡ false → sizedOf v ≡ Refused NoFragments
+      pub sized-fragmented : fragmentAllowed (minorAt v) (messageTypeAt v) (moreAt v) ≡ false → sizedOf v ≡ Refused NoFragments
       unfolding sizedOf
       sized-fragmented f =
           rw (le-ltb (length v - headerSize) (sizeAt v) (omega arith), le-ltb (sizeAt v) (length v - headerSize) (omega arith), a, f)
 
-      module _ (f : fragmentAllowed (minorAt v) (kindAt v) (moreAt v) ≡ true) where
+      module _ (f : fragmentAllowed (minorAt v) (messageTypeAt v) (moreAt v) ≡ true) where
         pub sized-last : (t : Bool) → eightsAllowed (moreAt v) (sizeAt v) ≡ t → sizedOf v ≡ cond t (Accepted (headerOf v)) (Refused NotInEights)
         unfolding sizedOf
         sized-last true g =
@@ -90,7 +91,7 @@ module _ (v : List ℕ) where
     module _ (m : magicAt v ≡ giop) where
       -- the three rows that are left before the size, by their tests
       pub message-by : (a b c : Bool) → versionExists (majorAt v) (minorAt v) ≡ a → flagsAllowed (minorAt v) (flagsAt v) ≡ b
-          → typeExists (minorAt v) (kindAt v) ≡ c
+          → typeExists (minorAt v) (messageTypeAt v) ≡ c
           → messageOf v ≡ cond a (cond b (cond c (sizedOf v) (Refused NoSuchType)) (Refused NoSuchFlags)) (Refused NoSuchVersion)
       unfolding messageOf
       message-by false b c e f g = rw (le-ltb (length v) headerSize s, eq-eqb (magicAt v) giop m, e)

@@ -7,7 +7,7 @@
 --   sizedOf            17 to 21, then what the header says
 --   messageOf          12 to 21 of a message of any length
 --   frameOf            "An entry that takes a line's octets gives 10 above 4,096", then 12 to 21
---   refusalNumber      the number of each row
+--   rowNumber          the number of each row
 --   frameNumber        the number of each answer, 0 for an accepted frame
 --   idNumbers          1 and the request id, or "other numbers are 0"
 --   headerNumbers      minor, order, more, type, size, and the request id's two
@@ -24,18 +24,20 @@ use Rattle.frame.specs.declared.Header.{Header}
 use Rattle.frame.specs.declared.Frame.{Frame}
 use Rattle.frame.specs.declared.Frame.the-variants.{Accepted, Refused}
 use Rattle.frame.specs.declared.Refusal.{Refusal}
-use Rattle.frame.specs.declared.Refusal.the-variants.{TooLong, Short, NotGiop, NoSuchVersion, NoSuchFlags, NoSuchType, SizeAbove, SizeBelow, SizeOfType, NoFragments, NotInEights}
-use Rattle.frame.specs.Messages.{versionExists, flagsAllowed, typeExists, bodyStartsWithId, readsFragments, isRequestOrReply, isCancel, isFragment, isBare}
-use Rattle.frame.specs.Header.{headerSize, giop, magicAt, majorAt, minorAt, flagsAt, kindAt, moreAt, sizeAt, headerOf}
+use Rattle.frame.specs.declared.Refusal.the-variants.{TooLong, Short, NotGiop, NoSuchVersion, NoSuchFlags, NoSuchType}
+use Rattle.frame.specs.declared.Refusal.the-variants.{SizeAbove, SizeBelow, SizeOfType, NoFragments, NotInEights}
+use Rattle.version.specs.Versions.{flagsAllowed, typeExists, bodyStartsWithId, readsFragments}
+use Rattle.frame.specs.Messages.{versionExists, idSize, isRequestOrReply, isCancel, isFragment, isBare}
+use Rattle.frame.specs.Header.{headerSize, giop, magicAt, majorAt, minorAt, flagsAt, messageTypeAt, moreAt, sizeAt, headerOf}
 
 abbrev pub messageLimit : ℕ
 messageLimit = 4096
 
 unfoldable pub sizeAllowed : ℕ → ℕ → ℕ → Bool
 sizeAllowed minor kind size =
-    cond (isRequestOrReply kind) (leb (cond (bodyStartsWithId minor) 4 1) size)
-    (cond (isFragment kind) (leb 4 size)
-    (cond (isCancel kind) (eqb size 4)
+    cond (isRequestOrReply kind) (leb (cond (bodyStartsWithId minor) idSize 1) size)
+    (cond (isFragment kind) (leb idSize size)
+    (cond (isCancel kind) (eqb size idSize)
     (eqb size 0)))
 
 unfoldable pub fragmentAllowed : ℕ → ℕ → Bool → Bool
@@ -50,8 +52,8 @@ unfoldable pub sizedOf : List ℕ → Frame
 sizedOf v =
     cond (ltb (length v - headerSize) (sizeAt v)) (Refused SizeAbove)
     (cond (ltb (sizeAt v) (length v - headerSize)) (Refused SizeBelow)
-    (cond (not (sizeAllowed (minorAt v) (kindAt v) (sizeAt v))) (Refused SizeOfType)
-    (cond (not (fragmentAllowed (minorAt v) (kindAt v) (moreAt v))) (Refused NoFragments)
+    (cond (not (sizeAllowed (minorAt v) (messageTypeAt v) (sizeAt v))) (Refused SizeOfType)
+    (cond (not (fragmentAllowed (minorAt v) (messageTypeAt v) (moreAt v))) (Refused NoFragments)
     (cond (not (eightsAllowed (moreAt v) (sizeAt v))) (Refused NotInEights)
     (Accepted (headerOf v))))))
 
@@ -61,28 +63,28 @@ messageOf v =
     (cond (not (eqb (magicAt v) giop)) (Refused NotGiop)
     (cond (not (versionExists (majorAt v) (minorAt v))) (Refused NoSuchVersion)
     (cond (not (flagsAllowed (minorAt v) (flagsAt v))) (Refused NoSuchFlags)
-    (cond (not (typeExists (minorAt v) (kindAt v))) (Refused NoSuchType)
+    (cond (not (typeExists (minorAt v) (messageTypeAt v))) (Refused NoSuchType)
     (sizedOf v)))))
 
 unfoldable pub frameOf : List ℕ → Frame
 frameOf v = cond (ltb messageLimit (length v)) (Refused TooLong) (messageOf v)
 
-abbrev pub refusalNumber : Refusal → ℕ
-refusalNumber TooLong = 10
-refusalNumber Short = 12
-refusalNumber NotGiop = 13
-refusalNumber NoSuchVersion = 14
-refusalNumber NoSuchFlags = 15
-refusalNumber NoSuchType = 16
-refusalNumber SizeAbove = 17
-refusalNumber SizeBelow = 18
-refusalNumber SizeOfType = 19
-refusalNumber NoFragments = 20
-refusalNumber NotInEights = 21
+abbrev pub rowNumber : Refusal → ℕ
+rowNumber TooLong = 10
+rowNumber Short = 12
+rowNumber NotGiop = 13
+rowNumber NoSuchVersion = 14
+rowNumber NoSuchFlags = 15
+rowNumber NoSuchType = 16
+rowNumber SizeAbove = 17
+rowNumber SizeBelow = 18
+rowNumber SizeOfType = 19
+rowNumber NoFragments = 20
+rowNumber NotInEights = 21
 
 abbrev pub frameNumber : Frame → ℕ
 frameNumber (Accepted h) = 0
-frameNumber (Refused r) = refusalNumber r
+frameNumber (Refused r) = rowNumber r
 
 abbrev pub idNumbers : RequestId → List ℕ
 idNumbers (Id x) = 1 ∷ x ∷ []
@@ -93,4 +95,4 @@ headerNumbers h = h .minor ∷ orderOctet (h .order) ∷ cond (h .more) 1 0 ∷ 
 
 abbrev pub frameNumbers : Frame → List ℕ
 frameNumbers (Accepted h) = 0 ∷ headerNumbers h
-frameNumbers (Refused r) = refusalNumber r ∷ replicate 7 0
+frameNumbers (Refused r) = rowNumber r ∷ replicate 7 0

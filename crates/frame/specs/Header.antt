@@ -1,4 +1,10 @@
 -- "Twelve octets: `GIOP` (47 49 4F 50), major, minor, flags, type, size as unsigned long."
+--   magicOffset   where a header has its magic,
+--   majorOffset   major version,
+--   minorOffset   minor version,
+--   flagsOffset   flags,
+--   typeOffset    type,
+--   sizeOffset    and size
 --   headerSize    the octets of a header
 --   giop          the magic, as a number of four octets
 --   orderFlag     "Flag bit 0 is 1 for little-endian"
@@ -7,7 +13,7 @@
 --   majorAt       major version,
 --   minorAt       minor version,
 --   flagsAt       flags,
---   kindAt        type,
+--   messageTypeAt    type,
 --   orderAt       the byte order that the flags name,
 --   moreAt        whether more fragments follow,
 --   sizeAt        and size
@@ -24,7 +30,25 @@ use Rattle.cdr.specs.Number.{numberAt}
 use Rattle.frame.specs.declared.RequestId.{RequestId}
 use Rattle.frame.specs.declared.RequestId.the-variants.{Id, NoId}
 use Rattle.frame.specs.declared.Header.{Header}
-use Rattle.frame.specs.Messages.{hasRequestId}
+use Rattle.frame.specs.Messages.{idSize, hasRequestId}
+
+abbrev pub magicOffset : ℕ
+magicOffset = 0
+
+abbrev pub majorOffset : ℕ
+majorOffset = 4
+
+abbrev pub minorOffset : ℕ
+minorOffset = 5
+
+abbrev pub flagsOffset : ℕ
+flagsOffset = 6
+
+abbrev pub typeOffset : ℕ
+typeOffset = 7
+
+abbrev pub sizeOffset : ℕ
+sizeOffset = 8
 
 abbrev pub headerSize : ℕ
 headerSize = 12
@@ -39,19 +63,19 @@ abbrev pub moreFlag : ℕ → Bool
 moreFlag flags = eqb (flags / 2 % 2) 1
 
 abbrev pub magicAt : List ℕ → ℕ
-magicAt v = numberAt v 0 4 Big
+magicAt v = numberAt v magicOffset 4 Big
 
 abbrev pub majorAt : List ℕ → ℕ
-majorAt v = getD v 4 0
+majorAt v = getD v majorOffset 0
 
 abbrev pub minorAt : List ℕ → ℕ
-minorAt v = getD v 5 0
+minorAt v = getD v minorOffset 0
 
 abbrev pub flagsAt : List ℕ → ℕ
-flagsAt v = getD v 6 0
+flagsAt v = getD v flagsOffset 0
 
-abbrev pub kindAt : List ℕ → ℕ
-kindAt v = getD v 7 0
+abbrev pub messageTypeAt : List ℕ → ℕ
+messageTypeAt v = getD v typeOffset 0
 
 abbrev pub orderAt : List ℕ → Order
 orderAt v = orderFlag (flagsAt v)
@@ -60,10 +84,10 @@ abbrev pub moreAt : List ℕ → Bool
 moreAt v = moreFlag (flagsAt v)
 
 abbrev pub sizeAt : List ℕ → ℕ
-sizeAt v = numberAt v 8 4 (orderAt v)
+sizeAt v = numberAt v sizeOffset 4 (orderAt v)
 
 abbrev pub idAt : List ℕ → RequestId
-idAt v = cond (hasRequestId (minorAt v) (kindAt v)) (Id (numberAt v headerSize 4 (orderAt v))) NoId
+idAt v = cond (hasRequestId (minorAt v) (messageTypeAt v)) (Id (numberAt v headerSize idSize (orderAt v))) NoId
 
 abbrev pub headerOf : List ℕ → Header
-headerOf v = record { minor = minorAt v; order = orderAt v; more = moreAt v; kind = kindAt v; size = sizeAt v; id = idAt v }
+headerOf v = record { minor = minorAt v; order = orderAt v; more = moreAt v; kind = messageTypeAt v; size = sizeAt v; id = idAt v }

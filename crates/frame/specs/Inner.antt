@@ -5,9 +5,9 @@ use mathlib.Core.Bool.{true}
 use mathlib.Core.List.{List}
 use Prim.Native.Nat.{ℕ, _+_, _≤_}
 use lib.ListN.{length}
-use Rattle.frame.specs.Messages.{hasRequestId}
-use Rattle.frame.specs.Header.{headerSize, minorAt, kindAt}
+use Rattle.frame.specs.Messages.{idSize, hasRequestId}
+use Rattle.frame.specs.Header.{headerSize, minorAt, messageTypeAt}
 
 pub record IdThere (v : List ℕ) : Type 0 where
   pub header : headerSize ≤ length v
-  pub id : hasRequestId (minorAt v) (kindAt v) ≡ true → headerSize + 4 ≤ length v
+  pub id : hasRequestId (minorAt v) (messageTypeAt v) ≡ true → headerSize + idSize ≤ length v

@@ -4,7 +4,7 @@ ghost use Prim.Native.Nat.{_≤_};
 ghost use lib.ListN.{length};
 ghost use Rattle.frame.specs.Header.{headerSize, orderFlag, moreFlag, idAt};
 ghost use Rattle.frame.specs.Inner.{IdThere};
-ghost use Rattle.frame.specs.Frames.{sizedOf, messageOf, frameOf, refusalNumber};
+ghost use Rattle.frame.specs.Frames.{sizedOf, messageOf, frameOf, rowNumber};
 use cdr::Order;
 
 mod fields;
@@ -44,7 +44,7 @@ pub enum Refusal {
 impl Refusal {
     // The paper's number of the row.
     pub fn number(self) -> u32
-        ensures { λ r. ⌜ r ≡ refusalNumber self ⌝ }
+        ensures { λ r. ⌜ r ≡ rowNumber self ⌝ }
     {
         match self {
             Refusal::TooLong => refusals::LINE_TOO_LONG,
@@ -73,8 +73,21 @@ pub const CANCEL_REQUEST: u8 = 2;
 
 pub const FRAGMENT: u8 = 7;
 
+// Where a header has its fields: magic, major and minor version, flags, type and size.
+const MAGIC_OFFSET: usize = 0;
+
+const MAJOR_OFFSET: usize = 4;
+
+pub const MINOR_OFFSET: usize = 5;
+
+pub const FLAGS_OFFSET: usize = 6;
+
+const TYPE_OFFSET: usize = 7;
+
+pub const SIZE_OFFSET: usize = 8;
+
 // The octets of a header.
-const HEADER_SIZE: usize = 12;
+pub const HEADER_SIZE: usize = 12;
 
 // The most octets of a line's message.
 pub const MESSAGE_LIMIT: usize = 4096;
@@ -99,16 +112,16 @@ pub fn judge_message(octets: &[u8]) -> Frame
     if octets.len() < HEADER_SIZE {
         return Frame::Refused(Refusal::Short);
     }
-    if fields::word(octets, 0, Order::Big) != GIOP {
+    if fields::word(octets, MAGIC_OFFSET, Order::Big) != GIOP {
         return Frame::Refused(Refusal::NotGiop);
     }
-    if !rules::version_exists(octets[4], octets[5]) {
+    if !rules::version_exists(octets[MAJOR_OFFSET], octets[MINOR_OFFSET]) {
         return Frame::Refused(Refusal::NoSuchVersion);
     }
-    if !rules::flags_allowed(octets[5], octets[6]) {
+    if !version::flags_allowed(octets[MINOR_OFFSET], octets[FLAGS_OFFSET]) {
         return Frame::Refused(Refusal::NoSuchFlags);
     }
-    if !rules::type_exists(octets[5], octets[7]) {
+    if !version::type_exists(octets[MINOR_OFFSET], octets[TYPE_OFFSET]) {
         return Frame::Refused(Refusal::NoSuchType);
     }
     sized(octets)
@@ -119,11 +132,11 @@ fn sized(octets: &[u8]) -> Frame
     requires { ⌜ headerSize ≤ length (now octets) ⌝ }
     ensures { λ r. ⌜ r ≡ sizedOf (now (octets .entry)) ⌝ }
 {
-    let minor = octets[5];
-    let order = order_flag(octets[6]);
-    let more = more_flag(octets[6]);
-    let kind = octets[7];
-    let size = fields::word(octets, 8, order);
+    let minor = octets[MINOR_OFFSET];
+    let order = order_flag(octets[FLAGS_OFFSET]);
+    let more = more_flag(octets[FLAGS_OFFSET]);
+    let kind = octets[TYPE_OFFSET];
+    let size = fields::word(octets, SIZE_OFFSET, order);
     let body = octets.len() - HEADER_SIZE;
     if body < size as usize {
         return Frame::Refused(Refusal::SizeAbove);
@@ -159,8 +172,8 @@ fn request_id(octets: &[u8]) -> RequestId
     requires { ⌜ IdThere (now octets) ⌝ }
     ensures { λ r. ⌜ r ≡ idAt (now (octets .entry)) ⌝ }
 {
-    if rules::has_request_id(octets[5], octets[7]) {
-        RequestId::Id(fields::word(octets, HEADER_SIZE, order_flag(octets[6])))
+    if rules::has_request_id(octets[MINOR_OFFSET], octets[TYPE_OFFSET]) {
+        RequestId::Id(fields::word(octets, HEADER_SIZE, order_flag(octets[FLAGS_OFFSET])))
     } else {
         RequestId::NoId
     }

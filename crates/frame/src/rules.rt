@@ -1,36 +1,19 @@
-// The rules of the versions and the table, as tests on numbers.
+// The rules of the table, as tests on numbers.
 ghost use mathlib.Core.Path.{_≡_};
-ghost use Rattle.frame.specs.Messages.{versionExists, flagsAllowed, typeExists, bodyStartsWithId, readsFragments, isRequestOrReply, isBare, hasRequestId};
+ghost use Rattle.frame.specs.Messages.{versionExists, isRequestOrReply, isBare, hasRequestId};
 ghost use Rattle.frame.specs.Frames.{sizeAllowed, fragmentAllowed, eightsAllowed};
 use crate::CANCEL_REQUEST;
 use crate::FRAGMENT;
+use crate::HEADER_SIZE;
+
+// The octets of a request id.
+const ID_SIZE: u32 = 4;
 
 // Whether the version is one of GIOP's that are read here.
 pub(crate) fn version_exists(major: u8, minor: u8) -> bool
     ensures { λ r. ⌜ r ≡ versionExists major minor ⌝ }
 {
     version::major_exists(major) && version::minor_exists(minor)
-}
-
-// Whether the version allows these flags.
-pub(crate) fn flags_allowed(minor: u8, flags: u8) -> bool
-    ensures { λ r. ⌜ r ≡ flagsAllowed minor flags ⌝ }
-{
-    if minor == 0 { flags <= 1 } else { flags <= 3 }
-}
-
-// Whether the version has this message type.
-pub(crate) fn type_exists(minor: u8, kind: u8) -> bool
-    ensures { λ r. ⌜ r ≡ typeExists minor kind ⌝ }
-{
-    if minor == 0 { kind <= 6 } else { kind <= 7 }
-}
-
-// Whether the first four body octets are the request id from this version on.
-fn body_starts_with_id(minor: u8) -> bool
-    ensures { λ r. ⌜ r ≡ bodyStartsWithId minor ⌝ }
-{
-    2 <= minor
 }
 
 // Whether the type is Request, Reply, LocateRequest or LocateReply.
@@ -45,7 +28,7 @@ pub(crate) fn has_request_id(minor: u8, kind: u8) -> bool
     ensures { λ r. ⌜ r ≡ hasRequestId minor kind ⌝ }
 {
     kind == CANCEL_REQUEST
-        || body_starts_with_id(minor) && (is_request_or_reply(kind) || kind == FRAGMENT)
+        || version::body_starts_with_id(minor) && (is_request_or_reply(kind) || kind == FRAGMENT)
 }
 
 // Whether a message of this type may have this size.
@@ -53,17 +36,17 @@ pub(crate) fn size_allowed(minor: u8, kind: u8, size: u32) -> bool
     ensures { λ r. ⌜ r ≡ sizeAllowed minor kind size ⌝ }
 {
     if is_request_or_reply(kind) {
-        return if body_starts_with_id(minor) {
-            4 <= size
+        return if version::body_starts_with_id(minor) {
+            ID_SIZE <= size
         } else {
             1 <= size
         };
     }
     if kind == FRAGMENT {
-        return 4 <= size;
+        return ID_SIZE <= size;
     }
     if kind == CANCEL_REQUEST {
-        return size == 4;
+        return size == ID_SIZE;
     }
     size == 0
 }
@@ -75,18 +58,11 @@ fn is_bare(kind: u8) -> bool
     5 <= kind && kind <= 6
 }
 
-// Whether the version's fragments are read.
-fn reads_fragments(minor: u8) -> bool
-    ensures { λ r. ⌜ r ≡ readsFragments minor ⌝ }
-{
-    minor != 1
-}
-
 // Whether a message of this type may be a fragment, or have fragments after it.
 pub(crate) fn fragment_allowed(minor: u8, kind: u8, more: bool) -> bool
     ensures { λ r. ⌜ r ≡ fragmentAllowed minor kind more ⌝ }
 {
-    if !reads_fragments(minor) {
+    if !version::reads_fragments(minor) {
         return if kind == FRAGMENT { false } else { !more };
     }
     if more {
@@ -104,7 +80,7 @@ pub(crate) fn eights_allowed(more: bool, size: u32) -> bool
     ensures { λ r. ⌜ r ≡ eightsAllowed more size ⌝ }
 {
     if more {
-        (size as u64 + 12) % 8 == 0
+        (size as u64 + HEADER_SIZE as u64) % 8 == 0
     } else {
         true
     }

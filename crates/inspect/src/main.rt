@@ -1,11 +1,10 @@
 // Answers questions about types, values and profiles: each line of standard input is a question, each line of standard output its answer. A
 // read or a write that fails is said on standard error, and no more answers are written.
-use libc::STDERR_FILENO;
+use ask_answers::LONGEST;
+use ask_answers::TABLE_ROOM;
 use libc::STDIN_FILENO;
-use libc::STDOUT_FILENO;
+use program::READS;
 use questions::LINE_ROOM;
-use questions::LONGEST;
-use questions::TABLE_ROOM;
 
 // The characters that answers are gathered to, at least, before they are written.
 const GATHERED: usize = 65536;
@@ -31,8 +30,7 @@ fn main() {
 // Reads standard input to its end, and writes the answer of every line that ends in an LF.
 fn read_all(block: &mut [u8], line: &mut [u8], out: &mut [u8], table: &mut [u64]) -> Standing {
     let mut kept = 0;
-    // A proved loop has to end, and nothing says that the input does: no run uses up so many turns.
-    let mut turns = u64::MAX;
+    let mut turns = READS;
     while turns > 0 {
         let got = libc::read(STDIN_FILENO, block);
         if got < 0 {
@@ -70,7 +68,7 @@ fn take_block(
             return stuck();
         }
         from = next;
-        if !write_text(out, done.filled) {
+        if !program::write_text(out, done.filled) {
             return stopped();
         }
     }
@@ -85,19 +83,6 @@ fn end_line(line: &mut [u8], out: &mut [u8], table: &mut [u64], kept: usize) {
     take_block(b"\n", line, out, table, kept);
 }
 
-// Writes the first characters of the output's memory; says whether that went well.
-fn write_text(out: &[u8], filled: usize) -> bool {
-    if out.len() < filled {
-        io::write_all(STDERR_FILENO, b"write: no memory for the answers\n");
-        return false;
-    }
-    if io::write_all(STDOUT_FILENO, &out[..filled]) {
-        return true;
-    }
-    os::fail(b"write");
-    false
-}
-
 // A read or a write has not gone well, and it was said.
 fn stopped() -> Standing {
     Standing { kept: 0, ok: false }
@@ -105,18 +90,18 @@ fn stopped() -> Standing {
 
 // A read failed.
 fn unread() -> Standing {
-    os::fail(b"read");
+    program::say_unread();
     stopped()
 }
 
 // The output's memory has no room for an answer.
 fn stuck() -> Standing {
-    io::write_all(STDERR_FILENO, b"write: no memory for an answer\n");
+    program::say_full();
     stopped()
 }
 
-// The input outlasts the turns.
+// The input outlasts the reads.
 fn endless() -> Standing {
-    io::write_all(STDERR_FILENO, b"read: the input does not end\n");
+    program::say_endless();
     stopped()
 }

@@ -1,12 +1,12 @@
 // The answers to a line of a recording: 0 to 3, and the refusals 10 and 12 to 28.
 ghost use mathlib.Core.Path.{_≡_};
-ghost use Rattle.join_answers.specs.Answers.{refusalNumber, answerNumber, outputIn};
+ghost use Rattle.join_answers.specs.Answers.{joinRefusalNumber, answerNumber, outputIn};
 
 // A refusal: a row of the frame header's table, or a rule of joining.
 pub enum Refusal {
     Frame(frame::Refusal),
     IdOpen,
-    FourOpen,
+    NoPlaceFree,
     IdNotOpen,
     FirstDiffers,
     TooLong,
@@ -17,12 +17,12 @@ pub enum Refusal {
 impl Refusal {
     // The paper's number of the refusal.
     pub fn number(self) -> u32
-        ensures { λ r. ⌜ r ≡ refusalNumber self ⌝ }
+        ensures { λ r. ⌜ r ≡ joinRefusalNumber self ⌝ }
     {
         match self {
             Refusal::Frame(row) => row.number(),
             Refusal::IdOpen => refusals::ID_OPEN,
-            Refusal::FourOpen => refusals::FOUR_OPEN,
+            Refusal::NoPlaceFree => refusals::NO_PLACE_FREE,
             Refusal::IdNotOpen => refusals::ID_NOT_OPEN,
             Refusal::FirstDiffers => refusals::FIRST_DIFFERS,
             Refusal::TooLong => refusals::JOINED_TOO_LONG,

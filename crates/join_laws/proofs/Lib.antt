@@ -1,7 +1,7 @@
--- Facts of each step, and what holds after any lines.
-pub mod Lists
-pub mod Inversion
-pub mod Fits
-pub mod Places
-pub mod Sequence
-pub mod Alike
+-- What each step says of its line, and what holds after any lines.
+pub mod PartsAfterStores
+pub mod StepFacts
+pub mod MessageFits
+pub mod HeldParts
+pub mod PartsHeld
+pub mod SameFromAlike

@@ -1,10 +1,10 @@
 -- Lines one after another. What a place holds is told by the accepted lines alone: "the first one's octets and each fragment's body after
 -- the id" of the message that is open.
 --   Call            a line's octets, and the output lent with it
---   State           the record of a recording, and its four places
+--   State           the record of a recording, and its places
 --   stepIn          what a call does in a state,
 --   messageIn       the message that it writes,
---   after           and the state that it leaves
+--   stateAfter      and the state that it leaves
 --   afterAll        the state that calls leave, one after another
 --   acceptedLine    a line that is accepted, "0 whole message; 1 held ..; 2 joined; 3 a CancelRequest whose id was open", or none
 --   accepted        the lines of calls that are accepted, in their order
@@ -30,12 +30,12 @@ use lib.ListN.{length}
 use Rattle.frame.specs.declared.RequestId.{RequestId}
 use Rattle.frame.specs.declared.RequestId.the-variants.{Id, NoId}
 use Rattle.frame.specs.Messages.{isCancel, isFragment}
-use Rattle.frame.specs.Header.{kindAt, moreAt, idAt}
+use Rattle.frame.specs.Header.{messageTypeAt, moreAt, idAt}
 use Rattle.join_places.specs.declared.Record.{Record}
 use Rattle.join_places.specs.Places.{placesCount, placesSize, isOpen, idOf, heldIn}
 use Rattle.join_message.specs.Message.{parts, joinedOf}
-use Rattle.joining.specs.Steps.{Step, Passes, Opens, Extends, Completes, Frees, Refuses, stepOf}
-use Rattle.joining.specs.Answers.{messageWritten, recordAfter, placesAfter}
+use Rattle.joining.specs.Steps.{Step, Passes, Opens, Extends, Completes, Frees, Refuses}
+use Rattle.joining.specs.Answers.{messageWritten, stepWithin, recordAfter, placesAfter}
 
 pub record Call : Type 0 where
   pub octets : List ℕ
@@ -46,17 +46,21 @@ pub record State : Type 0 where
   pub places : List ℕ
 
 abbrev pub stepIn : State → Call → Step
-stepIn s c = stepOf (c .octets) (s .messages) (s .places) (length (c .out))
+stepIn s c = stepWithin (c .octets) (s .messages) (s .places) (length (c .out))
 
 abbrev pub messageIn : State → Call → List ℕ
 messageIn s c = messageWritten (stepIn s c) (s .messages) (c .octets) (s .places)
 
-abbrev pub after : State → Call → State
-after s c = record { messages = recordAfter (stepIn s c) (s .messages) (c .octets); places = placesAfter (stepIn s c) (s .messages) (c .octets) (s .places) }
+abbrev pub stateAfter : State → Call → State
+stateAfter s c =
+    record {
+      messages = recordAfter (stepIn s c) (s .messages) (c .octets);
+      places = placesAfter (stepIn s c) (s .messages) (c .octets) (s .places);
+    }
 
 unfoldable pub afterAll : State → List Call → State
 afterAll s [] = s
-afterAll s (c ∷ calls) = afterAll (after s c) calls
+afterAll s (c ∷ calls) = afterAll (stateAfter s c) calls
 
 abbrev pub acceptedLine : Step → List ℕ → List (List ℕ)
 acceptedLine Passes v = v ∷ []
@@ -68,7 +72,7 @@ acceptedLine (Refuses why) v = []
 
 unfoldable pub accepted : State → List Call → List (List ℕ)
 accepted s [] = []
-accepted s (c ∷ calls) = acceptedLine (stepIn s c) (c .octets) ++ accepted (after s c) calls
+accepted s (c ∷ calls) = acceptedLine (stepIn s c) (c .octets) ++ accepted (stateAfter s c) calls
 
 abbrev pub isId : ℕ → RequestId → Bool
 isId id (Id x) = eqb x id
@@ -80,8 +84,8 @@ withOne (first ∷ fragments) v = first ∷ fragments ++ (v ∷ [])
 
 unfoldable pub partsWith : List (List ℕ) → List ℕ → List (List ℕ)
 partsWith held v =
-    cond (isCancel (kindAt v)) []
-    (cond (isFragment (kindAt v)) (cond (moreAt v) (withOne held v) [])
+    cond (isCancel (messageTypeAt v)) []
+    (cond (isFragment (messageTypeAt v)) (cond (moreAt v) (withOne held v) [])
     (cond (moreAt v) (v ∷ []) held))
 
 unfoldable pub partsAfter : ℕ → List (List ℕ) → List ℕ → List (List ℕ)

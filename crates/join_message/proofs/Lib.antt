@@ -1,2 +1,2 @@
 -- The header corrected in the output, and the answers of the writer.
-pub mod Correcting
+pub mod HeaderCorrected

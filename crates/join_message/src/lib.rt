@@ -4,19 +4,11 @@ ghost use Prim.Native.Nat.{_-_, _≤_};
 ghost use lib.ListN.{length, set};
 ghost use lib.Seq.{sets};
 ghost use Rattle.cdr.specs.Number.{octetsOf};
-ghost use Rattle.frame.specs.Header.{headerSize, flagsAt, orderAt};
-ghost use Rattle.join_message.specs.Message.{moreCleared, flagsOffset, sizeOffset};
+ghost use Rattle.frame.specs.Header.{flagsOffset, sizeOffset, headerSize, flagsAt, orderAt};
+ghost use Rattle.join_message.specs.Message.{moreCleared};
 ghost use Rattle.join_message.specs.Written.{Assembles};
 use cdr::Size;
 use cdr_write::Written;
-
-// The octets of a header.
-const HEADER_SIZE: usize = 12;
-
-// Where a header has its flags and its size.
-const FLAGS_OFFSET: usize = 6;
-
-const SIZE_OFFSET: usize = 8;
 
 // What writing a joined message gives: its octets; or that it does not fit, or that its first octets are no header, and
 // nothing was written.
@@ -31,7 +23,7 @@ pub fn write_joined(held: &[u8], body: &[u8], out: &mut [u8]) -> Assembled
     ensures { λ r. ⌜ Assembles (now (held .entry)) (now (body .entry)) (now (out .entry)) r (now (out .exit)) ⌝ }
 {
     let total = held.len() + body.len();
-    if held.len() < HEADER_SIZE {
+    if held.len() < frame::HEADER_SIZE {
         return Assembled::NoHeader;
     }
     if out.len() < total {
@@ -59,10 +51,19 @@ fn more_cleared(flags: u8) -> u8
 // Clears the more flag of the message at the start of `out`, and corrects its size to that of `total` octets.
 fn correct(out: &mut [u8], total: usize)
     requires { ⌜ (headerSize ≤ total) × (total ≤ length (now out)) ⌝ }
-    ensures { λ _. ⌜ now (out .exit) ≡ sets (set (now (out .entry)) flagsOffset (moreCleared (flagsAt (now (out .entry))))) sizeOffset (octetsOf (orderAt (now (out .entry))) 4 (total - headerSize)) ⌝ }
+    ensures { λ _. ⌜
+        now (out .exit) ≡ sets (set (now (out .entry)) flagsOffset (moreCleared (flagsAt (now (out .entry)))))
+        sizeOffset (octetsOf (orderAt (now (out .entry))) 4 (total - headerSize))
+        ⌝ }
 {
-    let flags = out[FLAGS_OFFSET];
-    out[FLAGS_OFFSET] = more_cleared(flags);
-    let size = (total - HEADER_SIZE) as u64;
-    cdr_write::write_number(out, SIZE_OFFSET, Size::Four, frame::order_flag(flags), size);
+    let flags = out[frame::FLAGS_OFFSET];
+    out[frame::FLAGS_OFFSET] = more_cleared(flags);
+    let size = (total - frame::HEADER_SIZE) as u64;
+    cdr_write::write_number(
+        out,
+        frame::SIZE_OFFSET,
+        Size::Four,
+        frame::order_flag(flags),
+        size,
+    );
 }

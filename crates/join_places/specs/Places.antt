@@ -9,23 +9,30 @@
 --   idOf           and its request id
 --   lengthOf       and length
 --   heldIn         the octets that a place has of its open message
+--   sumOver        the sum of a number over the first so many places
+--   someWith       whether one of the first so many places has a property
+--   orElse         what was found, and where nothing was another place
+--   firstWith      the first of so many places that has a property
 --   isOpenWith     whether a place has the open message of a request id
---   placeOf        the place of the open message of a request id
+--   placeOfId      the place of the open message of a request id
 --   isAt           whether there is one
---   Within         that it is one of the four
---   lowestFree     "the lowest free one first"; nowhere "when four are open"
+--   IsPlace        that it is one of the places
+--   lowestFree     "the lowest free one first"; nowhere where all are open
 --   openAt         1 for a place that has an open message, and 0 for one that has none
 --   openCount      "messages open"
+--   openLength     the length of a place's open message, and 0 where it has none
+--   openLengths    the octets held of all open messages
 --   bothOpen       whether two places have open messages of the same id
+--   openBefore     whether an earlier place has an open message of the same id as a place
 --   idOpenTwice    28: "one id open twice",
 --   placeShort     "a place of under 16,384 octets",
 --   lengthWrong    "an open length under 16 or over 16,384", of one place
---   someLengthWrong    and of one of the four
+--   someLengthWrong    and of one of them all
 --   badRecord      28
 --   closed         the record with a place freed,
 --   opened         with a place opened for a request id,
 --   lengthened     and with the length of its message changed
-use Prim.Native.Nat.{ℕ, _+_, _*_, _<_}
+use Prim.Native.Nat.{ℕ, zero, suc, _+_, _*_, _<_}
 use mathlib.Core.List.{List}
 use mathlib.Core.Bool.{Bool, true, false, cond, not, _&&_, _||_}
 use lib.Dec.{ltb, eqb}
@@ -65,44 +72,59 @@ lengthOf r i = getD (r .lengths) i 0
 abbrev pub heldIn : Record → List ℕ → ℕ → List ℕ
 heldIn r places i = take (lengthOf r i) (drop (placeStart i) places)
 
+unfoldable pub sumOver : (ℕ → ℕ) → ℕ → ℕ
+sumOver f zero = 0
+sumOver f (suc n) = sumOver f n + f n
+
+unfoldable pub someWith : (ℕ → Bool) → ℕ → Bool
+someWith p zero = false
+someWith p (suc n) = someWith p n || p n
+
+abbrev pub orElse : Found → Found → Found
+orElse (At i) other = At i
+orElse Nowhere other = other
+
+unfoldable pub firstWith : (ℕ → Bool) → ℕ → Found
+firstWith p zero = Nowhere
+firstWith p (suc n) = orElse (firstWith p n) (cond (p n) (At n) Nowhere)
+
 unfoldable pub isOpenWith : Record → ℕ → ℕ → Bool
 isOpenWith r id i = isOpen r i && eqb (idOf r i) id
 
-unfoldable pub placeOf : Record → ℕ → Found
-placeOf r id =
-    cond (isOpenWith r id 0) (At 0)
-    (cond (isOpenWith r id 1) (At 1)
-    (cond (isOpenWith r id 2) (At 2)
-    (cond (isOpenWith r id 3) (At 3)
-    Nowhere)))
+unfoldable pub placeOfId : Record → ℕ → Found
+placeOfId r id = firstWith (isOpenWith r id) placesCount
 
 abbrev pub isAt : Found → Bool
 isAt (At i) = true
 isAt Nowhere = false
 
-abbrev pub Within : Found → Type 0
-Within (At i) = i < placesCount
-Within Nowhere = Unit {0}
+abbrev pub IsPlace : Found → Type 0
+IsPlace (At i) = i < placesCount
+IsPlace Nowhere = Unit {0}
 
 unfoldable pub lowestFree : Record → Found
-lowestFree r =
-    cond (not (isOpen r 0)) (At 0)
-    (cond (not (isOpen r 1)) (At 1)
-    (cond (not (isOpen r 2)) (At 2)
-    (cond (not (isOpen r 3)) (At 3)
-    Nowhere)))
+lowestFree r = firstWith (λ i. not (isOpen r i)) placesCount
 
 abbrev pub openAt : Record → ℕ → ℕ
 openAt r i = cond (isOpen r i) 1 0
 
 unfoldable pub openCount : Record → ℕ
-openCount r = openAt r 0 + openAt r 1 + openAt r 2 + openAt r 3
+openCount r = sumOver (openAt r) placesCount
+
+abbrev pub openLength : Record → ℕ → ℕ
+openLength r i = cond (isOpen r i) (lengthOf r i) 0
+
+unfoldable pub openLengths : Record → ℕ
+openLengths r = sumOver (openLength r) placesCount
 
 unfoldable pub bothOpen : Record → ℕ → ℕ → Bool
 bothOpen r i j = isOpen r i && isOpen r j && eqb (idOf r i) (idOf r j)
 
+unfoldable pub openBefore : Record → ℕ → Bool
+openBefore r i = someWith (bothOpen r i) i
+
 unfoldable pub idOpenTwice : Record → Bool
-idOpenTwice r = bothOpen r 0 1 || bothOpen r 0 2 || bothOpen r 0 3 || bothOpen r 1 2 || bothOpen r 1 3 || bothOpen r 2 3
+idOpenTwice r = someWith (openBefore r) placesCount
 
 -- the places stand one behind the other, so the last is too short where any is
 abbrev pub placeShort : ℕ → Bool
@@ -112,7 +134,7 @@ unfoldable pub lengthWrong : Record → ℕ → Bool
 lengthWrong r i = isOpen r i && (ltb (lengthOf r i) leastLength || ltb placeSize (lengthOf r i))
 
 unfoldable pub someLengthWrong : Record → Bool
-someLengthWrong r = lengthWrong r 0 || lengthWrong r 1 || lengthWrong r 2 || lengthWrong r 3
+someLengthWrong r = someWith (lengthWrong r) placesCount
 
 unfoldable pub badRecord : Record → ℕ → Bool
 badRecord r lent = idOpenTwice r || placeShort lent || someLengthWrong r

@@ -1,14 +1,18 @@
-// The record of a recording: four places for open messages.
+// The record of a recording: places for open messages.
 ghost use mathlib.Core.Path.{_≡_};
 ghost use Prim.Native.Nat.{_<_};
-ghost use Rattle.join_places.specs.Places.{isAt, isOpenWith, placeOf, lowestFree, openCount, freshRecord, bothOpen, idOpenTwice, lengthWrong, someLengthWrong, badRecord};
+ghost use Rattle.join_places.specs.Places.{placesCount, isAt, isOpenWith, placeOfId, lowestFree, openCount, freshRecord};
+ghost use Rattle.join_places.specs.Places.{bothOpen, openBefore, idOpenTwice, lengthWrong, someLengthWrong, badRecord};
 
-// Of each of the four places its open message's request id and length, and whether there is one.
+// How many places there are.
+pub const PLACES_COUNT: usize = 4;
+
+// Of each place its open message's request id and length, and whether there is one.
 #[repr(C)]
 pub struct Record {
-    pub ids: [u32; 4],
-    pub lengths: [usize; 4],
-    pub opened: [bool; 4],
+    pub ids: [u32; PLACES_COUNT],
+    pub lengths: [usize; PLACES_COUNT],
+    pub opened: [bool; PLACES_COUNT],
 }
 
 impl Record {
@@ -17,14 +21,14 @@ impl Record {
         ensures { λ r. ⌜ r ≡ freshRecord ⌝ }
     {
         Record {
-            ids: [0; 4],
-            lengths: [0; 4],
-            opened: [false; 4],
+            ids: [0; PLACES_COUNT],
+            lengths: [0; PLACES_COUNT],
+            opened: [false; PLACES_COUNT],
         }
     }
 }
 
-// One of the four places, or none of them.
+// One of the places, or none of them.
 pub enum Found {
     At(usize),
     Nowhere,
@@ -33,8 +37,8 @@ pub enum Found {
 // The octets of a place.
 pub const PLACE_SIZE: usize = 16384;
 
-// The octets of the four places.
-pub const PLACES_SIZE: usize = 65536;
+// The octets of all places.
+pub const PLACES_SIZE: usize = PLACES_COUNT * PLACE_SIZE;
 
 // The least octets of an open message: its header and its request id.
 const LEAST: usize = 16;
@@ -51,7 +55,7 @@ pub fn is_at(found: Found) -> bool
 
 // Whether a place has the open message of a request id.
 fn is_open_with(r: Record, i: usize, id: u32) -> bool
-    requires { ⌜ i < 4 ⌝ }
+    requires { ⌜ i < placesCount ⌝ }
     ensures { λ b. ⌜ b ≡ isOpenWith r id i ⌝ }
 {
     if !r.opened[i] {
@@ -62,19 +66,14 @@ fn is_open_with(r: Record, i: usize, id: u32) -> bool
 
 // The place of the open message of a request id.
 pub fn place_of(r: Record, id: u32) -> Found
-    ensures { λ found. ⌜ found ≡ placeOf r id ⌝ }
+    ensures { λ found. ⌜ found ≡ placeOfId r id ⌝ }
 {
-    if is_open_with(r, 0, id) {
-        return Found::At(0);
-    }
-    if is_open_with(r, 1, id) {
-        return Found::At(1);
-    }
-    if is_open_with(r, 2, id) {
-        return Found::At(2);
-    }
-    if is_open_with(r, 3, id) {
-        return Found::At(3);
+    let mut i = 0;
+    while i < PLACES_COUNT {
+        if is_open_with(r, i, id) {
+            return Found::At(i);
+        }
+        i += 1;
     }
     Found::Nowhere
 }
@@ -83,31 +82,32 @@ pub fn place_of(r: Record, id: u32) -> Found
 pub fn lowest_free(r: Record) -> Found
     ensures { λ found. ⌜ found ≡ lowestFree r ⌝ }
 {
-    let opened = r.opened;
-    if !opened[0] {
-        Found::At(0)
-    } else if !opened[1] {
-        Found::At(1)
-    } else if !opened[2] {
-        Found::At(2)
-    } else if !opened[3] {
-        Found::At(3)
-    } else {
-        Found::Nowhere
+    let mut i = 0;
+    while i < PLACES_COUNT {
+        if !r.opened[i] {
+            return Found::At(i);
+        }
+        i += 1;
     }
+    Found::Nowhere
 }
 
 // The messages open.
 pub fn open_count(r: Record) -> u64
     ensures { λ n. ⌜ n ≡ openCount r ⌝ }
 {
-    let opened = r.opened;
-    opened[0] as u64 + opened[1] as u64 + opened[2] as u64 + opened[3] as u64
+    let mut count = 0;
+    let mut i = 0;
+    while i < PLACES_COUNT {
+        count += r.opened[i] as u64;
+        i += 1;
+    }
+    count
 }
 
 // Whether two places have open messages of the same id.
 fn both_open(r: Record, i: usize, j: usize) -> bool
-    requires { ⌜ (i < 4) × (j < 4) ⌝ }
+    requires { ⌜ (i < placesCount) × (j < placesCount) ⌝ }
     ensures { λ b. ⌜ b ≡ bothOpen r i j ⌝ }
 {
     if !r.opened[i] {
@@ -119,31 +119,38 @@ fn both_open(r: Record, i: usize, j: usize) -> bool
     r.ids[i] == r.ids[j]
 }
 
+// Whether an earlier place has an open message of the same id.
+fn open_before(r: Record, i: usize) -> bool
+    requires { ⌜ i < placesCount ⌝ }
+    ensures { λ b. ⌜ b ≡ openBefore r i ⌝ }
+{
+    let mut j = 0;
+    while j < i {
+        if both_open(r, i, j) {
+            return true;
+        }
+        j += 1;
+    }
+    false
+}
+
 // Whether one id is open twice.
 fn id_open_twice(r: Record) -> bool
     ensures { λ b. ⌜ b ≡ idOpenTwice r ⌝ }
 {
-    if both_open(r, 0, 1) {
-        return true;
+    let mut i = 0;
+    while i < PLACES_COUNT {
+        if open_before(r, i) {
+            return true;
+        }
+        i += 1;
     }
-    if both_open(r, 0, 2) {
-        return true;
-    }
-    if both_open(r, 0, 3) {
-        return true;
-    }
-    if both_open(r, 1, 2) {
-        return true;
-    }
-    if both_open(r, 1, 3) {
-        return true;
-    }
-    both_open(r, 2, 3)
+    false
 }
 
 // Whether the length of a place's open message is out of its range.
 fn length_wrong(r: Record, i: usize) -> bool
-    requires { ⌜ i < 4 ⌝ }
+    requires { ⌜ i < placesCount ⌝ }
     ensures { λ b. ⌜ b ≡ lengthWrong r i ⌝ }
 {
     if !r.opened[i] {
@@ -159,16 +166,14 @@ fn length_wrong(r: Record, i: usize) -> bool
 fn some_length_wrong(r: Record) -> bool
     ensures { λ b. ⌜ b ≡ someLengthWrong r ⌝ }
 {
-    if length_wrong(r, 0) {
-        return true;
+    let mut i = 0;
+    while i < PLACES_COUNT {
+        if length_wrong(r, i) {
+            return true;
+        }
+        i += 1;
     }
-    if length_wrong(r, 1) {
-        return true;
-    }
-    if length_wrong(r, 2) {
-        return true;
-    }
-    length_wrong(r, 3)
+    false
 }
 
 // Whether a record with so many octets of places is refused.

@@ -1,4 +1,4 @@
--- The ways of a step and what each does.
-pub mod Deciding
-pub mod Doing
-pub mod Completing
+-- The equations of a step, and what each step takes.
+pub mod StepIs
+pub mod Takes
+pub mod JoinedTakes

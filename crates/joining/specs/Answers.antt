@@ -1,21 +1,27 @@
 -- What a step answers, and what it leaves in the record, the places and the output. "Lent memory that an answer doesn't fill keeps its
 -- contents": `sets l at xs` is a run of stores, the octets `xs` from `at` on, the rest as it was.
 --   messageWritten  the message that is written, or none
---   answerOf        "0 whole message; 1 held ..; 2 joined; 3 a CancelRequest whose id was open", with how many octets are written
+--   roomed          27: "output shorter than the message to be written", else the step that writes it
+--   stepWithin      what a line's octets do with an output of so many octets
+--   answerOfStep    "0 whole message; 1 held ..; 2 joined; 3 a CancelRequest whose id was open", with how many octets are written
 --   answerTo        the answer to a step, with the octets of the message that it writes
 --   recordAfter     the record, "which only an accepted line may change"
 --   placesAfter     the octets of the places: a first one's at the start, a fragment's body after the id behind what is held
---   outputAfter     "Answers 0, 2 and 3 write a message into the lent output, from its start"
---   refusedWith     a refusal, with the record as it was
+--   writtenInto     "Answers 0, 2 and 3 write a message into the lent output, from its start"
+--   refusedOutcome  a refusal, with the record as it was
 --   Does            what a step ensures: the answer, the record after, and every octet of the places and of the output
+--   Takes           what a step ensures where the output may be too short for it
 --   Joins           what a call ensures: what the step of its line does
 use mathlib.Core.Path.{_≡_}
 use mathlib.Core.List.{List, [], _++_}
+use mathlib.Core.Bool.{cond}
 use Prim.Native.Nat.{ℕ, _+_}
+use lib.Dec.{ltb}
 use lib.ListN.{length}
 use lib.Seq.{sets}
 use Rattle.join_places.specs.declared.Record.{Record}
 use Rattle.join_answers.specs.declared.Refusal.{Refusal}
+use Rattle.join_answers.specs.declared.Refusal.the-variants.{NoRoom}
 use Rattle.join_answers.specs.declared.Answer.{Answer}
 use Rattle.join_answers.specs.declared.Answer.the-variants.{Whole, Held, Joined, Cancelled, Refused}
 use Rattle.joining.specs.declared.Outcome.{Outcome}
@@ -31,16 +37,22 @@ messageWritten (Completes i) r v places = corrected (heldIn r places i ++ bodyAf
 messageWritten (Frees i) r v places = v
 messageWritten (Refuses why) r v places = []
 
-abbrev pub answerOf : Step → ℕ → Answer
-answerOf Passes n = Whole n
-answerOf (Opens i id) n = Held
-answerOf (Extends i) n = Held
-answerOf (Completes i) n = Joined n
-answerOf (Frees i) n = Cancelled n
-answerOf (Refuses why) n = Refused why
+abbrev pub roomed : ℕ → Step → List ℕ → Step
+roomed room step message = cond (ltb room (length message)) (Refuses NoRoom) step
+
+abbrev pub stepWithin : List ℕ → Record → List ℕ → ℕ → Step
+stepWithin v r places room = roomed room (stepOf v r places) (messageWritten (stepOf v r places) r v places)
+
+abbrev pub answerOfStep : Step → ℕ → Answer
+answerOfStep Passes n = Whole n
+answerOfStep (Opens i id) n = Held
+answerOfStep (Extends i) n = Held
+answerOfStep (Completes i) n = Joined n
+answerOfStep (Frees i) n = Cancelled n
+answerOfStep (Refuses why) n = Refused why
 
 abbrev pub answerTo : Step → Record → List ℕ → List ℕ → Answer
-answerTo step r v places = answerOf step (length (messageWritten step r v places))
+answerTo step r v places = answerOfStep step (length (messageWritten step r v places))
 
 abbrev pub recordAfter : Step → Record → List ℕ → Record
 recordAfter Passes r v = r
@@ -58,17 +70,21 @@ placesAfter (Completes i) r v places = places
 placesAfter (Frees i) r v places = places
 placesAfter (Refuses why) r v places = places
 
-abbrev pub outputAfter : Step → Record → List ℕ → List ℕ → List ℕ → List ℕ
-outputAfter step r v places out = sets out 0 (messageWritten step r v places)
+abbrev pub writtenInto : Step → Record → List ℕ → List ℕ → List ℕ → List ℕ
+writtenInto step r v places out = sets out 0 (messageWritten step r v places)
 
-abbrev pub refusedWith : Record → Refusal → Outcome
-refusedWith before why = record { answer = Refused why; after = before }
+abbrev pub refusedOutcome : Record → Refusal → Outcome
+refusedOutcome before why = record { answer = Refused why; after = before }
 
 pub record Does (step : Step) (v : List ℕ) (before : Record) (places out : List ℕ) (r : Outcome) (placesLast outLast : List ℕ) : Type 0 where
   pub answer : r .answer ≡ answerTo step before v places
   pub after : r .after ≡ recordAfter step before v
   pub stored : placesLast ≡ placesAfter step before v places
-  pub output : outLast ≡ outputAfter step before v places out
+  pub output : outLast ≡ writtenInto step before v places out
+
+abbrev pub Takes : Step → List ℕ → Record → List ℕ → List ℕ → Outcome → List ℕ → List ℕ → Type 0
+Takes step v before places out r placesLast outLast =
+    Does (roomed (length out) step (messageWritten step before v places)) v before places out r placesLast outLast
 
 abbrev pub Joins : List ℕ → Record → List ℕ → List ℕ → Outcome → List ℕ → List ℕ → Type 0
-Joins v before places out r placesLast outLast = Does (stepOf v before places (length out)) v before places out r placesLast outLast
+Joins v before places out r placesLast outLast = Takes (stepOf v before places) v before places out r placesLast outLast

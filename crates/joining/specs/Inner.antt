@@ -1,10 +1,9 @@
 -- What private functions ask of each other; nothing that a caller is told rests on these names.
 --   Sound       an accepted message, a record that is not refused, and places that have their octets
---   lacksPlace  whether a message is a first fragment, and no place is free for it
 --   Opening     a first fragment's octets, and places that have theirs
 --   Continues   a fragment's octets, and the place of its open message
 use mathlib.Core.Path.{_≡_}
-use mathlib.Core.Bool.{Bool, false, not, _&&_}
+use mathlib.Core.Bool.{false}
 use mathlib.Core.List.{List}
 use Prim.Native.Nat.{ℕ, _≤_, _<_}
 use lib.ListN.{length}
@@ -12,15 +11,12 @@ use Rattle.frame.specs.declared.Header.{Header}
 use Rattle.frame.specs.declared.Frame.the-variants.{Accepted}
 use Rattle.frame.specs.Frames.{messageLimit, frameOf}
 use Rattle.join_places.specs.declared.Record.{Record}
-use Rattle.join_places.specs.Places.{placesCount, placeSize, placesSize, lengthOf, isAt, lowestFree, badRecord}
+use Rattle.join_places.specs.Places.{placesCount, placeSize, placesSize, lengthOf, badRecord}
 use Rattle.join_message.specs.Message.{idEnd}
 
 pub record Sound (v : List ℕ) (h : Header) (r : Record) (places : List ℕ) : Type 0 where
   pub accepted : frameOf v ≡ Accepted h
   pub sound : badRecord r (length places) ≡ false
-
-abbrev pub lacksPlace : Bool → Record → Bool
-lacksPlace more r = more && not (isAt (lowestFree r))
 
 pub record Opening (v places : List ℕ) : Type 0 where
   pub lent : placesSize ≤ length places

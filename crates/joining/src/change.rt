@@ -1,12 +1,12 @@
 // The changes of a record: a place opened, its message lengthened, and freed.
 ghost use mathlib.Core.Path.{_≡_};
 ghost use Prim.Native.Nat.{_<_};
-ghost use Rattle.join_places.specs.Places.{opened, lengthened, closed};
+ghost use Rattle.join_places.specs.Places.{placesCount, opened, lengthened, closed};
 use join_places::Record;
 
 // The record with a place opened.
 pub(crate) fn opened(r: Record, i: usize, id: u32, length: usize) -> Record
-    requires { ⌜ i < 4 ⌝ }
+    requires { ⌜ i < placesCount ⌝ }
     ensures { λ after. ⌜ after ≡ opened r i id «length» ⌝ }
 {
     let mut after = r;
@@ -18,7 +18,7 @@ pub(crate) fn opened(r: Record, i: usize, id: u32, length: usize) -> Record
 
 // The record with a place's message lengthened.
 pub(crate) fn lengthened(r: Record, i: usize, length: usize) -> Record
-    requires { ⌜ i < 4 ⌝ }
+    requires { ⌜ i < placesCount ⌝ }
     ensures { λ after. ⌜ after ≡ lengthened r i «length» ⌝ }
 {
     let mut after = r;
@@ -28,7 +28,7 @@ pub(crate) fn lengthened(r: Record, i: usize, length: usize) -> Record
 
 // The record with a place freed.
 pub(crate) fn closed(r: Record, i: usize) -> Record
-    requires { ⌜ i < 4 ⌝ }
+    requires { ⌜ i < placesCount ⌝ }
     ensures { λ after. ⌜ after ≡ closed r i ⌝ }
 {
     let mut after = r;

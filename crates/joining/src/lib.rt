@@ -5,15 +5,16 @@ ghost use Prim.Native.Nat.{ℕ, _≤_};
 ghost use lib.ListN.{length};
 ghost use Rattle.frame.specs.declared.Frame.the-variants.{Accepted};
 ghost use Rattle.frame.specs.Frames.{frameOf};
-ghost use Rattle.join_places.specs.Places.{placeSize, Within, lowestFree};
-ghost use Rattle.joining.specs.Steps.{Passes, Extends, Completes, written, cancelled, lengthAfter, continued, firstOf, startOf, withId, messageStep};
-ghost use Rattle.joining.specs.Answers.{refusedWith, Does, Joins};
-ghost use Rattle.joining.specs.Inner.{Sound, lacksPlace, Opening, Continues};
-use join_answers::Answer;
-use join_answers::Refusal;
+ghost use Rattle.join_places.specs.Places.{placeSize, IsPlace, lowestFree};
+ghost use Rattle.joining.specs.Steps.{Passes, Extends, Completes, cancelled, lengthAfter, continued, opensAt, startingOf, withId};
+ghost use Rattle.joining.specs.Steps.{messageStep};
+ghost use Rattle.joining.specs.Answers.{refusedOutcome, Takes, Joins};
+ghost use Rattle.joining.specs.Inner.{Sound, Opening, Continues};
 use frame::Frame;
 use frame::Header;
 use frame::RequestId;
+use join_answers::Answer;
+use join_answers::Refusal;
 use join_message::Assembled;
 use join_places::Found;
 use join_places::Record;
@@ -27,9 +28,11 @@ pub struct Outcome {
     pub after: Record,
 }
 
-// Answers a line's octets by the record and the octets of its four places, 16,384 each, one place behind the other.
+// Answers a line's octets by the record and the octets of its places, 16,384 each, one place behind the other.
 pub fn join(octets: &[u8], before: Record, places: &mut [u8], out: &mut [u8]) -> Outcome
-    ensures { λ r. ⌜ Joins (now (octets .entry)) before (now (places .entry)) (now (out .entry)) r (now (places .exit)) (now (out .exit)) ⌝ }
+    ensures { λ r. ⌜
+        Joins (now (octets .entry)) before (now (places .entry)) (now (out .entry)) r (now (places .exit)) (now (out .exit))
+        ⌝ }
 {
     match frame::judge(octets) {
         Frame::Accepted(h) => accepted(octets, h, before, places, out),
@@ -39,7 +42,7 @@ pub fn join(octets: &[u8], before: Record, places: &mut [u8], out: &mut [u8]) ->
 
 // A refusal leaves the record as it was.
 fn refused(before: Record, why: Refusal) -> Outcome
-    ensures { λ r. ⌜ r ≡ refusedWith before why ⌝ }
+    ensures { λ r. ⌜ r ≡ refusedOutcome before why ⌝ }
 {
     Outcome {
         answer: Answer::Refused(why),
@@ -50,7 +53,10 @@ fn refused(before: Record, why: Refusal) -> Outcome
 // Answers an accepted message.
 fn accepted(octets: &[u8], h: Header, before: Record, places: &mut [u8], out: &mut [u8]) -> Outcome
     requires { ⌜ frameOf (now octets) ≡ Accepted h ⌝ }
-    ensures { λ r. ⌜ Does (messageStep before (now (places .entry)) (length (now (out .entry))) (length (now (octets .entry))) h) (now (octets .entry)) before (now (places .entry)) (now (out .entry)) r (now (places .exit)) (now (out .exit)) ⌝ }
+    ensures { λ r. ⌜
+        Takes (messageStep before (now (places .entry)) (length (now (octets .entry))) h)
+        (now (octets .entry)) before (now (places .entry)) (now (out .entry)) r (now (places .exit)) (now (out .exit))
+        ⌝ }
 {
     if join_places::bad_record(before, places.len()) {
         return refused(before, Refusal::BadRecord);
@@ -72,7 +78,10 @@ fn identified(
     out: &mut [u8],
 ) -> Outcome
     requires { ⌜ Sound (now octets) h before (now places) ⌝ }
-    ensures { λ r. ⌜ Does (withId before (now (places .entry)) (length (now (out .entry))) (length (now (octets .entry))) h id) (now (octets .entry)) before (now (places .entry)) (now (out .entry)) r (now (places .exit)) (now (out .exit)) ⌝ }
+    ensures { λ r. ⌜
+        Takes (withId before (now (places .entry)) (length (now (octets .entry))) h id)
+        (now (octets .entry)) before (now (places .entry)) (now (out .entry)) r (now (places .exit)) (now (out .exit))
+        ⌝ }
 {
     let found = join_places::place_of(before, id);
     if h.kind == frame::CANCEL_REQUEST {
@@ -89,7 +98,7 @@ fn identified(
 
 // Writes a message as it is.
 fn whole(octets: &[u8], before: Record, out: &mut [u8]) -> Outcome
-    ensures { λ r. ⌜ ((places : List ℕ) → Does (written (length (now (out .entry))) (length (now (octets .entry))) Passes) (now (octets .entry)) before places (now (out .entry)) r places (now (out .exit))) ⌝ }
+    ensures { λ r. ⌜ ((places : List ℕ) → Takes Passes (now (octets .entry)) before places (now (out .entry)) r places (now (out .exit))) ⌝ }
 {
     if out.len() < octets.len() {
         return refused(before, Refusal::NoRoom);
@@ -102,19 +111,21 @@ fn whole(octets: &[u8], before: Record, out: &mut [u8]) -> Outcome
 }
 
 // Answers a CancelRequest: it frees the place of its id, where there is one.
-fn cancel(octets: &[u8], found: Found, before: Record, out: &mut [u8]) -> Outcome
-    requires { ⌜ Within found ⌝ }
-    ensures { λ r. ⌜ ((places : List ℕ) → Does (cancelled (length (now (out .entry))) (length (now (octets .entry))) found) (now (octets .entry)) before places (now (out .entry)) r places (now (out .exit))) ⌝ }
+fn cancel(request: &[u8], found: Found, before: Record, out: &mut [u8]) -> Outcome
+    requires { ⌜ IsPlace found ⌝ }
+    ensures { λ r. ⌜
+        ((places : List ℕ) → Takes (cancelled found) (now (request .entry)) before places (now (out .entry)) r places (now (out .exit)))
+        ⌝ }
 {
     let Found::At(i) = found else {
-        return whole(octets, before, out);
+        return whole(request, before, out);
     };
-    if out.len() < octets.len() {
+    if out.len() < request.len() {
         return refused(before, Refusal::NoRoom);
     }
-    cdr_write::write_octets(out, 0, octets);
+    cdr_write::write_octets(out, 0, request);
     Outcome {
-        answer: Answer::Cancelled(octets.len()),
+        answer: Answer::Cancelled(request.len()),
         after: change::closed(before, i),
     }
 }
@@ -130,42 +141,36 @@ fn start(
     out: &mut [u8],
 ) -> Outcome
     requires { ⌜ Sound (now octets) h before (now places) ⌝ }
-    ensures { λ r. ⌜ Does (startOf before (length (now (out .entry))) (length (now (octets .entry))) h id found) (now (octets .entry)) before (now (places .entry)) (now (out .entry)) r (now (places .exit)) (now (out .exit)) ⌝ }
+    ensures { λ r. ⌜
+        Takes (startingOf before h id found)
+        (now (octets .entry)) before (now (places .entry)) (now (out .entry)) r (now (places .exit)) (now (out .exit))
+        ⌝ }
 {
     let open = join_places::is_at(found);
-    let full = lacks_place(h.more, before);
+    let full = join_places::PLACES_COUNT as u64 <= join_places::open_count(before);
     if open {
         return refused(before, Refusal::IdOpen);
-    }
-    if full {
-        return refused(before, Refusal::FourOpen);
     }
     if !h.more {
         return whole(octets, before, out);
     }
+    if full {
+        return refused(before, Refusal::NoPlaceFree);
+    }
     first(octets, id, before, places)
 }
 
-// Whether a message is a first fragment, and no place is free for it.
-fn lacks_place(more: bool, before: Record) -> bool
-    ensures { λ r. ⌜ r ≡ lacksPlace more before ⌝ }
-{
-    if more {
-        !join_places::is_at(join_places::lowest_free(before))
-    } else {
-        false
-    }
-}
-
-// Opens the lowest free place for a first fragment, if there is one.
+// Opens the lowest free place for a first fragment.
 fn first(octets: &[u8], id: u32, before: Record, places: &mut [u8]) -> Outcome
     requires { ⌜ Opening (now octets) (now places) ⌝ }
-    ensures { λ r. ⌜ ((out : List ℕ) → Does (firstOf id (lowestFree before)) (now (octets .entry)) before (now (places .entry)) out r (now (places .exit)) out) ⌝ }
+    ensures { λ r. ⌜
+        ((out : List ℕ) → Takes (opensAt id (lowestFree before)) (now (octets .entry)) before (now (places .entry)) out r (now (places .exit)) out)
+        ⌝ }
 {
     let i = match join_places::lowest_free(before) {
         Found::At(i) => i,
-        // Never here: `start` refuses a first fragment that lacks a place.
-        Found::Nowhere => return refused(before, Refusal::FourOpen),
+        // Never here: fewer open messages than places leave a place free.
+        Found::Nowhere => return refused(before, Refusal::NoPlaceFree),
     };
     cdr_write::write_octets(places, i * join_places::PLACE_SIZE, octets);
     Outcome {
@@ -184,15 +189,20 @@ fn fragment(
     out: &mut [u8],
 ) -> Outcome
     requires { ⌜ Continues (now octets) before (now places) i ⌝ }
-    ensures { λ r. ⌜ Does (continued before (now (places .entry)) (length (now (out .entry))) (length (now (octets .entry))) h i) (now (octets .entry)) before (now (places .entry)) (now (out .entry)) r (now (places .exit)) (now (out .exit)) ⌝ }
+    ensures { λ r. ⌜
+        Takes (continued before (now (places .entry)) (length (now (octets .entry))) h i)
+        (now (octets .entry)) before (now (places .entry)) (now (out .entry)) r (now (places .exit)) (now (out .exit))
+        ⌝ }
 {
     let begin = i * join_places::PLACE_SIZE;
     let held = before.lengths[i];
     let total = held + (octets.len() - message::ID_END);
-    if message::differs(&places[begin..begin + held], h) {
+    let differs = message::differs(&places[begin..begin + held], h);
+    let long = join_places::PLACE_SIZE < total;
+    if differs {
         return refused(before, Refusal::FirstDiffers);
     }
-    if join_places::PLACE_SIZE < total {
+    if long {
         return refused(before, Refusal::TooLong);
     }
     if h.more {
@@ -204,7 +214,7 @@ fn fragment(
 // Adds a middle fragment's body to its place.
 fn extend(octets: &[u8], i: usize, before: Record, places: &mut [u8]) -> Outcome
     requires { ⌜ Continues (now octets) before (now places) i × (lengthAfter before i (length (now octets)) ≤ placeSize) ⌝ }
-    ensures { λ r. ⌜ ((out : List ℕ) → Does (Extends i) (now (octets .entry)) before (now (places .entry)) out r (now (places .exit)) out) ⌝ }
+    ensures { λ r. ⌜ ((out : List ℕ) → Takes (Extends i) (now (octets .entry)) before (now (places .entry)) out r (now (places .exit)) out) ⌝ }
 {
     let held = before.lengths[i];
     let at = i * join_places::PLACE_SIZE + held;
@@ -218,7 +228,9 @@ fn extend(octets: &[u8], i: usize, before: Record, places: &mut [u8]) -> Outcome
 // Writes the joined message and frees its place.
 fn complete(octets: &[u8], i: usize, before: Record, places: &[u8], out: &mut [u8]) -> Outcome
     requires { ⌜ Continues (now octets) before (now places) i ⌝ }
-    ensures { λ r. ⌜ Does (written (length (now (out .entry))) (lengthAfter before i (length (now (octets .entry)))) (Completes i)) (now (octets .entry)) before (now (places .entry)) (now (out .entry)) r (now (places .entry)) (now (out .exit)) ⌝ }
+    ensures { λ r. ⌜
+        Takes (Completes i) (now (octets .entry)) before (now (places .entry)) (now (out .entry)) r (now (places .entry)) (now (out .exit))
+        ⌝ }
 {
     let begin = i * join_places::PLACE_SIZE;
     let held = before.lengths[i];

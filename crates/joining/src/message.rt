@@ -7,16 +7,16 @@ ghost use Rattle.joining.specs.Steps.{differs};
 use frame::Header;
 
 // The octets of the header and the request id.
-pub(crate) const ID_END: usize = 16;
+pub(crate) const ID_END: usize = frame::HEADER_SIZE + 4;
 
 // Whether a fragment has another minor version or byte order than the first one.
 pub(crate) fn differs(first: &[u8], h: Header) -> bool
     requires { ⌜ idEnd ≤ length (now first) ⌝ }
     ensures { λ r. ⌜ r ≡ differs (now (first .entry)) h ⌝ }
 {
-    let order = frame::order_flag(first[6]);
+    let order = frame::order_flag(first[frame::FLAGS_OFFSET]);
     let other = h.order;
-    if first[5] != h.minor {
+    if first[frame::MINOR_OFFSET] != h.minor {
         return true;
     }
     order.octet() != other.octet()

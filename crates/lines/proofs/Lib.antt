@@ -1,4 +1,5 @@
--- Laws of lines taken from blocks, what the functions' steps amount to, and samples.
-pub mod Laws
-pub mod Steps
+-- Laws of lines taken from blocks, what need not be kept of a line, what the functions' steps amount to, and samples.
+pub mod LinesOfBlocks
+pub mod Cuts
+pub mod TakenBySteps
 pub mod Samples

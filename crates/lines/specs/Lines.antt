@@ -1,5 +1,6 @@
 -- The lines of a recording, and what one block of it adds to a line.
---   lf         the character that ends a line
+--   lf, space, hyphen
+--              the character that ends a line, the one between two words, and the one that stands for none
 --   upToLF     the characters before the first LF, or all
 --   hasLF      whether there is an LF
 --   afterLF    the characters after the first LF, or none
@@ -21,6 +22,12 @@ use Rattle.lines.specs.declared.Taken.{Taken}
 
 abbrev pub lf : ℕ
 lf = 10
+
+abbrev pub space : ℕ
+space = 32
+
+abbrev pub hyphen : ℕ
+hyphen = 45
 
 unfoldable pub upToLF : List ℕ → List ℕ
 upToLF [] = []

@@ -1,5 +1,4 @@
 -- Laws that other crates cite.
-pub mod Skips
-pub mod Stages
-pub mod Extents
+pub mod StageAnswers
 pub mod Within
+pub mod PartNone

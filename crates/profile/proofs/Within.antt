@@ -1,8 +1,8 @@
 -- A body that was read: its parts are among its octets, and each component whose number is below their count is there.
-use mathlib.Core.Path.{_≡_, refl, ap, subst, _∙_}
+use mathlib.Core.Path.{_≡_, refl, subst, _∙_}
 use mathlib.Core.List.{List}
 use mathlib.Core.Bool.{Bool, true, false, cond}
-use Prim.Native.Nat.{ℕ, zero, suc, _+_, _≤_, _<_}
+use Prim.Native.Nat.{ℕ, _+_, _≤_}
 use native.Mathlib.Omega.{arith}
 use borrow.Author.Tests.{ltb-false}
 use lib.Dec.{ltb}
@@ -23,38 +23,30 @@ use Rattle.profile_parts.specs.declared.OctetsPart.{OctetsPart}
 use Rattle.profile_parts.specs.declared.OctetsPart.the-variants.{Span, Refused as noSpan}
 use Rattle.profile_parts.specs.declared.NumberPart.{NumberPart}
 use Rattle.profile_parts.specs.declared.NumberPart.the-variants.{Number, Refused as noNumber}
-use Rattle.profile_parts.specs.declared.ComponentPart.{ComponentPart}
-use Rattle.profile_parts.specs.declared.ComponentPart.the-variants.{Component, Refused as noComponent}
-use Rattle.profile_parts.specs.Parts.{orderAt, versionAt, hostAt, portAt, keyAt, countAt, componentAt}
-use Rattle.profile_parts.proofs.Parts.{host-inside, key-inside, component-inside}
-use Rattle.profile.specs.declared.list.Skip.{Skip}
-use Rattle.profile.specs.declared.list.Skip.the-variants.{To, Refused as noSkip}
+use Rattle.profile_parts.specs.declared.ComponentPart.the-variants.{Component}
+use Rattle.cdr_fields.specs.declared.Tagged.the-variants.{Tag}
+use Rattle.profile_parts.specs.Parts.{orderPartAt, versionAt, hostAt, portAt, keyAt, countAt}
+use Rattle.profile_parts.proofs.PartsWithin.{host-inside, key-inside, component-is as inner-is}
+use Rattle.cdr_fields.specs.declared.Skipped.{Skipped}
+use Rattle.cdr_fields.specs.declared.Skipped.the-variants.{Upto, TooFew}
+use Rattle.cdr_fields.specs.Tagged.{skipTagged}
+use Rattle.cdr_fields.proofs.TaggedWithin.{skip-none, each-stands, tagged-inside}
 use Rattle.profile.specs.declared.list.Components.{Components}
 use Rattle.profile.specs.declared.list.Components.the-variants.{Listed, Refused as noList}
-use Rattle.profile.specs.declared.Extent.{Extent}
+use Rattle.cdr_fields.specs.declared.Extent.{Extent}
 use Rattle.profile.specs.declared.Head.{Head}
 use Rattle.profile.specs.declared.Profile.{Profile}
 use Rattle.profile.specs.declared.ProfileAnswer.the-variants.{Read, Refused}
-use Rattle.profile.specs.List.{onComponent, skipFrom, listed, listFrom, onCount, countedList, listAt}
-use Rattle.profile.specs.Profile.{extent, onOrder, onVersion, onOctets, onNumber, onList, profileOf}
+use Rattle.profile.specs.List.{listed, listFrom, onComponentCount, countedList, listAt}
+use Rattle.profile.specs.Profile.{onOrderPart, onVersion, onSpan, onNumber, onList, profileOf}
 use Rattle.profile.specs.Inner.{listThen, keyThen, portThen, hostThen, versionThen}
 use Rattle.profile.specs.Within.{ReadsWithin, FindsAll}
-use Rattle.profile.proofs.Stages.{component-is, component-there, component-from-is}
+use Rattle.profile.proofs.StageAnswers.{component-is, component-there, component-behind}
 
 -- the index after all components
 record Passed (v : List ℕ) (order : Order) (count : ℕ) (first : Index) : Type 0 where
   end : Index
-  passed : skipFrom v order count first ≡ To end
-
--- a component behind so many others
-record Stands (v : List ℕ) (order : Order) (n : ℕ) (first : Index) : Type 0 where
-  at : Index
-  passed : skipFrom v order n first ≡ To at
-  tag : ℕ
-  from : Index
-  size : ℕ
-  next : Index
-  component : componentAt v at order ≡ Component tag from size next
+  passed : skipTagged v order count first ≡ Upto end
 
 -- what the stages of the reading have shown of a body when it is read
 record Shown (v : List ℕ) (p : Profile) : Type 0 where
@@ -64,50 +56,29 @@ record Shown (v : List ℕ) (p : Profile) : Type 0 where
 
 module _ (v : List ℕ) where
   module _ (order : Order) where
-    skipped : (s : Skip) (count : ℕ) (first : Index) → skipFrom v order count first ≡ s → (c : ℕ) (f : Index) (e : ℕ) → listed v count first s ≡ Listed c f e
+    skipped : (s : Skipped) (count : ℕ) (first : Index) → skipTagged v order count first ≡ s → (c : ℕ) (f : Index) (e : ℕ) → listed v count first s ≡ Listed c f e
         → Passed v order c f
-    skipped (To i) count first q c f e h =
+    skipped (Upto i) count first q c f e h =
         let a : count ≡ c = cc in
         let b : first ≡ f = cc in
-        record { end = i; passed = subst (λ (x : Index). skipFrom v order c x ≡ To i) b (subst (λ (x : ℕ). skipFrom v order x first ≡ To i) a q) }
-    skipped (noSkip r) count first q c f e h = clash cc
+        record { end = i; passed = subst (λ (x : Index). skipTagged v order c x ≡ Upto i) b (subst (λ (x : ℕ). skipTagged v order x first ≡ Upto i) a q) }
+    skipped TooFew count first q c f e h = clash cc
 
-    counted : (p : NumberPart) (c : ℕ) (f : Index) (e : ℕ) → onCount p (λ n next. listFrom v next n order) ≡ Listed c f e → Passed v order c f
+    counted : (p : NumberPart) (c : ℕ) (f : Index) (e : ℕ) → onComponentCount p (λ n next. listFrom v next n order) ≡ Listed c f e → Passed v order c f
     unfolding listFrom
-    counted (Number n next) c f e h = skipped (skipFrom v order n next) n next refl c f e h
+    counted (Number n next) c f e h = skipped (skipTagged v order n next) n next refl c f e h
     counted (noNumber r) c f e h = clash cc
 
     none : (i : Index) (b : Bool) (c : ℕ) (f : Index) (e : ℕ) → cond b (noList AfterKey) (Listed 0 i 0) ≡ Listed c f e → Passed v order c f
-    unfolding skipFrom
     none i true c f e h = clash cc
     none i false c f e h =
         let a : 0 ≡ c = cc in
-        subst (λ (x : ℕ). Passed v order x f) a (record { end = f; passed = refl })
+        subst (λ (x : ℕ). Passed v order x f) a (record { end = f; passed = skip-none v order f })
 
     at-list : (i : Index) (minor c : ℕ) (f : Index) (e : ℕ) → listAt v i minor order ≡ Listed c f e → Passed v order c f
     unfolding listAt countedList
     at-list i minor c f e h =
         by-test (hasComponents minor) (λ t. counted (countAt v i order) c f e (rw t at h)) (λ t. none i (ltb (i .0) (length v)) c f e (rw t at h))
-
-    past : (c : ComponentPart) (i : Index) → componentAt v i order ≡ c → (m : ℕ) (e : Index) → onComponent c (λ next. skipFrom v order m next) ≡ To e
-        → (n : ℕ) → ((next : Index) → skipFrom v order m next ≡ To e → Stands v order n next) → Stands v order (suc n) i
-    unfolding skipFrom
-    past (Component tag from size next) i q m e h n stands =
-        let s = stands next h in
-        record { at = s .at; passed = ap (λ (c : ComponentPart). onComponent c (λ (j : Index). skipFrom v order n j)) q ∙ s .passed; tag = s .tag; from = s .from; size = s .size; next = s .next; component = s .component }
-    past (noComponent r) i q m e h n stands = clash cc
-
-    here : (c : ComponentPart) (i : Index) → componentAt v i order ≡ c → (m : ℕ) (e : Index) → onComponent c (λ next. skipFrom v order m next) ≡ To e → Stands v order 0 i
-    unfolding skipFrom
-    here (Component tag from size next) i q m e h = record { at = i; passed = refl; tag = tag; from = from; size = size; next = next; component = q }
-    here (noComponent r) i q m e h = clash cc
-
-    -- where so many components were passed over, each of them stands
-    each-stands : (n m : ℕ) (i e : Index) → n < m → skipFrom v order m i ≡ To e → Stands v order n i
-    unfolding skipFrom
-    each-stands n zero i e l h = clash (omega (arith, l))
-    each-stands zero (suc m) i e l h = here (componentAt v i order) i refl m e h
-    each-stands (suc n) (suc m) i e l h = past (componentAt v i order) i refl m e h n (λ next. each-stands n m next e (omega (arith, l)))
 
   module _ (p : Profile) where
     on-list : (l : Components) (head : Head) (host : Extent) (port : ℕ) (key : Extent) (i : Index) → listAt v i (head .minor) (head .order) ≡ l
@@ -120,11 +91,11 @@ module _ (v : List ℕ) where
     on-list (noList r) head host port key i q hostIn keyIn h = clash cc
 
     on-key : (k : OctetsPart) (head : Head) (host : Extent) (port : ℕ) (i : Index) → keyAt v i (head .order) ≡ k → host .from .0 + host .length + 1 ≤ length v
-        → onOctets k (λ key next. listThen v head host port key next) ≡ Read p → Shown v p
+        → onSpan k (λ key next. listThen v head host port key next) ≡ Read p → Shown v p
     unfolding listThen
-    on-key (Span from n next) head host port i q hostIn h =
-        let f = key-inside v i (head .order) from n next q in
-        on-list (listAt v next (head .minor) (head .order)) head host port (extent from n) next refl hostIn (omega (arith, f .0, f .1)) h
+    on-key (Span octets next) head host port i q hostIn h =
+        let f = key-inside v i (head .order) octets next q in
+        on-list (listAt v next (head .minor) (head .order)) head host port octets next refl hostIn (omega (arith, f .0, f .1)) h
     on-key (noSpan r) head host port i q hostIn h = clash cc
 
     on-port : (n : NumberPart) (head : Head) (host : Extent) → host .from .0 + host .length + 1 ≤ length v
@@ -133,11 +104,11 @@ module _ (v : List ℕ) where
     on-port (Number port next) head host hostIn h = on-key (keyAt v next (head .order)) head host port next refl hostIn h
     on-port (noNumber r) head host hostIn h = clash cc
 
-    on-host : (k : OctetsPart) (head : Head) (i : Index) → hostAt v i (head .order) ≡ k → onOctets k (λ host next. portThen v head host next) ≡ Read p → Shown v p
+    on-host : (k : OctetsPart) (head : Head) (i : Index) → hostAt v i (head .order) ≡ k → onSpan k (λ host next. portThen v head host next) ≡ Read p → Shown v p
     unfolding portThen
-    on-host (Span from n next) head i q h =
-        let f = host-inside v i (head .order) from n next q in
-        on-port (portAt v next (head .order)) head (extent from n) (omega (arith, f .0, f .1)) h
+    on-host (Span octets next) head i q h =
+        let f = host-inside v i (head .order) octets next q in
+        on-port (portAt v next (head .order)) head octets (omega (arith, f .0, f .1)) h
     on-host (noSpan r) head i q h = clash cc
 
     on-version : (k : VersionPart) (order : Order)
@@ -146,7 +117,7 @@ module _ (v : List ℕ) where
     on-version (Version major minor next) order h = on-host (hostAt v next order) (record { order = order; major = major; minor = minor }) next refl h
     on-version (noVersion r) order h = clash cc
 
-    on-order : (k : OrderPart) → onOrder k (λ order next. versionThen v order next) ≡ Read p → Shown v p
+    on-order : (k : OrderPart) → onOrderPart k (λ order next. versionThen v order next) ≡ Read p → Shown v p
     unfolding versionThen
     on-order (InOrder order next) h = on-version (versionAt v next) order h
     on-order (noOrder r) h = clash cc
@@ -154,8 +125,8 @@ module _ (v : List ℕ) where
     shown : profileOf v ≡ Read p → (length v ≤ octetsLimit) × Shown v p
     unfolding profileOf choose versionThen hostThen portThen keyThen listThen
     shown h =
-        by-test (ltb 16384 (length v)) (λ t. let q : Refused TooLong ≡ Read p = rw t at h in clash cc)
-        (λ t. (ltb-false 16384 (length v) t, on-order (orderAt v start) (rw t at h)))
+        by-test (ltb octetsLimit (length v)) (λ t. let q : Refused TooLong ≡ Read p = rw t at h in clash cc)
+        (λ t. (ltb-false octetsLimit (length v) t, on-order (orderPartAt v start) (rw t at h)))
 
 pub reads-within : ReadsWithin
 reads-within v p h = let s = shown v p h in record { limit = s .0; host = s .1 .host; key = s .1 .key }
@@ -165,11 +136,12 @@ finds-all v p h number l =
     let o = p .head .order in
     let a = shown v p h .1 .list in
     let s = each-stands v o number (p .components) (p .first) (a .end) l (a .passed) in
-    let c = component-from-is v o (p .first) number (To (s .at)) (s .passed) ∙ s .component in
-    let f = component-inside v (s .at) o (s .tag) (s .from) (s .size) (s .next) (s .component) in
+    let there = inner-is v (s .at) o (Tag (s .tag) (s .octets) (s .next)) (s .there) in
+    let c = component-behind v o (p .first) number (s .at) (s .passed) ∙ there in
+    let f = tagged-inside v (s .at) o (s .tag) (s .octets) (s .next) (s .there) in
     record {
       tag = s .tag;
-      octets = extent (s .from) (s .size);
-      answer = component-is v number (Read p) h ∙ component-there v number p l (Component (s .tag) (s .from) (s .size) (s .next)) c;
+      octets = s .octets;
+      answer = component-is v number (Read p) h ∙ component-there v number p l (Component (s .tag) (s .octets) (s .next)) c;
       within = omega (arith, f .0, f .1);
     }

@@ -8,31 +8,31 @@
 --   componentRow       a component as numbers: tag, the index of its octets' first one, their length
 --   componentValues    the row of an answer about a component
 --   componentNumbers   the number of an answer about a component, then its row
---   extent             octets by their first one's index and their number
---   onOrder, onVersion, onOctets, onNumber, onList
+--   onOrderPart, onVersion, onSpan, onNumber, onList
 --                      what follows a part, or its refusal
 --   profileOf          the reading of a body, part by part
---   octetsIn           "the caller's own octets" of an extent
 --   hostIn             the host of a body that was read, no octets of a refused one
---   hostOctets         "host (without its zero)"
+--   hostExtent         "host (without its zero)"
 --   keyIn              the key of a body that was read, no octets of a refused one
---   keyOctets          the key
+--   keyExtent          the key
 --   foundFrom          what a component that was read is told as
 --   componentThen      the component of a number in a body that was read: 69 "for a number not below their count"
 --   componentIn        the component of an answer about a body
 --   componentOf        "a component by number from 0, with its tag; 69, last"
---   foundOctets        the octets of a component that is there, none where it is refused
---   componentOctets    the octets of the component of a number
+--   foundIn            the octets of a component that is there, none where it is refused
+--   componentExtent    the octets of the component of a number
 use Prim.Native.Nat.{ℕ}
 use mathlib.Core.List.{List, [], _∷_}
 use lib.Dec.{ltb, leb}
-use lib.ListN.{length, take, drop, replicate}
+use lib.ListN.{length, replicate}
 use Rattle.choices.specs.Branch.{choose}
 use Rattle.cdr.specs.declared.Index.{Index}
 use Rattle.cdr.specs.declared.Order.{Order}
 use Rattle.cdr.specs.Limit.{octetsLimit}
 use Rattle.cdr.specs.Orders.{orderOctet}
+use Rattle.cdr_fields.specs.declared.Extent.{Extent}
 use Rattle.cdr_fields.specs.Encapsulation.{start}
+use Rattle.cdr_fields.specs.Extents.{noExtent}
 use Rattle.profile_parts.specs.declared.Refusal.the-variants.{TooLong, NoSuchComponent}
 use Rattle.profile_parts.specs.declared.OrderPart.{OrderPart}
 use Rattle.profile_parts.specs.declared.OrderPart.the-variants.{InOrder, Refused as noOrder}
@@ -46,18 +46,17 @@ use Rattle.profile_parts.specs.declared.ComponentPart.{ComponentPart}
 use Rattle.profile_parts.specs.declared.ComponentPart.the-variants.{Component, Refused as noComponent}
 use Rattle.profile.specs.declared.list.Components.{Components}
 use Rattle.profile.specs.declared.list.Components.the-variants.{Listed, Refused as noList}
-use Rattle.profile.specs.declared.Extent.{Extent}
 use Rattle.profile.specs.declared.Profile.{Profile}
 use Rattle.profile.specs.declared.ProfileAnswer.{ProfileAnswer}
 use Rattle.profile.specs.declared.ProfileAnswer.the-variants.{Read, Refused}
 use Rattle.profile.specs.declared.ComponentAnswer.{ComponentAnswer}
 use Rattle.profile.specs.declared.ComponentAnswer.the-variants.{Found, Refused as notFound}
-use Rattle.profile_parts.specs.Parts.{refusalNumber, orderAt, versionAt, hostAt, portAt, keyAt}
+use Rattle.profile_parts.specs.Parts.{profileRefusalNumber, orderPartAt, versionAt, hostAt, portAt, keyAt}
 use Rattle.profile.specs.List.{listAt, componentFrom}
 
 abbrev pub profileNumber : ProfileAnswer → ℕ
 profileNumber (Read p) = 0
-profileNumber (Refused r) = refusalNumber r
+profileNumber (Refused r) = profileRefusalNumber r
 
 abbrev pub profileRow : Profile → List ℕ
 profileRow p =
@@ -73,7 +72,7 @@ profileNumbers a = profileNumber a ∷ profileValues a
 
 abbrev pub componentNumber : ComponentAnswer → ℕ
 componentNumber (Found tag octets) = 0
-componentNumber (notFound r) = refusalNumber r
+componentNumber (notFound r) = profileRefusalNumber r
 
 abbrev pub componentRow : ℕ → Extent → List ℕ
 componentRow tag octets = tag ∷ octets .from .0 ∷ octets .length ∷ []
@@ -85,20 +84,17 @@ componentValues (notFound r) = replicate 3 0
 abbrev pub componentNumbers : ComponentAnswer → List ℕ
 componentNumbers a = componentNumber a ∷ componentValues a
 
-abbrev pub extent : Index → ℕ → Extent
-extent from n = record { from = from; length = n }
-
-abbrev pub onOrder : OrderPart → (Order → Index → ProfileAnswer) → ProfileAnswer
-onOrder (InOrder order next) f = f order next
-onOrder (noOrder r) f = Refused r
+abbrev pub onOrderPart : OrderPart → (Order → Index → ProfileAnswer) → ProfileAnswer
+onOrderPart (InOrder order next) f = f order next
+onOrderPart (noOrder r) f = Refused r
 
 abbrev pub onVersion : VersionPart → (ℕ → ℕ → Index → ProfileAnswer) → ProfileAnswer
 onVersion (Version major minor next) f = f major minor next
 onVersion (noVersion r) f = Refused r
 
-abbrev pub onOctets : OctetsPart → (Extent → Index → ProfileAnswer) → ProfileAnswer
-onOctets (Span from n next) f = f (extent from n) next
-onOctets (noSpan r) f = Refused r
+abbrev pub onSpan : OctetsPart → (Extent → Index → ProfileAnswer) → ProfileAnswer
+onSpan (Span octets next) f = f octets next
+onSpan (noSpan r) f = Refused r
 
 abbrev pub onNumber : NumberPart → (ℕ → Index → ProfileAnswer) → ProfileAnswer
 onNumber (Number x next) f = f x next
@@ -111,11 +107,11 @@ onList (noList r) f = Refused r
 unfoldable pub profileOf : List ℕ → ProfileAnswer
 profileOf v =
     choose (ltb octetsLimit (length v)) (λ _. Refused TooLong) (λ _.
-    onOrder (orderAt v start) (λ order next.
+    onOrderPart (orderPartAt v start) (λ order next.
     onVersion (versionAt v next) (λ major minor next.
-    onOctets (hostAt v next order) (λ host next.
+    onSpan (hostAt v next order) (λ host next.
     onNumber (portAt v next order) (λ port next.
-    onOctets (keyAt v next order) (λ key next.
+    onSpan (keyAt v next order) (λ key next.
     onList (listAt v next minor order) (λ count first extra.
     Read (record {
       head = record { order = order; major = major; minor = minor };
@@ -127,25 +123,22 @@ profileOf v =
       extra = extra;
     }))))))))
 
-unfoldable pub octetsIn : List ℕ → Extent → List ℕ
-octetsIn v part = take (part .length) (drop (part .from .0) v)
+abbrev pub hostIn : ProfileAnswer → Extent
+hostIn (Read p) = p .host
+hostIn (Refused r) = noExtent
 
-abbrev pub hostIn : List ℕ → ProfileAnswer → List ℕ
-hostIn v (Read p) = octetsIn v (p .host)
-hostIn v (Refused r) = []
+unfoldable pub hostExtent : List ℕ → Extent
+hostExtent v = hostIn (profileOf v)
 
-unfoldable pub hostOctets : List ℕ → List ℕ
-hostOctets v = hostIn v (profileOf v)
+abbrev pub keyIn : ProfileAnswer → Extent
+keyIn (Read p) = p .key
+keyIn (Refused r) = noExtent
 
-abbrev pub keyIn : List ℕ → ProfileAnswer → List ℕ
-keyIn v (Read p) = octetsIn v (p .key)
-keyIn v (Refused r) = []
-
-unfoldable pub keyOctets : List ℕ → List ℕ
-keyOctets v = keyIn v (profileOf v)
+unfoldable pub keyExtent : List ℕ → Extent
+keyExtent v = keyIn (profileOf v)
 
 abbrev pub foundFrom : ComponentPart → ComponentAnswer
-foundFrom (Component tag from n next) = Found tag (extent from n)
+foundFrom (Component tag octets next) = Found tag octets
 foundFrom (noComponent r) = notFound r
 
 unfoldable pub componentThen : List ℕ → Profile → ℕ → ComponentAnswer
@@ -159,9 +152,9 @@ componentIn v number (Refused r) = notFound r
 unfoldable pub componentOf : List ℕ → ℕ → ComponentAnswer
 componentOf v number = componentIn v number (profileOf v)
 
-abbrev pub foundOctets : List ℕ → ComponentAnswer → List ℕ
-foundOctets v (Found tag octets) = octetsIn v octets
-foundOctets v (notFound r) = []
+abbrev pub foundIn : ComponentAnswer → Extent
+foundIn (Found tag octets) = octets
+foundIn (notFound r) = noExtent
 
-unfoldable pub componentOctets : List ℕ → ℕ → List ℕ
-componentOctets v number = foundOctets v (componentOf v number)
+unfoldable pub componentExtent : List ℕ → ℕ → Extent
+componentExtent v number = foundIn (componentOf v number)

@@ -1,10 +1,13 @@
 // An IIOP profile body: order, version, host, port, key, components and extra octets, or 01's refusal, 42 and 60 to 64; and a component by
 // number, 69. Parts of the body come back as the caller's own octets.
 ghost use mathlib.Core.Path.{_≡_};
-ghost use Rattle.profile.specs.Profile.{octetsIn, profileNumber, componentNumber, profileOf, componentOf, componentThen, hostOctets, keyOctets, componentOctets};
+ghost use Rattle.profile.specs.Profile.{profileNumber, componentNumber, profileOf, componentOf, componentThen};
+ghost use Rattle.profile.specs.Profile.{hostExtent, keyExtent, componentExtent};
+ghost use Rattle.cdr_fields.specs.Extents.{PartOf};
 ghost use Rattle.profile.specs.Inner.{versionThen, hostThen, portThen, keyThen, listThen};
 use cdr::Index;
 use cdr::Order;
+use cdr_fields::Extent;
 use profile_parts::ComponentPart;
 use profile_parts::NumberPart;
 use profile_parts::OctetsPart;
@@ -18,12 +21,6 @@ use list::Components;
 
 // The most octets of a body.
 const LIMIT: usize = cdr::OCTETS_LIMIT;
-
-// Octets of a body: the first one's index, and how many.
-pub struct Extent {
-    pub from: Index,
-    pub length: usize,
-}
 
 // What a body's first octets say.
 pub struct Head {
@@ -117,9 +114,7 @@ fn host_then(s: &[u8], head: Head, at: Index) -> ProfileAnswer
 {
     let order = head.order;
     match profile_parts::host_at(s, at, order) {
-        OctetsPart::Span { from, length, next } => {
-            port_then(s, head, Extent { from, length }, next)
-        }
+        OctetsPart::Span { octets, next } => port_then(s, head, octets, next),
         OctetsPart::Refused(refusal) => ProfileAnswer::Refused(refusal),
     }
 }
@@ -141,9 +136,7 @@ fn key_then(s: &[u8], head: Head, host: Extent, port: u64, at: Index) -> Profile
 {
     let order = head.order;
     match profile_parts::key_at(s, at, order) {
-        OctetsPart::Span { from, length, next } => {
-            list_then(s, head, host, port, Extent { from, length }, next)
-        }
+        OctetsPart::Span { octets, next } => list_then(s, head, host, port, octets, next),
         OctetsPart::Refused(refusal) => ProfileAnswer::Refused(refusal),
     }
 }
@@ -194,58 +187,39 @@ fn component_then(s: &[u8], profile: Profile, number: u64) -> ComponentAnswer
     match list::component_from(s, first, number, order) {
         ComponentPart::Component {
             tag,
-            from,
-            length,
+            octets,
             next: _,
-        } => ComponentAnswer::Found {
-            tag,
-            octets: Extent { from, length },
-        },
+        } => ComponentAnswer::Found { tag, octets },
         ComponentPart::Refused(refusal) => ComponentAnswer::Refused(refusal),
     }
 }
 
-// The octets of an extent, as far as they are there.
-pub fn octets_in<'a>(s: &'a [u8], part: Extent) -> &'a [u8]
-    ensures { λ r. ⌜ now r ≡ octetsIn (now (s .entry)) part ⌝ }
-{
-    let from = part.from.0;
-    let length = part.length;
-    if s.len() < from {
-        return &s[0..0];
-    }
-    if s.len() - from <= length {
-        return &s[from..];
-    }
-    &s[from..from + length]
-}
-
 // The host of a body, without its final zero; no octets of a refused body.
 pub fn host<'a>(s: &'a [u8]) -> &'a [u8]
-    ensures { λ r. ⌜ now r ≡ hostOctets (now (s .entry)) ⌝ }
+    ensures { λ r. ⌜ PartOf (s .entry) (hostExtent (now (s .entry))) r ⌝ }
 {
     match read(s) {
-        ProfileAnswer::Read(profile) => octets_in(s, profile.host),
-        ProfileAnswer::Refused(_) => &s[0..0],
+        ProfileAnswer::Read(profile) => cdr_fields::octets_in(s, profile.host),
+        ProfileAnswer::Refused(_) => &s[0..0], // no host
     }
 }
 
 // The key of a body; no octets of a refused body.
 pub fn key<'a>(s: &'a [u8]) -> &'a [u8]
-    ensures { λ r. ⌜ now r ≡ keyOctets (now (s .entry)) ⌝ }
+    ensures { λ r. ⌜ PartOf (s .entry) (keyExtent (now (s .entry))) r ⌝ }
 {
     match read(s) {
-        ProfileAnswer::Read(profile) => octets_in(s, profile.key),
-        ProfileAnswer::Refused(_) => &s[0..0],
+        ProfileAnswer::Read(profile) => cdr_fields::octets_in(s, profile.key),
+        ProfileAnswer::Refused(_) => &s[0..0], // no key
     }
 }
 
 // The octets of the component of a body that has a number; none where it is refused.
 pub fn component_octets<'a>(s: &'a [u8], number: u64) -> &'a [u8]
-    ensures { λ r. ⌜ now r ≡ componentOctets (now (s .entry)) number ⌝ }
+    ensures { λ r. ⌜ PartOf (s .entry) (componentExtent (now (s .entry)) number) r ⌝ }
 {
     match component(s, number) {
-        ComponentAnswer::Found { tag: _, octets } => octets_in(s, octets),
+        ComponentAnswer::Found { tag: _, octets } => cdr_fields::octets_in(s, octets),
         ComponentAnswer::Refused(_) => &s[0..0],
     }
 }

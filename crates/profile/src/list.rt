@@ -2,18 +2,13 @@
 ghost use mathlib.Core.Path.{_≡_};
 ghost use Prim.Native.Nat.{_≤_};
 ghost use lib.ListN.{length};
-ghost use Rattle.profile.specs.List.{skipFrom, listFrom, countedList, listAt, componentFrom};
+ghost use Rattle.profile.specs.List.{listFrom, countedList, listAt, componentFrom};
 use cdr::Index;
 use cdr::Order;
+use cdr_fields::Skipped;
 use profile_parts::ComponentPart;
 use profile_parts::NumberPart;
 use profile_parts::Refusal;
-
-// The index after so many components.
-pub(crate) enum Skip {
-    To(Index),
-    Refused(Refusal),
-}
 
 // The number of components, the first one's index, and the octets after the last.
 pub(crate) enum Components {
@@ -23,31 +18,6 @@ pub(crate) enum Components {
         extra: usize,
     },
     Refused(Refusal),
-}
-
-// The index after `count` components.
-fn skip_from(s: &[u8], at: Index, count: u64, order: Order) -> Skip
-    ensures { λ r. ⌜ r ≡ skipFrom (now (s .entry)) order count at ⌝ }
-{
-    let mut next = at;
-    let mut k: u64 = 0;
-    while k < count {
-        match profile_parts::component_at(s, next, order) {
-            ComponentPart::Refused(refusal) => {
-                return Skip::Refused(refusal);
-            }
-            ComponentPart::Component {
-                tag: _,
-                from: _,
-                length: _,
-                next: i,
-            } => {
-                next = i;
-            }
-        }
-        k += 1;
-    }
-    Skip::To(next)
 }
 
 // What stands behind the key: nothing in a minor version without components, else their count, so many of them, and octets that are extra.
@@ -82,22 +52,22 @@ fn list_from(s: &[u8], first: Index, count: u64, order: Order) -> Components
     requires { ⌜ first .0 ≤ length (now s) ⌝ }
     ensures { λ r. ⌜ r ≡ listFrom (now (s .entry)) first count order ⌝ }
 {
-    match skip_from(s, first, count, order) {
-        Skip::To(end) => Components::Listed {
+    match cdr_fields::skip_tagged(s, first, count, order) {
+        Skipped::Upto(end) => Components::Listed {
             count,
             first,
             extra: s.len() - end.0,
         },
-        Skip::Refused(refusal) => Components::Refused(refusal),
+        Skipped::TooFew => Components::Refused(Refusal::Ends),
     }
 }
 
-// The component behind `number` others.
+// The component behind `number` others, read by the reader that holds the octets.
 pub(crate) fn component_from(s: &[u8], first: Index, number: u64, order: Order) -> ComponentPart
     ensures { λ r. ⌜ r ≡ componentFrom (now (s .entry)) first number order ⌝ }
 {
-    match skip_from(s, first, number, order) {
-        Skip::To(at) => profile_parts::component_at(s, at, order),
-        Skip::Refused(refusal) => ComponentPart::Refused(refusal),
+    match cdr_fields::skip_tagged(s, first, number, order) {
+        Skipped::Upto(at) => profile_reader::component_in(s, at, order),
+        Skipped::TooFew => ComponentPart::Refused(Refusal::Ends),
     }
 }

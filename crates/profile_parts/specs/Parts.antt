@@ -1,28 +1,25 @@
 -- "An encapsulation: order octet, major, minor, host string, port, key; from minor 1 a list of components (tag, octets)." Each part is read
 -- at an index of the body's octets v, its own index 0 first, and tells the index after it; each gives 60 where its octets end.
---   refusalNumber       01's number of a refusal
---   orderNumbers, versionNumbers, octetsNumbers, numberNumbers, componentNumbers
---                       01's number of an answer about a part, 0 for one that was read, and its values: all that it tells, or 0
---   orderNamed          the order that an octet names, or 61 "order octet above 1"
---   orderFrom           what the order octet gives, if it is there
---   orderAt             the order octet
---   minorFrom           what the minor gives, if it is there: 62 "not 1.0 to 1.2"
---   minorAt             the minor, behind a major that exists
---   majorFrom           what the major gives, if it is there: 62, "major tested before minor is read"
---   versionAt           the version
---   hostFrom            what a string gives as a host: 63 "host as 32"; `from` and `length` tell it "without its zero"
---   hostAt              the host
---   numberFrom          what a field gives as a number
---   numberPartAt        a number of a size
---   portAt              the port, an unsigned short
---   keyFrom             what counted octets give as a key
---   keyAt               the key: its octets behind their count
---   countAt             the number of components, an unsigned long
---   taggedFrom          a component by its tag and what stands behind it
---   tagFrom             what a field gives as a tag, then the octets behind their count
---   componentAt         a component: its tag, an unsigned long, then its octets
+--   profileRefusalNumber   01's number of a refusal
+--   orderNamed             the order that an octet names, or 61 "order octet above 1"
+--   orderFrom              what the order octet gives, if it is there
+--   orderPartAt            the order octet
+--   minorFrom              what the minor gives, if it is there: 62 "not 1.0 to 1.2"
+--   minorPartAt            the minor, behind a major that exists
+--   majorFrom              what the major gives, if it is there: 62, "major tested before minor is read"
+--   versionAt              the version
+--   hostFrom               what a text gives as a host, "without its zero": 63 "host as 32"
+--   hostAt                 the host
+--   numberPart             what a field gives as a number
+--   numberPartAt           a number of a size
+--   portAt                 the port, an unsigned short
+--   keyFrom                what counted octets give as a key
+--   keyAt                  the key: its octets behind their count
+--   countAt                the number of components, an unsigned long
+--   componentPart          what tagged octets give as a component
+--   componentAt            a component: its tag, an unsigned long, then its octets
 use Prim.Native.Nat.{ℕ, _+_}
-use mathlib.Core.List.{List, [], _∷_}
+use mathlib.Core.List.{List}
 use mathlib.Core.Bool.{cond}
 use lib.ListN.{getD}
 use Rattle.cdr.specs.declared.Index.{Index}
@@ -35,8 +32,10 @@ use Rattle.cdr_text.specs.declared.Run.{Run}
 use Rattle.cdr_text.specs.declared.Run.the-variants.{To, Past}
 use Rattle.cdr_fields.specs.declared.Field.{Field}
 use Rattle.cdr_fields.specs.declared.Field.the-variants.{Value, NoField}
-use Rattle.cdr_fields.specs.declared.Str.{Str}
-use Rattle.cdr_fields.specs.declared.Str.the-variants.{Characters, BadText, NoText}
+use Rattle.cdr_fields.specs.declared.StringAt.{StringAt}
+use Rattle.cdr_fields.specs.declared.StringAt.the-variants.{Text, BadText, NoText}
+use Rattle.cdr_fields.specs.declared.Tagged.{Tagged}
+use Rattle.cdr_fields.specs.declared.Tagged.the-variants.{Tag, NoTag}
 use Rattle.cdr_fields.specs.declared.Counted.{Counted}
 use Rattle.cdr_fields.specs.declared.Counted.the-variants.{Octets, NoOctets}
 use Rattle.profile_parts.specs.declared.Refusal.{Refusal}
@@ -53,38 +52,20 @@ use Rattle.profile_parts.specs.declared.ComponentPart.{ComponentPart}
 use Rattle.profile_parts.specs.declared.ComponentPart.the-variants.{Component, Refused as noComponent}
 use Rattle.version.specs.Versions.{majorExists, minorExists}
 use Rattle.cdr.specs.Align.{indexOf}
-use Rattle.cdr.specs.Orders.{orderOctet, orderOf}
+use Rattle.cdr.specs.Orders.{orderOf}
 use Rattle.cdr_text.specs.Text.{runOf}
-use Rattle.cdr_fields.specs.Encapsulation.{fieldOf, stringOf, countedOf}
+use Rattle.cdr_fields.specs.Encapsulation.{fieldOf, countedOf}
+use Rattle.cdr_fields.specs.Extents.{extent, stringAt}
+use Rattle.cdr_fields.specs.Tagged.{taggedAt}
 
-abbrev pub refusalNumber : Refusal → ℕ
-refusalNumber TooLong = 42
-refusalNumber Ends = 60
-refusalNumber NoSuchOrder = 61
-refusalNumber NoSuchVersion = 62
-refusalNumber BadHost = 63
-refusalNumber AfterKey = 64
-refusalNumber NoSuchComponent = 69
-
-abbrev pub orderNumbers : OrderPart → List ℕ
-orderNumbers (InOrder order next) = 0 ∷ orderOctet order ∷ next .0 ∷ []
-orderNumbers (noOrder r) = refusalNumber r ∷ 0 ∷ 0 ∷ []
-
-abbrev pub versionNumbers : VersionPart → List ℕ
-versionNumbers (Version major minor next) = 0 ∷ major ∷ minor ∷ next .0 ∷ []
-versionNumbers (noVersion r) = refusalNumber r ∷ 0 ∷ 0 ∷ 0 ∷ []
-
-abbrev pub octetsNumbers : OctetsPart → List ℕ
-octetsNumbers (Span from n next) = 0 ∷ from .0 ∷ n ∷ next .0 ∷ []
-octetsNumbers (noSpan r) = refusalNumber r ∷ 0 ∷ 0 ∷ 0 ∷ []
-
-abbrev pub numberNumbers : NumberPart → List ℕ
-numberNumbers (Number x next) = 0 ∷ x ∷ next .0 ∷ []
-numberNumbers (noNumber r) = refusalNumber r ∷ 0 ∷ 0 ∷ []
-
-abbrev pub componentNumbers : ComponentPart → List ℕ
-componentNumbers (Component tag from n next) = 0 ∷ tag ∷ from .0 ∷ n ∷ next .0 ∷ []
-componentNumbers (noComponent r) = refusalNumber r ∷ 0 ∷ 0 ∷ 0 ∷ 0 ∷ []
+abbrev pub profileRefusalNumber : Refusal → ℕ
+profileRefusalNumber TooLong = 42
+profileRefusalNumber Ends = 60
+profileRefusalNumber NoSuchOrder = 61
+profileRefusalNumber NoSuchVersion = 62
+profileRefusalNumber BadHost = 63
+profileRefusalNumber AfterKey = 64
+profileRefusalNumber NoSuchComponent = 69
 
 abbrev pub orderNamed : Named → Index → OrderPart
 orderNamed (Is order) next = InOrder order next
@@ -94,43 +75,43 @@ abbrev pub orderFrom : List ℕ → Index → Run → OrderPart
 orderFrom v i (To e) = orderNamed (orderOf (getD v (i .0) 0)) (indexOf e)
 orderFrom v i Past = noOrder Ends
 
-unfoldable pub orderAt : List ℕ → Index → OrderPart
-orderAt v i = orderFrom v i (runOf v (i .0) 1)
+unfoldable pub orderPartAt : List ℕ → Index → OrderPart
+orderPartAt v i = orderFrom v i (runOf v (i .0) 1)
 
 abbrev pub minorFrom : List ℕ → ℕ → Index → Run → VersionPart
 minorFrom v major i (To e) = cond (minorExists (getD v (i .0) 0)) (Version major (getD v (i .0) 0) (indexOf e)) (noVersion NoSuchVersion)
 minorFrom v major i Past = noVersion Ends
 
-unfoldable pub minorAt : List ℕ → ℕ → Index → VersionPart
-minorAt v major i = minorFrom v major i (runOf v (i .0) 1)
+unfoldable pub minorPartAt : List ℕ → ℕ → Index → VersionPart
+minorPartAt v major i = minorFrom v major i (runOf v (i .0) 1)
 
 abbrev pub majorFrom : List ℕ → Index → Run → VersionPart
-majorFrom v i (To e) = cond (majorExists (getD v (i .0) 0)) (minorAt v (getD v (i .0) 0) (indexOf (i .0 + 1))) (noVersion NoSuchVersion)
+majorFrom v i (To e) = cond (majorExists (getD v (i .0) 0)) (minorPartAt v (getD v (i .0) 0) (indexOf (i .0 + 1))) (noVersion NoSuchVersion)
 majorFrom v i Past = noVersion Ends
 
 unfoldable pub versionAt : List ℕ → Index → VersionPart
 versionAt v i = majorFrom v i (runOf v (i .0) 1)
 
-abbrev pub hostFrom : Str → OctetsPart
-hostFrom (Characters from n) = Span from n (indexOf (from .0 + n + 1))
+abbrev pub hostFrom : StringAt → OctetsPart
+hostFrom (Text octets next) = Span octets next
 hostFrom BadText = noSpan BadHost
 hostFrom NoText = noSpan Ends
 
 unfoldable pub hostAt : List ℕ → Index → Order → OctetsPart
-hostAt v i order = hostFrom (stringOf v i order)
+hostAt v i order = hostFrom (stringAt v i order)
 
-abbrev pub numberFrom : Field → NumberPart
-numberFrom (Value x next) = Number x next
-numberFrom NoField = noNumber Ends
+abbrev pub numberPart : Field → NumberPart
+numberPart (Value x next) = Number x next
+numberPart NoField = noNumber Ends
 
 unfoldable pub numberPartAt : List ℕ → Index → Size → Order → NumberPart
-numberPartAt v i size order = numberFrom (fieldOf v i size order)
+numberPartAt v i size order = numberPart (fieldOf v i size order)
 
 abbrev pub portAt : List ℕ → Index → Order → NumberPart
 portAt v i order = numberPartAt v i Two order
 
 abbrev pub keyFrom : Counted → OctetsPart
-keyFrom (Octets from n) = Span from n (indexOf (from .0 + n))
+keyFrom (Octets from n) = Span (extent from n) (indexOf (from .0 + n))
 keyFrom NoOctets = noSpan Ends
 
 unfoldable pub keyAt : List ℕ → Index → Order → OctetsPart
@@ -139,13 +120,9 @@ keyAt v i order = keyFrom (countedOf v i order)
 abbrev pub countAt : List ℕ → Index → Order → NumberPart
 countAt v i order = numberPartAt v i Four order
 
-abbrev pub taggedFrom : ℕ → Counted → ComponentPart
-taggedFrom tag (Octets from n) = Component tag from n (indexOf (from .0 + n))
-taggedFrom tag NoOctets = noComponent Ends
-
-abbrev pub tagFrom : List ℕ → Order → Field → ComponentPart
-tagFrom v order (Value tag next) = taggedFrom tag (countedOf v next order)
-tagFrom v order NoField = noComponent Ends
+abbrev pub componentPart : Tagged → ComponentPart
+componentPart (Tag tag octets next) = Component tag octets next
+componentPart NoTag = noComponent Ends
 
 unfoldable pub componentAt : List ℕ → Index → Order → ComponentPart
-componentAt v i order = tagFrom v order (fieldOf v i Four order)
+componentAt v i order = componentPart (taggedAt v i order)

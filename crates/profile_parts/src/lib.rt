@@ -1,13 +1,16 @@
 // The parts of an IIOP profile body, an encapsulation: each is read where it stands. Every function answers for any octets and index.
 ghost use mathlib.Core.Path.{_≡_};
-ghost use Rattle.profile_parts.specs.Parts.{refusalNumber, orderAt, minorAt, versionAt, hostAt, numberPartAt, portAt, keyAt, countAt, componentAt};
+ghost use Rattle.profile_parts.specs.Parts.{profileRefusalNumber, orderPartAt, minorPartAt, versionAt, hostAt};
+ghost use Rattle.profile_parts.specs.Parts.{numberPartAt, portAt, keyAt, countAt, componentAt};
 use cdr::Index;
 use cdr::Named;
 use cdr::Order;
 use cdr::Size;
 use cdr_fields::Counted;
+use cdr_fields::Extent;
 use cdr_fields::Field;
-use cdr_fields::Str;
+use cdr_fields::StringAt;
+use cdr_fields::Tagged;
 use cdr_text::Run;
 
 // Why a profile body is refused, or a component of it is not there.
@@ -24,7 +27,7 @@ pub enum Refusal {
 impl Refusal {
     // 01's number.
     pub fn number(self) -> u32
-        ensures { λ r. ⌜ r ≡ refusalNumber self ⌝ }
+        ensures { λ r. ⌜ r ≡ profileRefusalNumber self ⌝ }
     {
         match self {
             Refusal::TooLong => refusals::TOO_LONG,
@@ -52,11 +55,7 @@ pub enum VersionPart {
 
 // Octets of the body, the host's without its final zero or the key's, and the index after them.
 pub enum OctetsPart {
-    Span {
-        from: Index,
-        length: usize,
-        next: Index,
-    },
+    Span { octets: Extent, next: Index },
     Refused(Refusal),
 }
 
@@ -70,8 +69,7 @@ pub enum NumberPart {
 pub enum ComponentPart {
     Component {
         tag: u64,
-        from: Index,
-        length: usize,
+        octets: Extent,
         next: Index,
     },
     Refused(Refusal),
@@ -79,7 +77,7 @@ pub enum ComponentPart {
 
 // The order that the octet at an index names.
 pub fn order_at(s: &[u8], at: Index) -> OrderPart
-    ensures { λ r. ⌜ r ≡ orderAt (now (s .entry)) at ⌝ }
+    ensures { λ r. ⌜ r ≡ orderPartAt (now (s .entry)) at ⌝ }
 {
     let i = at.0;
     let Run::To(end) = cdr_text::read_run(s, i, 1) else {
@@ -112,7 +110,7 @@ pub fn version_at(s: &[u8], at: Index) -> VersionPart
 
 // The version whose minor stands at an index.
 fn minor_at(s: &[u8], major: u8, at: Index) -> VersionPart
-    ensures { λ r. ⌜ r ≡ minorAt (now (s .entry)) major at ⌝ }
+    ensures { λ r. ⌜ r ≡ minorPartAt (now (s .entry)) major at ⌝ }
 {
     let i = at.0;
     let Run::To(end) = cdr_text::read_run(s, i, 1) else {
@@ -134,14 +132,10 @@ fn minor_at(s: &[u8], major: u8, at: Index) -> VersionPart
 pub fn host_at(s: &[u8], at: Index, order: Order) -> OctetsPart
     ensures { λ r. ⌜ r ≡ hostAt (now (s .entry)) at order ⌝ }
 {
-    match cdr_fields::read_string(s, at, order) {
-        Str::Characters { from, length } => OctetsPart::Span {
-            from,
-            length,
-            next: Index(from.0 + length + 1),
-        },
-        Str::BadText => OctetsPart::Refused(Refusal::BadHost),
-        Str::NoText => OctetsPart::Refused(Refusal::Ends),
+    match cdr_fields::string_at(s, at, order) {
+        StringAt::Text { text, next } => OctetsPart::Span { octets: text, next },
+        StringAt::BadText => OctetsPart::Refused(Refusal::BadHost),
+        StringAt::NoText => OctetsPart::Refused(Refusal::Ends),
     }
 }
 
@@ -158,8 +152,10 @@ pub fn key_at(s: &[u8], at: Index, order: Order) -> OctetsPart
 {
     match cdr_fields::read_counted(s, at, order) {
         Counted::Octets { from, count } => OctetsPart::Span {
-            from,
-            length: count,
+            octets: Extent {
+                from,
+                length: count,
+            },
             next: Index(from.0 + count),
         },
         Counted::NoOctets => OctetsPart::Refused(Refusal::Ends),
@@ -187,17 +183,8 @@ fn number_at(s: &[u8], at: Index, size: Size, order: Order) -> NumberPart
 pub fn component_at(s: &[u8], at: Index, order: Order) -> ComponentPart
     ensures { λ r. ⌜ r ≡ componentAt (now (s .entry)) at order ⌝ }
 {
-    let Field::Value { value: tag, next } = cdr_fields::read_field(s, at, Size::Four, order)
-    else {
-        return ComponentPart::Refused(Refusal::Ends);
-    };
-    match cdr_fields::read_counted(s, next, order) {
-        Counted::Octets { from, count } => ComponentPart::Component {
-            tag,
-            from,
-            length: count,
-            next: Index(from.0 + count),
-        },
-        Counted::NoOctets => ComponentPart::Refused(Refusal::Ends),
+    match cdr_fields::tagged_at(s, at, order) {
+        Tagged::Tag { tag, octets, next } => ComponentPart::Component { tag, octets, next },
+        Tagged::NoTag => ComponentPart::Refused(Refusal::Ends),
     }
 }

@@ -1,5 +1,5 @@
 -- What the walks of several functions share.
-mod Held
-mod Thin
-mod Three
-mod Two
+mod ReaderOwns
+mod ThinCallMeets
+mod ThreeFieldsMeet
+mod TwoFieldsMeet

@@ -1,9 +1,9 @@
 // A reader of a profile body: a struct that holds the body's octets, an index in them and their byte order, and a thin call for each part in
-// turn. Each takes the struct apart and leaves the work to `parts`. 42, 64 and the extra octets are of the whole body: `profile::read` gives them.
+// turn. Each takes the struct apart and leaves the work to `profile_parts`. 42, 64 and the extra octets are of the whole body: `profile::read` gives them.
 ghost use mathlib.Core.Path.{_≡_};
 ghost use Rattle.cdr.specs.Align.{indexOf};
 ghost use Rattle.cdr.specs.declared.Order.the-variants.{Big};
-ghost use Rattle.profile_parts.specs.Parts.{orderAt, versionAt, hostAt, portAt, keyAt, countAt, componentAt};
+ghost use Rattle.profile_parts.specs.Parts.{orderPartAt, versionAt, hostAt, portAt, keyAt, countAt, componentAt};
 use cdr::Index;
 use cdr::Order;
 use profile_parts::ComponentPart;
@@ -43,7 +43,7 @@ pub fn moved<'a>(r: Reader<'a>, at: Index, order: Order) -> Reader<'a>
 
 // The order octet.
 pub fn order<'a>(r: Reader<'a>) -> OrderPart
-    ensures { λ p. ⌜ p ≡ orderAt (now (r .entry .octets)) (r .entry .at) ⌝ }
+    ensures { λ p. ⌜ p ≡ orderPartAt (now (r .entry .octets)) (r .entry .at) ⌝ }
 {
     profile_parts::order_at(r.octets, r.at)
 }

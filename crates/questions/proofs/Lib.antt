@@ -1,15 +1,7 @@
--- What the steps of answering a line amount to; what room is enough, what profile bodies are held, and which answers have no items or octets;
--- what need not be kept of a line, the turns of a block, that the table's contents decide no answer, calls over a whole input, and samples.
-pub mod Answers
-pub mod Readings
-pub mod Enough
-pub mod Bodies
-pub mod Without
-pub mod Firsts
-pub mod Cuts
-pub mod Onto
+-- Places of a block one after another, the turns of a block, that each turn writes what its line is answered, that the table's contents decide no
+-- answer, and that every input is answered, whatever the blocks and calls.
+pub mod OntoOnward
 pub mod Blocks
-pub mod Turns
-pub mod Tables
-pub mod Inputs
-pub mod Samples
+pub mod TurnsAnswer
+pub mod TableUnseen
+pub mod EveryInput

@@ -1,20 +1,33 @@
 -- Calls one after another, from the characters kept of a line on to the end of an input.
---   Calls    by the line's memory, the input that is left, and the text that the calls write:
---            a call on a block that the input left begins with, and the calls after it (next);
---            a line that the end of input ends, answered as an LF would end it (ended);
---            the end of input, where no line was begun (last)
+--   QuestionCalls    by the line's memory, the input that is left, and the text that the calls write:
+--                    a call on a block that the input left begins with, and the calls after it (next);
+--                    a line that the end of input ends, answered as an LF would end it (ended);
+--                    the end of input, where no line was begun (last)
+--   TakesSome        each of the calls takes some of its block, and is lent an output and a table of these lengths
+--   AnsweredThrough  calls, with such outputs and tables, that answer an input to its end, and the text that they write
 use mathlib.Core.Path.{_≡_}
 use mathlib.Core.List.{List, [], _∷_, _++_}
-use Prim.Native.Nat.{ℕ}
-use lib.ListN.{take, drop}
+use Prim.Native.Nat.{ℕ, _<_}
+use lib.ListN.{take, drop, length}
 use Rattle.lines.specs.Lines.{lf}
 use Rattle.questions.specs.declared.Progress.{Progress}
-use Rattle.questions.specs.Blocks.{BlockAnswered}
+use Rattle.questions.specs.Blocks.{QuestionsAnswered}
 
-pub data Calls : ℕ → List ℕ → List ℕ → List ℕ → Type 0 where
+pub data QuestionCalls : ℕ → List ℕ → List ℕ → List ℕ → Type 0 where
   next : (kept : ℕ) (line out table input block : List ℕ) (from : ℕ) (rest : List ℕ) (r : Progress) (lineLast outLast tableLast text : List ℕ)
-      → input ≡ drop from block ++ rest → BlockAnswered block from line out table kept r lineLast outLast tableLast
-      → Calls (r .kept) lineLast (drop (r .next) block ++ rest) text → Calls kept line input (take (r .filled) outLast ++ text)
+      → input ≡ drop from block ++ rest → QuestionsAnswered block from line out table kept r lineLast outLast tableLast
+      → QuestionCalls (r .kept) lineLast (drop (r .next) block ++ rest) text → QuestionCalls kept line input (take (r .filled) outLast ++ text)
   ended : (kept : ℕ) (line : List ℕ) (c : ℕ) (rest text : List ℕ) → take kept line ≡ c ∷ rest
-      → Calls kept line (lf ∷ []) text → Calls kept line [] text
-  last : (kept : ℕ) (line : List ℕ) → take kept line ≡ [] → Calls kept line [] []
+      → QuestionCalls kept line (lf ∷ []) text → QuestionCalls kept line [] text
+  last : (kept : ℕ) (line : List ℕ) → take kept line ≡ [] → QuestionCalls kept line [] []
+
+unfoldable pub TakesSome : {kept : ℕ} {line input text : List ℕ} → (outs tables : ℕ) → QuestionCalls kept line input text → Type 0
+TakesSome outs tables (next kept line out table input block from rest r lineLast outLast tableLast text e a c) =
+    (from < r .next) × (length out ≡ outs) × (length table ≡ tables) × TakesSome outs tables c
+TakesSome outs tables (ended kept line c rest text e d) = TakesSome outs tables d
+TakesSome outs tables (last kept line e) = Unit {0}
+
+pub record AnsweredThrough (outs tables kept : ℕ) (line input : List ℕ) : Type 0 where
+  pub text : List ℕ
+  pub calls : QuestionCalls kept line input text
+  pub onward : TakesSome outs tables calls

@@ -1,8 +1,4 @@
--- The questions that a line may be, and their answers.
-pub mod Octets
-pub mod Questions
-pub mod Replies
+-- Questions, one a line, answered block by block.
 pub mod Blocks
 pub mod Calls
-pub mod Inner
 pub mod Turns

@@ -7,13 +7,14 @@ use mathlib.Core.List.{List, _++_}
 use Prim.Native.Nat.{ℕ, _+_, _<_, _≤_}
 use lib.ListN.{length, take, drop}
 use Rattle.questions.specs.declared.Progress.{Progress}
-use Rattle.questions.specs.Blocks.{lineRoom, tableRoom, longest, Work, turnOf, answersAfter}
+use Rattle.ask_answers.specs.Answers.{tableRoom, answerMost}
+use Rattle.questions.specs.Blocks.{askRoom, AskWork, askTurn, answersAfter}
 
 pub record Goes (block line out table : ℕ) (at : Progress) : Type 0 where
   pub more : at .next < block
-  pub whole : lineRoom ≤ line
+  pub whole : askRoom ≤ line
   pub tabled : tableRoom ≤ table
-  pub room : at .filled + longest ≤ out
+  pub room : at .filled + answerMost ≤ out
 
 pub record Onto (block : List ℕ) (a : Progress) (line out : List ℕ) (b : Progress) (lineLast outLast : List ℕ) : Type 0 where
   pub answered : (rest : List ℕ) → take (a .filled) out ++ answersAfter (a .kept) line (drop (a .next) block ++ rest)
@@ -27,7 +28,7 @@ pub record Onto (block : List ℕ) (a : Progress) (line out : List ℕ) (b : Pro
   pub moved : a .filled < b .filled → a .next < b .next
   pub inside : a .next ≤ length block → b .next ≤ length block
 
-pub record Turned (block : List ℕ) (a b : Work) : Type 0 where
+pub record Turned (block : List ℕ) (a b : AskWork) : Type 0 where
   pub on : a .at .next < b .at .next
   pub onto : Onto block (a .at) (a .line) (a .out) (b .at) (b .line) (b .out)
-  pub is : b ≡ turnOf block a
+  pub is : b ≡ askTurn block a

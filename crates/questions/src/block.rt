@@ -3,12 +3,10 @@ ghost use mathlib.Core.Path.{_≡_};
 ghost use mathlib.Core.Bool.{true, false};
 ghost use Prim.Native.Nat.{_<_, min};
 ghost use lib.ListN.{length};
-ghost use Rattle.questions.specs.Blocks.{workOf};
+ghost use Rattle.questions.specs.Blocks.{askWork};
 ghost use Rattle.questions.specs.Turns.{Goes, Turned};
 use crate::LINE_ROOM;
-use crate::LONGEST;
 use crate::Progress;
-use crate::TABLE_ROOM;
 use cdr_write::Written;
 
 // Whether characters are left in the block, and there is room for any line, its items and its answer.
@@ -21,16 +19,7 @@ pub(crate) fn goes_on(block: usize, line: usize, out: usize, table: usize, at: P
     if line < LINE_ROOM {
         return false;
     }
-    if table < TABLE_ROOM {
-        return false;
-    }
-    if out < LONGEST {
-        return false;
-    }
-    if out - LONGEST < at.filled {
-        return false;
-    }
-    true
+    ask_answers::has_room(table, out, at.filled)
 }
 
 // Takes the characters up to the next LF, and answers the line if the LF was met.
@@ -42,7 +31,10 @@ pub(crate) fn turn(
     at: Progress,
 ) -> Progress
     requires { ⌜ Goes (length (now block)) (length (now line)) (length (now out)) (length (now table)) at ⌝ }
-    ensures { λ r. ⌜ Turned (now (block .entry)) (workOf at (now (line .entry)) (now (out .entry)) (now (table .entry))) (workOf r (now (line .exit)) (now (out .exit)) (now (table .exit))) ⌝ }
+    ensures { λ r. ⌜
+        Turned (now (block .entry)) (askWork at (now (line .entry)) (now (out .entry)) (now (table .entry)))
+        (askWork r (now (line .exit)) (now (out .exit)) (now (table .exit)))
+        ⌝ }
 {
     let taken = lines::take_line(block, at.next, line, at.kept);
     let kept = taken.kept;
@@ -54,7 +46,7 @@ pub(crate) fn turn(
             filled,
         };
     }
-    let Written::Upto(end) = crate::answer_line(&line[..kept], out, table, filled) else {
+    let Written::Upto(end) = ask_answers::answer_line(&line[..kept], out, table, filled) else {
         return at;
     };
     Progress {

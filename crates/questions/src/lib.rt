@@ -1,38 +1,11 @@
-// Questions, one a line, and the text of their answers: the check of a TypeCode, the reading of a value, one of its items, a value rewritten,
-// the reading of a profile body, and one of its components.
-ghost use mathlib.Core.Path.{_≡_};
-ghost use Prim.Native.Nat.{_^_, _<_, _≤_};
-ghost use lib.ListN.{length};
-ghost use Rattle.cdr_write.specs.Write.{Stored};
-ghost use Rattle.ask_words.specs.Words.{words};
-ghost use Rattle.questions.specs.Questions.{lineMost, wordQuestion, questionOf};
-ghost use Rattle.questions.specs.Replies.{answerLine};
-ghost use Rattle.questions.specs.Inner.{numbersOf, Replied, octetsMost, octetsOf, Held};
-ghost use Rattle.questions.specs.Blocks.{tableRoom, tableFor, BlockAnswered};
-use ask_text::Reply;
-use cdr_write::Written;
+// Questions, one a line, answered block by block.
+ghost use Rattle.questions.specs.Blocks.{QuestionsAnswered};
+use ask_answers::LINE_LIMIT;
 
-mod about;
 mod block;
-mod octets;
-mod profiles;
-mod rewrites;
-mod types;
-mod values;
-
-// The most characters of a line.
-const LINE_LIMIT: usize = 131072;
 
 // The characters that are kept of a line: one more than a line may have tells an over-long one.
-pub const LINE_ROOM: usize = 131073;
-
-// The numbers of a table for 16,384 items.
-pub const TABLE_ROOM: usize = 49152;
-
-// The characters of the longest answer: three numbers of at most 20 digits, `ok` and four spaces; and 16,384 items of three such numbers,
-// two colons and a comma or an LF, which are more than the digits of 16,391 octets, or of a profile's host and key, each within 16,384 octets,
-// and three numbers beside them.
-pub const LONGEST: usize = 1032258;
+pub const LINE_ROOM: usize = LINE_LIMIT + 1;
 
 // Where a call stands: the characters kept of the line begun, the next character of the block, and the characters of output filled.
 pub struct Progress {
@@ -42,8 +15,8 @@ pub struct Progress {
 }
 
 // Takes characters of `block` from `from` on and answers each line that ends in it, from the start of `out`; stops at the block's end, or
-// where `out` has no room left for the longest answer, `line` has under LINE_ROOM characters or `table` under TABLE_ROOM numbers. `line` keeps
-// the line that was begun, of which it has `kept` characters; `table` is left with the items of the values answered, each from its start on.
+// where `out` has no room left for the longest answer, `line` has under LINE_ROOM characters or `table` no room for any answer's items. `line`
+// keeps the line that was begun, of which it has `kept` characters; `table` is left with the items of the values answered, each from its start on.
 pub fn answer_block(
     block: &[u8],
     from: usize,
@@ -52,7 +25,10 @@ pub fn answer_block(
     table: &mut [u64],
     kept: usize,
 ) -> Progress
-    ensures { λ r. ⌜ BlockAnswered (now (block .entry)) from (now (line .entry)) (now (out .entry)) (now (table .entry)) kept r (now (line .exit)) (now (out .exit)) (now (table .exit)) ⌝ }
+    ensures { λ r. ⌜
+        QuestionsAnswered (now (block .entry)) from (now (line .entry)) (now (out .entry)) (now (table .entry)) kept
+        r (now (line .exit)) (now (out .exit)) (now (table .exit))
+        ⌝ }
 {
     let mut at = Progress {
         kept,
@@ -63,112 +39,4 @@ pub fn answer_block(
         at = block::turn(block, line, out, table, at);
     }
     at
-}
-
-// Writes the answer of a line's characters, and its LF, from `at` on, or nothing where it does not fit.
-fn answer_line(line: &[u8], out: &mut [u8], table: &mut [u64], at: usize) -> Written
-    requires { ⌜ tableRoom ≤ length (now table) ⌝ }
-    ensures { λ r. ⌜ (Stored (now (out .entry)) at (answerLine (now (line .entry))) r (now (out .exit))) × (now (table .exit) ≡ tableFor (questionOf (now (line .entry))) (now (table .entry))) ⌝ }
-{
-    let mut memory = [0u8; rewrites::MOST];
-    let reply = reply_to(line, table, &mut memory);
-    let n = numbers_of(reply);
-    let m = octets_of(reply);
-    ask_text::write_reply(out, at, reply, &table[..n], &memory[..m])
-}
-
-// The numbers of the table that an answer has.
-fn numbers_of(reply: Reply) -> usize
-    requires { ⌜ numbersOf reply < 2 ^ 64 ⌝ }
-    ensures { λ r. ⌜ r ≡ numbersOf reply ⌝ }
-{
-    match reply {
-        Reply::Read {
-            used: _,
-            visits: _,
-            count,
-        } => count * 3,
-        Reply::Typed { used: _, kinds: _ }
-        | Reply::Refused(_)
-        | Reply::Unread {
-            number: _,
-            visits: _,
-        }
-        | Reply::Signed(_)
-        | Reply::Unsigned(_)
-        | Reply::Single(_)
-        | Reply::Double(_)
-        | Reply::Rewritten(_)
-        | Reply::Profiled(_, _)
-        | Reply::Component(_, _, _)
-        | Reply::NoQuestion => 0,
-    }
-}
-
-// The octets of the memory that an answer has.
-fn octets_of(reply: Reply) -> usize
-    ensures { λ r. ⌜ r ≡ octetsOf reply ⌝ }
-{
-    match reply {
-        Reply::Rewritten(count) => count,
-        Reply::Profiled(_, count) => count,
-        Reply::Component(_, _, count) => count,
-        Reply::Typed { used: _, kinds: _ }
-        | Reply::Read {
-            used: _,
-            visits: _,
-            count: _,
-        }
-        | Reply::Refused(_)
-        | Reply::Unread {
-            number: _,
-            visits: _,
-        }
-        | Reply::Signed(_)
-        | Reply::Unsigned(_)
-        | Reply::Single(_)
-        | Reply::Double(_)
-        | Reply::NoQuestion => 0,
-    }
-}
-
-// What a line is answered; a value's items are left in `table`, a rewritten value's octets or a profile body in `memory`.
-fn reply_to(line: &[u8], table: &mut [u64], memory: &mut [u8]) -> Reply
-    requires { ⌜ (tableRoom ≤ length (now table)) × (octetsMost ≤ length (now memory)) ⌝ }
-    ensures { λ r. ⌜ (Replied (questionOf (now (line .entry))) (now (table .entry)) r (now (table .exit))) × Held (questionOf (now (line .entry))) r (now (memory .exit)) ⌝ }
-{
-    if LINE_LIMIT < line.len() {
-        return Reply::NoQuestion;
-    }
-    let end = ask_words::first_end(line);
-    if end == line.len() {
-        return Reply::NoQuestion;
-    }
-    reply_words(&line[..end], &line[end + 1..], table, memory)
-}
-
-// What the first word of a line and those behind it are answered.
-fn reply_words(word: &[u8], rest: &[u8], table: &mut [u64], memory: &mut [u8]) -> Reply
-    requires { ⌜ (length (now rest) ≤ lineMost) × (tableRoom ≤ length (now table)) × (octetsMost ≤ length (now memory)) ⌝ }
-    ensures { λ r. ⌜ (Replied (wordQuestion (now (word .entry)) (words (now (rest .entry)))) (now (table .entry)) r (now (table .exit))) × Held (wordQuestion (now (word .entry)) (words (now (rest .entry)))) r (now (memory .exit)) ⌝ }
-{
-    if ask_words::same(word, b"type") {
-        return types::reply_type(rest);
-    }
-    if ask_words::same(word, b"value") {
-        return values::reply_value(rest, table);
-    }
-    if ask_words::same(word, b"item") {
-        return values::reply_item(rest);
-    }
-    if ask_words::same(word, b"rewrite") {
-        return rewrites::reply_rewrite(rest, memory);
-    }
-    if ask_words::same(word, b"profile") {
-        return profiles::reply_profile(rest, memory);
-    }
-    if ask_words::same(word, b"component") {
-        return profiles::reply_component(rest, memory);
-    }
-    Reply::NoQuestion
 }

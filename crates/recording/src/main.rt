@@ -1,13 +1,15 @@
 // Reads a recording: standard input is lines of hexadecimal, one message each. The listing goes to standard output: each line's
 // number, answer and message, or `-` where it gives none; last `end LINES OPEN`. A read or a write that fails is said on standard error,
 // and no `end` is written.
-use libc::STDERR_FILENO;
+use cdr_write::Written;
+use join_places::PLACES_SIZE;
 use libc::STDIN_FILENO;
-use libc::STDOUT_FILENO;
+use program::READS;
 use recording_text::LINE_ROOM;
 use recording_text::State;
-use join_places::PLACES_SIZE;
-use cdr_write::Written;
+
+// The characters of memory for answers, which are written when no more of the longest fit.
+const OUTPUT: usize = 131072;
 
 // Where the recording stands, and whether every read and write has gone well.
 struct Reading {
@@ -19,7 +21,7 @@ fn main() {
     let mut block = io::large_buffer();
     let mut line = [0u8; LINE_ROOM];
     let mut places = [0u8; PLACES_SIZE];
-    let mut out = [0u8; 131072];
+    let mut out = [0u8; OUTPUT];
     let read = read_all(&mut block, &mut line, &mut places, &mut out);
     if !read.ok {
         return;
@@ -31,8 +33,7 @@ fn main() {
 // Reads standard input to its end, and writes the answer of every line that ends in an LF.
 fn read_all(block: &mut [u8], line: &mut [u8], places: &mut [u8], out: &mut [u8]) -> Reading {
     let mut state = State::fresh();
-    // A proved loop has to end, and nothing says that the input does: no run uses up so many turns.
-    let mut turns = u64::MAX;
+    let mut turns = READS;
     while turns > 0 {
         let got = libc::read(STDIN_FILENO, block);
         if got < 0 {
@@ -54,7 +55,7 @@ fn read_all(block: &mut [u8], line: &mut [u8], places: &mut [u8], out: &mut [u8]
 
 // The reading of an input of which a read failed.
 fn unread(state: State) -> Reading {
-    os::fail(b"read");
+    program::say_unread();
     Reading { state, ok: false }
 }
 
@@ -76,7 +77,7 @@ fn take_block(
             return stuck(state);
         }
         from = next;
-        if !write_text(out, done.filled) {
+        if !program::write_text(out, done.filled) {
             return Reading { state, ok: false };
         }
     }
@@ -92,10 +93,10 @@ fn close(line: &mut [u8], places: &mut [u8], out: &mut [u8], state: State) {
     let last = ended.state;
     match recording_text::answer_end(line, places, out, last) {
         Written::Upto(end) => {
-            write_text(out, end);
+            program::write_text(out, end);
         }
         Written::NoRoom => {
-            stuck(last);
+            program::say_full();
         }
     }
 }
@@ -108,27 +109,14 @@ fn end_line(line: &mut [u8], places: &mut [u8], out: &mut [u8], state: State) ->
     take_block(b"\n", line, places, out, state)
 }
 
-// Writes the first characters of the output's memory; says whether that went well.
-fn write_text(out: &[u8], filled: usize) -> bool {
-    if out.len() < filled {
-        io::write_all(STDERR_FILENO, b"write: no memory for the answers\n");
-        return false;
-    }
-    if io::write_all(STDOUT_FILENO, &out[..filled]) {
-        return true;
-    }
-    os::fail(b"write");
-    false
-}
-
 // The reading of a block that is not gone on with: the output's memory has no room for an answer.
 fn stuck(state: State) -> Reading {
-    io::write_all(STDERR_FILENO, b"write: no memory for an answer\n");
+    program::say_full();
     Reading { state, ok: false }
 }
 
-// The reading of an input that outlasts the turns.
+// The reading of an input that outlasts the reads.
 fn endless(state: State) -> Reading {
-    io::write_all(STDERR_FILENO, b"read: the input does not end\n");
+    program::say_endless();
     Reading { state, ok: false }
 }

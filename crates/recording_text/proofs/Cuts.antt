@@ -1,17 +1,17 @@
 -- The listing does not see the characters of a line beyond the 8,193rd, so no more of them need be kept.
 use mathlib.Core.Path.{_≡_, refl, sym, ap, _∙_}
 use mathlib.Core.Bool.{Bool, true, false}
-use mathlib.Core.List.{List, [], _∷_, _++_}
-use Prim.Native.Nat.{ℕ, suc, _-_, _<_}
+use mathlib.Core.List.{List, _∷_}
+use Prim.Native.Nat.{ℕ, _<_}
 use native.Mathlib.Omega.{arith}
 use lib.Dec.{ltb}
 use lib.ListN.{length, take}
-use lib.Seq.{take-all, length-take-le, take-take}
+use lib.Seq.{take-all, length-take-le}
 use borrow.Author.Tests.{ltb-true, ltb-false}
 use Rattle.hexline.specs.Decoding.{lineLimit}
 use Rattle.hexline.proofs.Answers.{too-long}
-use Rattle.lines.specs.Lines.{upToLF, afterLF, lastLine, linesFrom, linesOf}
-use Rattle.lines.proofs.Laws.{lines-first, lines-end, take-longer}
+use Rattle.lines.specs.Lines.{linesFrom}
+use Rattle.lines.proofs.Cuts.{begun-cut as cut}
 use Rattle.join_places.specs.declared.Record.{Record}
 use Rattle.recording_text.specs.Listing.{octetsMost, entryOf, listingFrom}
 
@@ -37,19 +37,7 @@ module _ (n : ℕ) (h : lineLimit < n) where
   unfolding listingFrom
   listing-first k r places a b rest e = rw (entry-same a b r places e)
 
-  last-cut : (k : ℕ) (r : Record) (places l : List ℕ) (m : ℕ) → n ≡ suc m → listingFrom k r places (lastLine (take n l)) ≡ listingFrom k r places (lastLine l)
-  last-cut k r places [] m e = rw e
-  last-cut k r places (c ∷ l) m e =
-      ap (λ (j : ℕ). listingFrom k r places (lastLine (take j (c ∷ l)))) e
-      ∙ listing-first k r places (take (suc m) (c ∷ l)) (c ∷ l) []
-      (ap (λ (j : ℕ). take n (take j (c ∷ l))) (sym e) ∙ take-take n n (c ∷ l) (omega arith))
-
   -- of a line that has been begun, no more than that need be kept
   pub begun-cut : (k : ℕ) (r : Record) (places l input : List ℕ)
       → listingFrom k r places (linesFrom (take n l) input) ≡ listingFrom k r places (linesFrom l input)
-  begun-cut k r places l [] =
-      let e : n ≡ suc (n - 1) = omega arith in
-      rw (lines-end (take n l), lines-end l) (last-cut k r places l (n - 1) e)
-  begun-cut k r places l (c ∷ rest) =
-      rw (lines-first (take n l) c rest, lines-first l c rest)
-      (listing-first k r places (take n l ++ upToLF (c ∷ rest)) (l ++ upToLF (c ∷ rest)) (linesOf (afterLF (c ∷ rest))) (take-longer n l (upToLF (c ∷ rest))))
+  begun-cut k r places = cut n (omega arith) (listingFrom k r places) (listing-first k r places)

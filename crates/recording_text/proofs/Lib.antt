@@ -1,10 +1,11 @@
--- Messages put, one line's answer, the turns of a block, what need not be kept, the listing of a block, of the end and of a recording, what decides it, and samples.
-pub mod Puts
-pub mod Entries
-pub mod Blocks
+-- Messages put, one line's answer, the turns of a block, what need not be kept, the listing of a block, of the end and of a recording,
+-- what decides it, and samples.
+pub mod MessagePut
+pub mod EntryListed
+pub mod TurnEquations
 pub mod Cuts
-pub mod Listings
-pub mod Ends
-pub mod Recordings
-pub mod Determined
-pub mod Samples
+pub mod BlockListed
+pub mod EndListed
+pub mod RecordingListed
+pub mod ListingDetermined
+pub mod SamplesComputed

@@ -118,7 +118,8 @@ listingAfter state line places input = listingFrom (state .lines) (state .messag
 --   unfilled    and the output behind it is as it was
 --   reached     where room is left for one more answer, the whole block was taken,
 --   onward      and a call that has room for one takes some of it
-pub record BlockAnswered (block : List ℕ) (from : ℕ) (line places out : List ℕ) (state : State) (r : Progress) (lineLast placesLast outLast : List ℕ) : Type 0 where
+pub record BlockAnswered (block : List ℕ) (from : ℕ) (line places out : List ℕ) (state : State) (r : Progress)
+    (lineLast placesLast outLast : List ℕ) : Type 0 where
   pub listed : (rest : List ℕ) → listingAfter state line places (drop from block ++ rest)
       ≡ take (r .filled) outLast ++ listingAfter (r .state) lineLast placesLast (drop (r .next) block ++ rest)
   pub within : r .filled ≤ length out

@@ -24,9 +24,9 @@ use Rattle.join_places.specs.declared.Record.{Record}
 use Rattle.join_places.specs.Places.{placeSize, freshRecord, openCount}
 use Rattle.join_answers.specs.declared.Output.{Output}
 use Rattle.join_answers.specs.declared.Output.the-variants.{Message, Nothing}
-use Rattle.joining.specs.Steps.{Step, stepOf}
+use Rattle.joining.specs.Steps.{Step}
 use Rattle.join_answers.specs.Answers.{outputIn, answerNumber}
-use Rattle.joining.specs.Answers.{messageWritten, answerTo, recordAfter, placesAfter}
+use Rattle.joining.specs.Answers.{messageWritten, stepWithin, answerTo, recordAfter, placesAfter}
 use Rattle.recording_text.specs.Text.{dash, lineText, endText}
 
 abbrev pub octetsMost : ℕ
@@ -58,7 +58,7 @@ joinedEntry step v r places =
     }
 
 abbrev pub entryFrom : Decoded → List ℕ → Record → List ℕ → Entry
-entryFrom (Octets n) v r places = joinedEntry (stepOf v r places messageMost) v r places
+entryFrom (Octets n) v r places = joinedEntry (stepWithin v r places messageMost) v r places
 entryFrom TooLong v r places = refusedEntry (decodedNumber TooLong) r places
 entryFrom NotDigits v r places = refusedEntry (decodedNumber NotDigits) r places
 -- never given: at most 8,192 digits have at most 4,096 octets

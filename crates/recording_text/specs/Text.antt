@@ -1,17 +1,15 @@
 -- The text that the program writes, as characters.
---   space, dash    the character of a space, and the text `-`
+--   dash           the text `-`
 --   lineText       "line number, answer, and the message, in upper case, or `-`"
 --   endText        "then lines read and messages open": `end LINES OPEN`
 use mathlib.Core.List.{List, [], _∷_, _++_}
 use Prim.Native.Nat.{ℕ}
 use Rattle.decimals.specs.Decimal.{decimal}
-use Rattle.lines.specs.Lines.{lf}
-
-abbrev pub space : ℕ
-space = 32
+use Rattle.lines.specs.Lines.{lf, hyphen}
+pub use Rattle.lines.specs.Lines.{space}
 
 abbrev pub dash : List ℕ
-dash = 45 ∷ []
+dash = hyphen ∷ []
 
 unfoldable pub lineText : ℕ → ℕ → List ℕ → List ℕ
 lineText line answer shown = decimal line ++ (space ∷ (decimal answer ++ (space ∷ (shown ++ (lf ∷ [])))))

@@ -23,7 +23,11 @@ pub(crate) fn answer_lines(
     message: &mut [u8],
 ) -> Progress
     requires { ⌜ Memory (now octets) (now message) ⌝ }
-    ensures { λ r. ⌜ workOf r (now (line .exit)) (now (places .exit)) (now (out .exit)) ≡ blockFrom (length (now (block .entry))) (now (block .entry)) (workOf start (now (line .entry)) (now (places .entry)) (now (out .entry))) ⌝ }
+    ensures { λ r. ⌜
+        workOf r (now (line .exit)) (now (places .exit)) (now (out .exit))
+        ≡ blockFrom (length (now (block .entry))) (now (block .entry))
+        (workOf start (now (line .entry)) (now (places .entry)) (now (out .entry)))
+        ⌝ }
 {
     let mut at = start;
     while goes_on(block.len(), line.len(), out.len(), at.next, at.filled) {
@@ -56,7 +60,10 @@ fn turn(
     message: &mut [u8],
 ) -> Progress
     requires { ⌜ Room (now out) (at .filled) (now octets) (now message) ⌝ }
-    ensures { λ r. ⌜ workOf r (now (line .exit)) (now (places .exit)) (now (out .exit)) ≡ turnOf (now (block .entry)) (workOf at (now (line .entry)) (now (places .entry)) (now (out .entry))) ⌝ }
+    ensures { λ r. ⌜
+        workOf r (now (line .exit)) (now (places .exit)) (now (out .exit))
+        ≡ turnOf (now (block .entry)) (workOf at (now (line .entry)) (now (places .entry)) (now (out .entry)))
+        ⌝ }
 {
     let state = at.state;
     let messages = state.messages;

@@ -1,8 +1,8 @@
 // The listing of a recording: what the program writes for its lines, answered block by block.
 ghost use mathlib.Core.Path.{_≡_};
 ghost use Rattle.recording_text.specs.Blocks.{freshState, BlockAnswered, EndAnswered};
-use join_places::Record;
 use cdr_write::Written;
+use join_places::Record;
 
 mod block;
 mod line;
@@ -54,7 +54,10 @@ pub fn answer_block(
     out: &mut [u8],
     state: State,
 ) -> Progress
-    ensures { λ r. ⌜ BlockAnswered (now (block .entry)) from (now (line .entry)) (now (places .entry)) (now (out .entry)) state r (now (line .exit)) (now (places .exit)) (now (out .exit)) ⌝ }
+    ensures { λ r. ⌜
+        BlockAnswered (now (block .entry)) from (now (line .entry)) (now (places .entry)) (now (out .entry)) state
+        r (now (line .exit)) (now (places .exit)) (now (out .exit))
+        ⌝ }
 {
     let mut octets = line::octets_memory();
     let mut message = line::message_memory();

@@ -3,13 +3,13 @@ ghost use mathlib.Core.Path.{_≡_};
 ghost use Prim.Native.Nat.{_+_, _≤_};
 ghost use lib.Dec.{leb};
 ghost use lib.ListN.{length};
-ghost use Rattle.joining.specs.Steps.{stepOf};
+ghost use Rattle.joining.specs.Answers.{stepWithin};
 ghost use Rattle.recording_text.specs.Listing.{octetsMost, messageMost, entryOf, joinedEntry, longest};
 ghost use Rattle.recording_text.specs.Inner.{Room, Lists};
 use crate::LONGEST;
 use crate::text;
-use join_answers::Output;
 use hexline::Decoded;
+use join_answers::Output;
 use join_places::Record;
 
 // The most octets of a line.
@@ -60,7 +60,10 @@ pub(crate) fn list_line(
     message: &mut [u8],
 ) -> Listed
     requires { ⌜ Room (now out) at (now octets) (now message) ⌝ }
-    ensures { λ r. ⌜ Lists (entryOf (now (characters .entry)) before (now (places .entry))) number (now (out .entry)) at r (now (places .exit)) (now (out .exit)) ⌝ }
+    ensures { λ r. ⌜
+        Lists (entryOf (now (characters .entry)) before (now (places .entry)))
+        number (now (out .entry)) at r (now (places .exit)) (now (out .exit))
+        ⌝ }
 {
     let decoded = hexline::decode(characters, octets);
     let Decoded::Octets(n) = decoded else {
@@ -81,7 +84,11 @@ fn list_octets(
     message: &mut [u8],
 ) -> Listed
     requires { ⌜ (at + longest ≤ length (now out)) × (length (now message) ≡ messageMost) ⌝ }
-    ensures { λ r. ⌜ Lists (joinedEntry (stepOf (now (octets .entry)) before (now (places .entry)) messageMost) (now (octets .entry)) before (now (places .entry))) number (now (out .entry)) at r (now (places .exit)) (now (out .exit)) ⌝ }
+    ensures { λ r. ⌜
+        Lists (joinedEntry (stepWithin (now (octets .entry)) before (now (places .entry)) messageMost)
+        (now (octets .entry)) before (now (places .entry)))
+        number (now (out .entry)) at r (now (places .exit)) (now (out .exit))
+        ⌝ }
 {
     let outcome = joining::join(octets, before, places, message);
     let answer = outcome.answer;

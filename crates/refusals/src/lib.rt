@@ -39,8 +39,8 @@ pub const NOT_IN_EIGHTS: u32 = 21;
 // A message's request id is that of an open message.
 pub const ID_OPEN: u32 = 22;
 
-// A first fragment comes when four messages are open.
-pub const FOUR_OPEN: u32 = 23;
+// A first fragment comes when as many messages are open as there are places.
+pub const NO_PLACE_FREE: u32 = 23;
 
 // A fragment's request id is not that of an open message.
 pub const ID_NOT_OPEN: u32 = 24;

@@ -4,7 +4,7 @@
 --   headOf       the number that stands for an item: a text's length counts its final zero
 --   tailOf       how many octets stand behind the number as they are
 --   Octet        an item that is an octet by itself
---   endOf        where an item ends that is written from `at` on, the first octet having the index `start`
+--   itemEnd      where an item ends that is written from `at` on, the first octet having the index `start`
 --   itemOctets   an item's octets from `at` on, its gap among them; v is the value that was read
 --   upTo         the octets of the first n items, one after the other
 --   reach        how many they are
@@ -19,27 +19,28 @@ use Rattle.choices.specs.{_≡_, Bool, cond, _||_, List, [], _++_, ℕ, zero, s
 use Rattle.choices.specs.{replicate}
 use Rattle.cdr.specs.{Index, Size, One, Four, octets, gap, behindGap, octetsOf, octetsLimit}
 use Rattle.type_kinds.specs.{Plain, Inner, Leaf, Forms.formOf}
-use Rattle.type_list.specs.{flat}
+use Rattle.type_unions.specs.{flat}
+use Rattle.type_numbers.specs.Kinds.{enumKind, stringKind, sequenceKind, runKind}
 use Rattle.value_meaning.specs.{Source, Item, item, anyRoom, reading, Visit.Checked, Visit.sizeOf}
 use Rattle.value.specs.Typed.{Bounded}
 use Rattle.rewrite_meaning.specs.{declared.RewriteAnswer.RewriteAnswer, Written.Target, Written.written, Rewriting.rewriteOf, Rewriting.writtenBy}
 
 unfoldable pub widthOf : ℕ → Size
-widthOf kind = cond (eqb kind 17 || (eqb kind 18 || (eqb kind 19 || eqb kind 256))) Four (sizeOf kind)
+widthOf kind = cond (eqb kind enumKind || (eqb kind stringKind || (eqb kind sequenceKind || eqb kind runKind))) Four (sizeOf kind)
 
 unfoldable pub headOf : ℕ → ℕ → ℕ
-headOf kind content = cond (eqb kind 18) (content + 1) content
+headOf kind content = cond (eqb kind stringKind) (content + 1) content
 
 unfoldable pub tailOf : ℕ → ℕ → ℕ
-tailOf kind content = cond (eqb kind 18) (content + 1) (cond (eqb kind 256) content 0)
+tailOf kind content = cond (eqb kind stringKind) (content + 1) (cond (eqb kind runKind) content 0)
 
 pub record Octet (kind : ℕ) : Type 0 where
   pub width : widthOf kind ≡ One
   pub head : (content : ℕ) → headOf kind content ≡ content
   pub tail : (content : ℕ) → tailOf kind content ≡ 0
 
-abbrev pub endOf : Index → ℕ → ℕ → ℕ → ℕ
-endOf start at kind content = behindGap start at (octets (widthOf kind)) + octets (widthOf kind) + tailOf kind content
+abbrev pub itemEnd : Index → ℕ → ℕ → ℕ → ℕ
+itemEnd start at kind content = behindGap start at (octets (widthOf kind)) + octets (widthOf kind) + tailOf kind content
 
 abbrev pub itemOctets : Target → List ℕ → ℕ → Item → List ℕ
 itemOctets to v at i =
@@ -53,7 +54,7 @@ upTo to v items (suc n) = upTo to v items n ++ itemOctets to v (length (upTo to 
 
 unfoldable pub reach : Index → (ℕ → Item) → ℕ → ℕ
 reach start items zero = 0
-reach start items (suc n) = endOf start (reach start items n) (items n .kind) (items n .content)
+reach start items (suc n) = itemEnd start (reach start items n) (items n .kind) (items n .content)
 
 abbrev pub rowOf : List ℕ → ℕ → Item
 rowOf rows k = item (getD rows (k * 3) 0) (getD rows (k * 3 + 1) 0) (getD rows (k * 3 + 2) 0)

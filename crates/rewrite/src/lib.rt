@@ -10,10 +10,10 @@ ghost use Rattle.type_list.specs.Arrays.{kindsMet};
 ghost use Rattle.rewrite.specs.Inner.{Readable, Holds, Rewrites};
 use cdr::Index;
 use cdr::Order;
-use value_leaves::Mode;
+use rewrite_meaning::RewriteAnswer;
 use type_list::Met;
 use value::Judged;
-use rewrite_meaning::RewriteAnswer;
+use value_leaves::Mode;
 
 mod rows;
 
@@ -28,68 +28,103 @@ const FEW: usize = 1024;
 // Rewrites a value in the chosen order from the chosen index on, from the start of the output, and gives the octets written; a refusal
 // leaves the output as it was. Every call takes 384 KB of stack for the value's items.
 pub fn rewrite(
-    t: &[u8],
+    types: &[u8],
     torder: Order,
-    v: &[u8],
+    value: &[u8],
     order: Order,
     start: Index,
     chosen: Order,
     index: Index,
     out: &mut [u8],
 ) -> RewriteAnswer
-    ensures { λ r. ⌜ (r ≡ rewriteAnswer (now (t .entry)) torder (source (now (v .entry)) order start) (target chosen index) (length (now (out .entry)))) × (now (out .exit) ≡ outputAfter (now (t .entry)) torder (source (now (v .entry)) order start) (target chosen index) (now (out .entry))) ⌝ }
+    ensures { λ r. ⌜
+        (r ≡ rewriteAnswer (now (types .entry)) torder (source (now (value .entry)) order start) (target chosen index)
+        (length (now (out .entry))))
+        ×
+        (now (out .exit) ≡ outputAfter (now (types .entry)) torder (source (now (value .entry)) order start) (target chosen index)
+        (now (out .entry)))
+        ⌝ }
 {
-    let c = value::check(t, torder, v.len());
+    let c = value::check(types, torder, value.len());
     let met = c.met;
     let judged = c.judged;
     match judged {
-        Judged::Accepted => rewrite_read(t, met, v, order, start, chosen, index, out),
+        Judged::Accepted => rewrite_read(types, met, value, order, start, chosen, index, out),
         Judged::Refused(number) => RewriteAnswer::Refused(number),
     }
 }
 
 // Rewrites a value where no order is named.
 pub fn rewrite_unnamed(
-    t: &[u8],
+    types: &[u8],
     torder: Order,
-    v: &[u8],
+    value: &[u8],
     order: Order,
     start: Index,
     index: Index,
     out: &mut [u8],
 ) -> RewriteAnswer
-    ensures { λ r. ⌜ (r ≡ rewriteAnswer (now (t .entry)) torder (source (now (v .entry)) order start) (target unnamedOrder index) (length (now (out .entry)))) × (now (out .exit) ≡ outputAfter (now (t .entry)) torder (source (now (v .entry)) order start) (target unnamedOrder index) (now (out .entry))) ⌝ }
+    ensures { λ r. ⌜
+        (r ≡ rewriteAnswer (now (types .entry)) torder (source (now (value .entry)) order start) (target unnamedOrder index)
+        (length (now (out .entry))))
+        ×
+        (now (out .exit) ≡ outputAfter (now (types .entry)) torder (source (now (value .entry)) order start) (target unnamedOrder index)
+        (now (out .entry)))
+        ⌝ }
 {
-    rewrite(t, torder, v, order, start, UNNAMED, index, out)
+    rewrite(types, torder, value, order, start, UNNAMED, index, out)
 }
 
 // Rewrites under a checked type, with memory for as many items as the value can have.
 fn rewrite_read(
-    t: &[u8],
+    types: &[u8],
     met: Met,
-    v: &[u8],
+    value: &[u8],
     order: Order,
     start: Index,
     chosen: Order,
     index: Index,
     out: &mut [u8],
 ) -> RewriteAnswer
-    requires { ⌜ Readable (checked (now t) (kindsMet met)) (source (now v) order start) ⌝ }
-    ensures { λ r. ⌜ Rewrites (checked (now (t .entry)) (kindsMet met)) (source (now (v .entry)) order start) (target chosen index) (now (out .entry)) r (now (out .exit)) ⌝ }
+    requires { ⌜ Readable (checked (now types) (kindsMet met)) (source (now value) order start) ⌝ }
+    ensures { λ r. ⌜
+        Rewrites (checked (now (types .entry)) (kindsMet met)) (source (now (value .entry)) order start) (target chosen index) (now (out .entry))
+        r (now (out .exit))
+        ⌝ }
 {
-    if v.len() <= FEW {
+    if value.len() <= FEW {
         let mut few = [0u64; FEW * 3];
-        return rewrite_with(t, met, v, order, start, chosen, index, &mut few, out);
+        return rewrite_with(
+            types,
+            met,
+            value,
+            order,
+            start,
+            chosen,
+            index,
+            &mut few,
+            out,
+        );
     }
     let mut most = [0u64; MOST * 3];
-    rewrite_with(t, met, v, order, start, chosen, index, &mut most, out)
+    rewrite_with(
+        types,
+        met,
+        value,
+        order,
+        start,
+        chosen,
+        index,
+        &mut most,
+        out,
+    )
 }
 
 // Rewrites under a checked type: a walk fills the table with the items, and those are counted, and then written.
 fn rewrite_with(
-    t: &[u8],
+    types: &[u8],
     met: Met,
-    v: &[u8],
+    value: &[u8],
     order: Order,
     start: Index,
     chosen: Order,
@@ -97,8 +132,11 @@ fn rewrite_with(
     table: &mut [u64],
     out: &mut [u8],
 ) -> RewriteAnswer
-    requires { ⌜ (Readable (checked (now t) (kindsMet met)) (source (now v) order start)) × (Holds (now table) (now v)) ⌝ }
-    ensures { λ r. ⌜ Rewrites (checked (now (t .entry)) (kindsMet met)) (source (now (v .entry)) order start) (target chosen index) (now (out .entry)) r (now (out .exit)) ⌝ }
+    requires { ⌜ (Readable (checked (now types) (kindsMet met)) (source (now value) order start)) × (Holds (now table) (now value)) ⌝ }
+    ensures { λ r. ⌜
+        Rewrites (checked (now (types .entry)) (kindsMet met)) (source (now (value .entry)) order start) (target chosen index) (now (out .entry))
+        r (now (out .exit))
+        ⌝ }
 {
     let filling = Mode {
         order,
@@ -107,7 +145,7 @@ fn rewrite_with(
         fill: true,
         first: 0,
     };
-    let c = value_walk::walk(t, met, v, filling, table);
+    let c = value_walk::walk(types, met, value, filling, table);
     if c.fault != 0 {
         return RewriteAnswer::Refused(c.fault);
     }
@@ -115,6 +153,6 @@ fn rewrite_with(
     if out.len() < n {
         return RewriteAnswer::Refused(refusals::NO_OUTPUT_ROOM);
     }
-    rows::write(v, table, c.items, chosen, index, out);
+    rows::write(value, table, c.items, chosen, index, out);
     RewriteAnswer::Accepted(n)
 }

@@ -8,7 +8,7 @@ ghost use Rattle.cdr.specs.Align.{octets, behindGap};
 ghost use Rattle.cdr.specs.Limit.{octetsLimit};
 ghost use Rattle.value_meaning.specs.Sinks.{item};
 ghost use Rattle.rewrite_meaning.specs.Written.{target};
-ghost use Rattle.rewrite.specs.Inner.{widthOf, Octet, headOf, tailOf, endOf, itemOctets, upTo, reach, rowOf, Sized, Rows};
+ghost use Rattle.rewrite.specs.Inner.{widthOf, Octet, headOf, tailOf, itemEnd, itemOctets, upTo, reach, rowOf, Sized, Rows};
 use cdr::Index;
 use cdr::Order;
 use cdr::Size;
@@ -84,7 +84,7 @@ fn behind_gap(index: Index, at: usize, size: Size) -> usize
 // Where an item ends that is written from `at` on.
 fn item_end(index: Index, at: usize, kind: u64, content: u64) -> usize
     requires { ⌜ (at < 2 ^ 63) × (tailOf kind content ≤ octetsLimit) ⌝ }
-    ensures { λ r. ⌜ r ≡ endOf index at kind content ⌝ }
+    ensures { λ r. ⌜ r ≡ itemEnd index at kind content ⌝ }
 {
     if is_octet(kind) {
         return at + 1;
@@ -109,7 +109,7 @@ pub(crate) fn count(rows: &[u64], n: usize, index: Index) -> usize
 
 // Writes an item from `at` on, and gives where it ends.
 fn write_item(
-    v: &[u8],
+    value: &[u8],
     out: &mut [u8],
     order: Order,
     index: Index,
@@ -118,19 +118,26 @@ fn write_item(
     place: usize,
     content: u64,
 ) -> usize
-    requires { ⌜ (tailOf kind content ≤ octetsLimit) × (place + tailOf kind content ≤ length (now v)) × (endOf index at kind content ≤ length (now out)) ⌝ }
-    ensures { λ r. ⌜ (r ≡ endOf index at kind content) × (now (out .exit) ≡ sets (now (out .entry)) at (itemOctets (target order index) (now (v .entry)) at (item kind place content))) ⌝ }
+    requires { ⌜
+        (tailOf kind content ≤ octetsLimit)
+        × (place + tailOf kind content ≤ length (now value))
+        × (itemEnd index at kind content ≤ length (now out))
+        ⌝ }
+    ensures { λ r. ⌜
+        (r ≡ itemEnd index at kind content)
+        × (now (out .exit) ≡ sets (now (out .entry)) at (itemOctets (target order index) (now (value .entry)) at (item kind place content)))
+        ⌝ }
 {
     if is_octet(kind) {
         out[at] = (content % 256) as u8;
         return at + 1;
     }
-    write_wide(v, out, order, index, at, kind, place, content)
+    write_wide(value, out, order, index, at, kind, place, content)
 }
 
 // Writes an item with its gap and the octets behind its number.
 fn write_wide(
-    v: &[u8],
+    value: &[u8],
     out: &mut [u8],
     order: Order,
     index: Index,
@@ -139,8 +146,15 @@ fn write_wide(
     place: usize,
     content: u64,
 ) -> usize
-    requires { ⌜ (tailOf kind content ≤ octetsLimit) × (place + tailOf kind content ≤ length (now v)) × (endOf index at kind content ≤ length (now out)) ⌝ }
-    ensures { λ r. ⌜ (r ≡ endOf index at kind content) × (now (out .exit) ≡ sets (now (out .entry)) at (itemOctets (target order index) (now (v .entry)) at (item kind place content))) ⌝ }
+    requires { ⌜
+        (tailOf kind content ≤ octetsLimit)
+        × (place + tailOf kind content ≤ length (now value))
+        × (itemEnd index at kind content ≤ length (now out))
+        ⌝ }
+    ensures { λ r. ⌜
+        (r ≡ itemEnd index at kind content)
+        × (now (out .exit) ≡ sets (now (out .entry)) at (itemOctets (target order index) (now (value .entry)) at (item kind place content)))
+        ⌝ }
 {
     let size = width_of(kind);
     let p = behind_gap(index, at, size);
@@ -151,21 +165,28 @@ fn write_wide(
     if n == 0 {
         return end;
     }
-    cdr_write::write_octets(out, end, &v[place..place + n]);
+    cdr_write::write_octets(out, end, &value[place..place + n]);
     end + n
 }
 
 // Writes the first n items from the start of the output on.
-pub(crate) fn write(v: &[u8], rows: &[u64], n: usize, order: Order, index: Index, out: &mut [u8])
-    requires { ⌜ (Rows (now v) (now rows) n) × (reach index (rowOf (now rows)) n ≤ length (now out)) ⌝ }
-    ensures { λ _. ⌜ now (out .exit) ≡ sets (now (out .entry)) 0 (upTo (target order index) (now (v .entry)) (rowOf (now (rows .entry))) n) ⌝ }
+pub(crate) fn write(
+    value: &[u8],
+    rows: &[u64],
+    n: usize,
+    order: Order,
+    index: Index,
+    out: &mut [u8],
+)
+    requires { ⌜ (Rows (now value) (now rows) n) × (reach index (rowOf (now rows)) n ≤ length (now out)) ⌝ }
+    ensures { λ _. ⌜ now (out .exit) ≡ sets (now (out .entry)) 0 (upTo (target order index) (now (value .entry)) (rowOf (now (rows .entry))) n) ⌝ }
 {
     let mut at: usize = 0;
     let mut k: usize = 0;
     while k < n {
         let place = rows[k * 3 + 1] as usize;
         at = write_item(
-            v,
+            value,
             out,
             order,
             index,

@@ -1,9 +1,9 @@
 -- Laws that other crates cite.
-pub mod Taken
+pub mod PiecesKeep
 pub mod Pieces
-pub mod Near
-pub mod Room
-pub mod Back
-pub mod Zeroed
-pub mod Answers
-pub mod RoundTrip
+pub mod SevenMore
+pub mod AcceptedAnyRoom
+pub mod ReadBeside
+pub mod GapsAreZeroed
+pub mod AcceptedAnswer
+pub mod RoundTripHolds

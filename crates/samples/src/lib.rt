@@ -1,1 +1,1 @@
-// The samples of paper 01 that are to be proved: definitions and a statement, in specs/; no code.
+// The samples of paper 01, and inputs that are easily got wrong: tables of questions with the numbers that answer them, in specs/; no code.

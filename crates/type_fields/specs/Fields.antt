@@ -4,7 +4,7 @@
 --   isListed         a kind that is listed
 --   nestingLimit     "nesting over 16 (the top is 1)": the levels left at the top
 --   belowTop         a kind that only the top may have, where fewer levels are left than at the top
---   entryOf          whether a kind may stand where it does, with so many levels left and kinds met: "at one kind the order is 31, 40,
+--   kindEntry          whether a kind may stand where it does, with so many levels left and kinds met: "at one kind the order is 31, 40,
 --                    38, 37"
 --   thenStep         what follows, unless it is refused
 --   stepFrom         what a string gives: "in types 32, 30, 32 likewise"
@@ -16,7 +16,7 @@
 --   thenCount        a count after something else, unless that is refused
 --   headStep         id, name and count
 --   exceptionStep    the same of an exception
---   onCount          what follows a count, unless that is refused
+--   afterCount          what follows a count, unless that is refused
 --   lengthStep       an array's length, 34 for 0
 --   textsStep        n names one after the other
 --   enumStep         id, name, count, names
@@ -24,7 +24,7 @@
 --   partOf           "a length, then an order octet": where an encapsulation starts and ends, and its order; 33 for "length 0 or beyond
 --                    its surroundings"
 --   badDefault       "default below -1 or not below count", a long
---   judged           a default "tested after the count"
+--   switchFrom           a default "tested after the count"
 --   switchStep       default and count of a union
 --   labelBefore      a label is that of one of the `done` members before it, from `first` on; they were checked, and are read again over the
 --                    whole octets v, from the place b of their encapsulation on
@@ -33,14 +33,15 @@ use Rattle.choices.specs.{ℕ, zero, suc, _+_, _-_, _/_, List, Bool, true, fals
 use Rattle.cdr.specs.{Index, Place, Order, Named, Is, NoOrder, Four, indexOf, orderOf}
 use Rattle.cdr_fields.specs.{Str, Characters, BadText as badText, NoText, fieldOf, stringOf}
 use Rattle.type_kinds.specs.{Form, Unlisted, Plain, Bounded, Composite, Labels, Of, NoLabels, onField, longRange, membersOf}
-use Rattle.type_kinds.specs.{Parameters.fieldsOf}
-use Rattle.type_list.specs.{Discriminants.outOfKind, Arms.counts, Arms.caseOf, Arms.noDefault, Arms.onArm, Met.kindsLimit}
-use Rattle.type_fields.specs.Names.{Count, Wrong, Stands, Entry, Barred, Enters, Part, NoPart, Inside, Step, Refused, Next, Switch}
+use Rattle.type_parameters.specs.{Parameters.memberFields}
+use Rattle.type_numbers.specs.Kinds.{kindsLimit, nullKind, voidKind, exceptionKind}
+use Rattle.type_unions.specs.{Discriminants.outOfKind, Arms.counts, Arms.caseOf, Arms.noDefault, Arms.onArm}
+use Rattle.type_fields.specs.Names.{Count, Wrong, Stands, Entry, NoEntry, Enters, Part, NoPart, Inside, Step, Refused, Next, Switch}
 use Rattle.type_fields.specs.Names.{NoSwitch, Cases, Ends, NoSuchKind, BadText, BadEncapsulation, NoCount, BadUnion, TooManyKinds}
 use Rattle.type_fields.specs.Names.{TooDeep, BelowTop}
 
 abbrev pub topOnly : ℕ → Bool
-topOnly kind = eqb kind 0 || (eqb kind 1 || eqb kind 22)
+topOnly kind = eqb kind nullKind || (eqb kind voidKind || eqb kind exceptionKind)
 
 abbrev pub isListed : Form → Bool
 isListed Unlisted = false
@@ -54,12 +55,12 @@ nestingLimit = 16
 unfoldable pub belowTop : ℕ → ℕ → Bool
 belowTop kind left = cond (eqb left nestingLimit) false (topOnly kind)
 
-unfoldable pub entryOf : Form → ℕ → ℕ → ℕ → Entry
-entryOf form kind left count =
-    cond (not (isListed form)) (Barred NoSuchKind)
-    (cond (belowTop kind left) (Barred BelowTop)
-    (cond (eqb left 0) (Barred TooDeep)
-    (cond (leb kindsLimit count) (Barred TooManyKinds)
+unfoldable pub kindEntry : Form → ℕ → ℕ → ℕ → Entry
+kindEntry form kind left count =
+    cond (not (isListed form)) (NoEntry NoSuchKind)
+    (cond (belowTop kind left) (NoEntry BelowTop)
+    (cond (eqb left 0) (NoEntry TooDeep)
+    (cond (leb kindsLimit count) (NoEntry TooManyKinds)
     Enters)))
 
 abbrev pub thenStep : Step → (Index → Step) → Step
@@ -96,19 +97,19 @@ headStep s order = thenCount (namesStep s order) (λ i. countStep s i order)
 unfoldable pub exceptionStep : List ℕ → Order → Count
 exceptionStep s order = thenCount (namesStep s order) (λ i. anyCount s i order)
 
-abbrev pub onCount : Count → (ℕ → Index → Step) → Step
-onCount (Wrong r) f = Refused r
-onCount (Stands n next) f = f n next
+abbrev pub afterCount : Count → (ℕ → Index → Step) → Step
+afterCount (Wrong r) f = Refused r
+afterCount (Stands n next) f = f n next
 
 unfoldable pub lengthStep : List ℕ → Index → Order → Step
-lengthStep s i order = onCount (countStep s i order) (λ n next. Next next)
+lengthStep s i order = afterCount (countStep s i order) (λ n next. Next next)
 
 unfoldable pub textsStep : List ℕ → Order → ℕ → Index → Step
 textsStep s order zero i = Next i
 textsStep s order (suc n) i = thenStep (textStep s i order) (λ j. textsStep s order n j)
 
 unfoldable pub enumStep : List ℕ → Order → Step
-enumStep s order = onCount (headStep s order) (λ n next. textsStep s order n next)
+enumStep s order = afterCount (headStep s order) (λ n next. textsStep s order n next)
 
 abbrev pub partFrom : Named → ℕ → ℕ → Part
 partFrom (Is order) b e = Inside b e order
@@ -124,15 +125,15 @@ partOf s i order =
 unfoldable pub badDefault : ℕ → ℕ → Bool
 badDefault d n = cond (eqb d noDefault) false (cond (leb (longRange / 2) d) true (leb n d))
 
-abbrev pub judged : ℕ → Count → Switch
-judged d (Wrong r) = NoSwitch r
-judged d (Stands n next) = cond (badDefault d n) (NoSwitch BadUnion) (Cases d n next)
+abbrev pub switchFrom : ℕ → Count → Switch
+switchFrom d (Wrong r) = NoSwitch r
+switchFrom d (Stands n next) = cond (badDefault d n) (NoSwitch BadUnion) (Cases d n next)
 
 unfoldable pub switchStep : List ℕ → Index → Order → Switch
-switchStep s i order = onField (fieldOf s i Four order) (NoSwitch Ends) (λ d j. judged d (countStep s j order))
+switchStep s i order = onField (fieldOf s i Four order) (NoSwitch Ends) (λ d j. switchFrom d (countStep s j order))
 
 unfoldable pub labelBefore : Labels → List ℕ → Place → Order → ℕ → ℕ → Index → ℕ → Bool
-labelBefore labels v b order default done first x = onArm (caseOf default x (membersOf labels v (fieldsOf b order done first))) (λ _. true) false
+labelBefore labels v b order default done first x = onArm (caseOf default x (membersOf labels v (memberFields b order done first))) (λ _. true) false
 
 abbrev pub labelStep : Labels → List ℕ → List ℕ → Place → Order → ℕ → ℕ → Index → Index → Step
 labelStep NoLabels v s b order default done first i = Next i

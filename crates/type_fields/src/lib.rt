@@ -1,8 +1,10 @@
 // The parameters of a type that hold no type, checked: names, counts, bounds, the head of an encapsulation, defaults and labels. Every
 // function answers for any octets.
 ghost use mathlib.Core.Path.{_≡_};
-ghost use Rattle.type_fields.specs.Refusals.{refusalNumber};
-ghost use Rattle.type_fields.specs.Fields.{topOnly, belowTop, isListed, entryOf, textStep, namesStep, numberStep, countStep, anyCount, headStep, exceptionStep, lengthStep, textsStep, enumStep, partOf, badDefault, switchStep, labelBefore, labelStep};
+ghost use Rattle.type_fields.specs.Refusals.{typeRefusalNumber};
+ghost use Rattle.type_fields.specs.Fields.{topOnly, belowTop, isListed, kindEntry, textStep, namesStep, numberStep, countStep, anyCount};
+ghost use Rattle.type_fields.specs.Fields.{headStep, exceptionStep, lengthStep, textsStep, enumStep, partOf, badDefault, switchStep};
+ghost use Rattle.type_fields.specs.Fields.{labelBefore, labelStep};
 use cdr::Index;
 use cdr::Named;
 use cdr::Order;
@@ -13,7 +15,7 @@ use cdr_fields::Str;
 use type_kinds::Fields;
 use type_kinds::Form;
 use type_kinds::Labels;
-use type_list::Arm;
+use type_unions::Arm;
 
 // Why the octets of a type are refused.
 pub enum Refusal {
@@ -33,7 +35,7 @@ pub enum Refusal {
 impl Refusal {
     // The paper's number of the refusal.
     pub fn number(self) -> u32
-        ensures { λ r. ⌜ r ≡ refusalNumber self ⌝ }
+        ensures { λ r. ⌜ r ≡ typeRefusalNumber self ⌝ }
     {
         match self {
             Refusal::Ends => refusals::TYPE_ENDS,
@@ -53,7 +55,7 @@ impl Refusal {
 
 // Whether a kind may stand where it does, or why not.
 pub enum Entry {
-    Barred(Refusal),
+    NoEntry(Refusal),
     Enters,
 }
 
@@ -129,19 +131,19 @@ fn is_listed(form: Form) -> bool
 
 // Whether a kind may stand where so many levels are left and so many kinds were met.
 pub fn entry_of(form: Form, kind: u64, left: u8, count: usize) -> Entry
-    ensures { λ r. ⌜ r ≡ entryOf form kind left count ⌝ }
+    ensures { λ r. ⌜ r ≡ kindEntry form kind left count ⌝ }
 {
     if !is_listed(form) {
-        return Entry::Barred(Refusal::NoSuchKind);
+        return Entry::NoEntry(Refusal::NoSuchKind);
     }
     if below_top(kind, left) {
-        return Entry::Barred(Refusal::BelowTop);
+        return Entry::NoEntry(Refusal::BelowTop);
     }
     if left == 0 {
-        return Entry::Barred(Refusal::TooDeep);
+        return Entry::NoEntry(Refusal::TooDeep);
     }
     if type_numbers::KINDS_LIMIT <= count {
-        return Entry::Barred(Refusal::TooManyKinds);
+        return Entry::NoEntry(Refusal::TooManyKinds);
     }
     Entry::Enters
 }
@@ -290,10 +292,10 @@ pub fn part_at(s: &[u8], at: Index, order: Order) -> Part
 fn bad_default(default: u64, count: u64) -> bool
     ensures { λ r. ⌜ r ≡ badDefault default count ⌝ }
 {
-    if default == type_list::NO_DEFAULT {
+    if default == type_unions::NO_DEFAULT {
         return false;
     }
-    if 2147483648 <= default {
+    if type_kinds::LONG_HALF <= default {
         return true;
     }
     count <= default
@@ -344,7 +346,7 @@ fn label_before(
         count: done,
         first,
     };
-    match type_list::case_of(labels, v, fields, default, label) {
+    match type_unions::case_of(labels, v, fields, default, label) {
         Arm::Chosen(_) => true,
         Arm::NoneChosen => false,
     }
@@ -370,8 +372,8 @@ pub fn label_step(
     let Field::Value { value: label, next } = cdr_fields::read_field(s, at, size, order) else {
         return Step::Refused(Refusal::Ends);
     };
-    if type_list::counts(default, done) {
-        if type_list::out_of_kind(limit, label) {
+    if type_unions::counts(default, done) {
+        if type_unions::out_of_kind(limit, label) {
             return Step::Refused(Refusal::BadUnion);
         }
         if label_before(labels, v, start, order, default, done, first, label) {

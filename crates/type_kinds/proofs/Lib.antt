@@ -1,4 +1,3 @@
 -- Laws that other crates cite.
-pub mod Reading
-pub mod Turns
-pub mod Plains
+pub mod FieldInside
+pub mod NextMember

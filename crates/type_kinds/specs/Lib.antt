@@ -1,10 +1,9 @@
--- Kinds of type, and the parameters that follow each.
+-- Kinds of type, and what stands at an index of an encapsulation.
 pub mod Names
 pub mod Forms
 pub mod Parts
 pub mod Members
-pub mod Parameters
-pub use Names.{Element, Holds, NoElement, Fields, Form, Unlisted, Plain, Bounded, Composite, Inert, Leaf, Text, Objref, Enum, Inner, Here}
-pub use Names.{There, Kind, Labels, Of, NoLabels, Layout, Skip, Past, NoEnd, Spot, Nowhere, At, Target, To, Outside}
+pub use Names.{Fields, Form, Unlisted, Plain, Bounded, Composite, Inert, Leaf, Text, Objref, Enum, Inner, Here}
+pub use Names.{There, Kind, Labels, Of, NoLabels, Layout, Skip, EndsAt, NoEnd, Spot, NoType, TypeAt, Target, LeadsTo, Outside}
 pub use Members.{Member, membersOf, typesOf}
 pub use Parts.{longRange, placeOf, writtenAt, placeIn, onField}

@@ -4,15 +4,15 @@ ghost use mathlib.Core.Path.{_≡_};
 ghost use Rattle.type_kinds.specs.Forms.{formOf};
 ghost use Rattle.type_kinds.specs.Parts.{placeIn, fieldIn, targetOf, spotAt, memberAt};
 ghost use Rattle.type_kinds.specs.Members.{labelAt};
-ghost use Rattle.type_kinds.specs.Parameters.{parametersAt};
 use cdr::Index;
 use cdr::Order;
 use cdr::Place;
 use cdr::Size;
 use cdr_fields::Field;
 
-mod inside;
 mod parts;
+
+pub use parts::names_in;
 
 // What follows a kind.
 pub enum Form {
@@ -36,6 +36,12 @@ pub enum Layout {
 
 // The number behind the kinds from null to octet, which have no parameters.
 const PLAIN_END: u64 = type_numbers::OCTET + 1;
+
+// How many longs there are.
+pub const LONG_RANGE: u64 = 4294967296;
+
+// The longs recorded as this number or a greater one are negative.
+pub const LONG_HALF: u64 = 2147483648;
 
 // What follows a kind, by its number.
 pub fn form_of(kind: u64) -> Form
@@ -82,13 +88,13 @@ pub fn form_of(kind: u64) -> Form
 
 // The index after something that is passed over, or that the octets end.
 pub enum Skip {
-    Past(Index),
+    EndsAt(Index),
     NoEnd,
 }
 
 // Where an offset leads: to a place, or to none that there can be.
 pub enum Target {
-    To(Place),
+    LeadsTo(Place),
     Outside,
 }
 
@@ -107,20 +113,14 @@ pub enum Inner {
 
 // The type that stands at an index, and the index after it.
 pub enum Spot {
-    At { inner: Inner, next: Index },
-    Nowhere,
+    TypeAt { inner: Inner, next: Index },
+    NoType,
 }
 
 // The labels before a union's members, of a size, and below a limit of which 0 is none; a struct's members have none.
 pub enum Labels {
     Of { size: Size, limit: u64 },
     NoLabels,
-}
-
-// The type and the number of a sequence or an array.
-pub enum Element {
-    Holds { inner: Inner, number: u64 },
-    NoElement,
 }
 
 // Where members are listed: the start and order of their encapsulation, their count, and the first one's index.
@@ -137,29 +137,6 @@ pub enum Inert {
     Text(u64),
     Objref,
     Enum(u64),
-}
-
-// The parameters of a kind; a union's default as the unsigned long that is recorded. A fault is what octets give that are no kind's
-// parameters.
-pub enum Parameters {
-    Fault,
-    Flat(Inert),
-    Struct(Fields),
-    Exception(Fields),
-    Union {
-        fields: Fields,
-        discriminant: Inner,
-        default: u64,
-    },
-    Sequence {
-        element: Inner,
-        bound: u64,
-    },
-    Array {
-        element: Inner,
-        length: u64,
-    },
-    Alias(Inner),
 }
 
 // The place of a type inside another, an indirection counting as its target.
@@ -188,9 +165,9 @@ pub fn target_of(at: Place, offset: u64) -> Target
     ensures { λ r. ⌜ r ≡ targetOf at offset ⌝ }
 {
     let p = at.0;
-    if offset < 2147483648 {
+    if offset < LONG_HALF {
         return if p <= usize::MAX - offset as usize {
-            Target::To(Place(p + offset as usize))
+            Target::LeadsTo(Place(p + offset as usize))
         } else {
             Target::Outside
         };
@@ -199,7 +176,7 @@ pub fn target_of(at: Place, offset: u64) -> Target
     if p < back {
         return Target::Outside;
     }
-    Target::To(Place(p - back))
+    Target::LeadsTo(Place(p - back))
 }
 
 // The type that stands at an index of the encapsulation that starts at a place, and the index after it.
@@ -207,21 +184,21 @@ pub fn spot_at(v: &[u8], start: Place, at: Index, order: Order) -> Spot
     ensures { λ r. ⌜ r ≡ spotAt (now (v .entry)) start at order ⌝ }
 {
     let Field::Value { value: kind, next } = field_in(v, start, at, Size::Four, order) else {
-        return Spot::Nowhere;
+        return Spot::NoType;
     };
     if kind == type_numbers::INDIRECTION {
         return parts::aimed(v, start, next, order);
     }
     match parts::skip_kind(form_of(kind), v, start, next, order) {
-        Skip::Past(over) => Spot::At {
+        Skip::EndsAt(over) => Spot::TypeAt {
             inner: Inner::Here(Kind {
-                place: parts::behind(start, next),
+                place: parts::place_before(start, next),
                 start,
                 order,
             }),
             next: over,
         },
-        Skip::NoEnd => Spot::Nowhere,
+        Skip::NoEnd => Spot::NoType,
     }
 }
 
@@ -229,11 +206,11 @@ pub fn spot_at(v: &[u8], start: Place, at: Index, order: Order) -> Spot
 pub fn member_at(labels: Labels, v: &[u8], start: Place, at: Index, order: Order) -> Spot
     ensures { λ r. ⌜ r ≡ memberAt labels (now (v .entry)) start at order ⌝ }
 {
-    let Skip::Past(name) = parts::lead_in(labels, v, start, at, order) else {
-        return Spot::Nowhere;
+    let Skip::EndsAt(name) = parts::lead_in(labels, v, start, at, order) else {
+        return Spot::NoType;
     };
-    let Skip::Past(i) = parts::skip_counted(v, start, name, order) else {
-        return Spot::Nowhere;
+    let Skip::EndsAt(i) = parts::skip_counted(v, start, name, order) else {
+        return Spot::NoType;
     };
     spot_at(v, start, i, order)
 }
@@ -248,20 +225,5 @@ pub fn label_at(labels: Labels, v: &[u8], start: Place, at: Index, order: Order)
     match field_in(v, start, at, size, order) {
         Field::Value { value, next: _ } => value,
         Field::NoField => 0,
-    }
-}
-
-// The parameters of a kind that is written.
-pub fn parameters_at(v: &[u8], kind: Kind) -> Parameters
-    ensures { λ r. ⌜ r ≡ parametersAt (now (v .entry)) kind ⌝ }
-{
-    let start = kind.start;
-    let order = kind.order;
-    let at = parts::since(kind.place, start);
-    match field_in(v, start, at, Size::Four, order) {
-        Field::Value { value, next } => {
-            inside::parameters_after(form_of(value), v, start, order, value, next)
-        }
-        Field::NoField => Parameters::Fault,
     }
 }

@@ -1,8 +1,7 @@
 // What is passed over, and where an indirection leads.
 ghost use mathlib.Core.Path.{_≡_};
 ghost use Prim.Native.Nat.{_+_, _-_, _^_, _≤_, _<_};
-ghost use Rattle.type_kinds.specs.Parts.{behind, skipField, skipCounted, skipKind, aimed, leadIn, namesIn};
-ghost use Rattle.cdr.specs.Align.{indexOf};
+ghost use Rattle.type_kinds.specs.Parts.{longRange, placeBefore, skipField, skipCounted, skipKind, aimed, leadIn, namesIn};
 use crate::Form;
 use crate::Inner;
 use crate::Labels;
@@ -16,24 +15,14 @@ use cdr::Size;
 use cdr_fields::Counted;
 use cdr_fields::Field;
 
-// How far back an offset of 2^31 or more leads.
+// How far back an offset leads that is negative.
 pub(crate) fn back(offset: u64) -> usize
-    ensures { λ r. ⌜ r ≡ 4294967296 - offset ⌝ }
+    ensures { λ r. ⌜ r ≡ longRange - offset ⌝ }
 {
-    if 4294967296 < offset {
+    if crate::LONG_RANGE < offset {
         return 0;
     }
-    (4294967296 - offset) as usize
-}
-
-// The index of a place in the encapsulation that starts at another.
-pub(crate) fn since(place: Place, start: Place) -> Index
-    ensures { λ r. ⌜ r ≡ indexOf (place .0 - start .0) ⌝ }
-{
-    if place.0 < start.0 {
-        return Index(0);
-    }
-    Index(place.0 - start.0)
+    (crate::LONG_RANGE - offset) as usize
 }
 
 // A number is passed over.
@@ -41,7 +30,7 @@ pub(crate) fn skip_field(v: &[u8], start: Place, at: Index, size: Size, order: O
     ensures { λ r. ⌜ r ≡ skipField (now (v .entry)) start at size order ⌝ }
 {
     match crate::field_in(v, start, at, size, order) {
-        Field::Value { value: _, next } => Skip::Past(next),
+        Field::Value { value: _, next } => Skip::EndsAt(next),
         Field::NoField => Skip::NoEnd,
     }
 }
@@ -55,15 +44,15 @@ pub(crate) fn skip_counted(v: &[u8], start: Place, at: Index, order: Order) -> S
         return Skip::NoEnd;
     }
     match cdr_fields::read_counted(&v[b..], at, order) {
-        Counted::Octets { from, count } => Skip::Past(Index(from.0 + count)),
+        Counted::Octets { from, count } => Skip::EndsAt(Index(from.0 + count)),
         Counted::NoOctets => Skip::NoEnd,
     }
 }
 
 // The place of the unsigned long that ends before an index.
-pub(crate) fn behind(start: Place, next: Index) -> Place
+pub(crate) fn place_before(start: Place, next: Index) -> Place
     requires { ⌜ (4 ≤ next .0) × (start .0 + next .0 < 2 ^ 64) ⌝ }
-    ensures { λ r. ⌜ r ≡ behind start next ⌝ }
+    ensures { λ r. ⌜ r ≡ placeBefore start next ⌝ }
 {
     Place(start.0 + (next.0 - 4))
 }
@@ -74,7 +63,7 @@ pub(crate) fn skip_kind(form: Form, v: &[u8], start: Place, at: Index, order: Or
 {
     match form {
         Form::Unlisted => Skip::NoEnd,
-        Form::Plain => Skip::Past(at),
+        Form::Plain => Skip::EndsAt(at),
         Form::Bounded => skip_field(v, start, at, Size::Four, order),
         Form::Composite(_) => skip_counted(v, start, at, order),
     }
@@ -85,14 +74,14 @@ pub(crate) fn aimed(v: &[u8], start: Place, at: Index, order: Order) -> Spot
     ensures { λ r. ⌜ r ≡ aimed (now (v .entry)) start at order ⌝ }
 {
     let Field::Value { value, next } = crate::field_in(v, start, at, Size::Four, order) else {
-        return Spot::Nowhere;
+        return Spot::NoType;
     };
-    match crate::target_of(behind(start, next), value) {
-        Target::To(place) => Spot::At {
+    match crate::target_of(place_before(start, next), value) {
+        Target::LeadsTo(place) => Spot::TypeAt {
             inner: Inner::There(place),
             next,
         },
-        Target::Outside => Spot::Nowhere,
+        Target::Outside => Spot::NoType,
     }
 }
 
@@ -102,16 +91,16 @@ pub(crate) fn lead_in(labels: Labels, v: &[u8], start: Place, at: Index, order: 
 {
     match labels {
         Labels::Of { size, limit: _ } => skip_field(v, start, at, size, order),
-        Labels::NoLabels => Skip::Past(at),
+        Labels::NoLabels => Skip::EndsAt(at),
     }
 }
 
 // Id and name are passed over.
-pub(crate) fn names_in(v: &[u8], start: Place, order: Order) -> Skip
+pub fn names_in(v: &[u8], start: Place, order: Order) -> Skip
     ensures { λ r. ⌜ r ≡ namesIn (now (v .entry)) start order ⌝ }
 {
     match skip_counted(v, start, Index(1), order) {
-        Skip::Past(i) => skip_counted(v, start, i, order),
+        Skip::EndsAt(i) => skip_counted(v, start, i, order),
         Skip::NoEnd => Skip::NoEnd,
     }
 }

@@ -8,10 +8,10 @@ use Rattle.cdr.specs.declared.Place.{Place}
 use Rattle.type_kinds.specs.declared.Inner.{Inner}
 use Rattle.type_kinds.specs.declared.Labels.{Labels}
 use Rattle.type_kinds.specs.declared.Kind.{Kind}
-use Rattle.type_list.specs.declared.Discriminant.the-variants.{Through, Says}
+use Rattle.type_unions.specs.declared.Discriminant.the-variants.{Through, Says}
 use Rattle.type_kinds.specs.Parts.{placeIn}
 use Rattle.type_list.specs.Met.{findKind, parametersOf}
-use Rattle.type_list.specs.Discriminants.{discriminantOf}
+use Rattle.type_unions.specs.Discriminants.{discriminantOf}
 
 pub data Resolves (v : List ℕ) (m : List Kind) (labels : Labels) : Place → Type 0 where
   says : {p : Place} → findKind m p < length m → discriminantOf (parametersOf v m (findKind m p)) ≡ Says labels → Resolves v m labels p

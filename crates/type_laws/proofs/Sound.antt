@@ -24,14 +24,14 @@ use Rattle.type_kinds.specs.declared.Labels.the-variants.{Of, NoLabels}
 use Rattle.type_kinds.specs.declared.Fields.{Fields}
 use Rattle.type_kinds.specs.declared.Inert.{Inert}
 use Rattle.type_kinds.specs.declared.Inert.the-variants.{Leaf, Text, Objref, Enum}
-use Rattle.type_kinds.specs.declared.Parameters.{Parameters}
-use Rattle.type_kinds.specs.declared.Parameters.the-variants.{Fault, Flat, Struct, Exception, Union, Sequence, Array, Alias}
+use Rattle.type_parameters.specs.declared.Parameters.{Parameters}
+use Rattle.type_parameters.specs.declared.Parameters.the-variants.{Fault, Flat, Struct, Exception, Union, Sequence, Array, Alias}
 use Rattle.type_kinds.specs.declared.Kind.{Kind}
 use Rattle.type_kinds.specs.Forms.{formOf}
 use Rattle.type_kinds.specs.Parts.{placeIn}
 use Rattle.type_kinds.specs.Members.{membersOf, typesOf}
 use Rattle.type_list.specs.Met.{findKind, kindNo, parametersOf, insideOf}
-use Rattle.type_list.specs.Discriminants.{labelsFor}
+use Rattle.type_unions.specs.Discriminants.{labelsFor}
 use Rattle.type_fields.specs.Fields.{topOnly, badDefault}
 
 abbrev pub Entry : List Kind → Kind → Type 0

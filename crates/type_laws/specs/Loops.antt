@@ -11,7 +11,8 @@
 --   Count         the number of kinds written
 use Rattle.choices.specs.{_≡_, _↔_, List, [], _∷_, false, ℕ, _<_, length, Among}
 use Rattle.cdr.specs.{Place, Order}
-use Rattle.type_kinds.specs.{Kind, Here, There, Parameters.parametersAt}
+use Rattle.type_kinds.specs.{Kind, Here, There}
+use Rattle.type_parameters.specs.{Parameters.parametersAt}
 use Rattle.type_fields.specs.{Refusal, Refused}
 use Rattle.type_walk.specs.Types.{walkedOf}
 use Rattle.type_laws.specs.Written.{isSequence, Written, Inside}

@@ -9,10 +9,10 @@
 use Rattle.choices.specs.{_≡_, List, [], _∷_, Bool, true, false, ℕ, Among}
 use Rattle.cdr.specs.{Place, Order}
 use Rattle.type_kinds.specs.{Kind, Inner, Here, There, Fields, Labels, NoLabels, placeOf, writtenAt, membersOf, typesOf}
-use Rattle.type_kinds.specs.{declared.Parameters.Parameters, Parameters.parametersAt}
-use Rattle.type_kinds.specs.declared.Parameters.the-variants.{Fault, Flat, Struct, Exception, Union, Sequence, Array, Alias}
-use Rattle.type_list.specs.Discriminants.{discriminantOf}
-use Rattle.type_list.specs.declared.Discriminant.the-variants.{Through, Says}
+use Rattle.type_parameters.specs.{declared.Parameters.Parameters, Parameters.parametersAt}
+use Rattle.type_parameters.specs.declared.Parameters.the-variants.{Fault, Flat, Struct, Exception, Union, Sequence, Array, Alias}
+use Rattle.type_unions.specs.Discriminants.{discriminantOf}
+use Rattle.type_unions.specs.declared.Discriminant.the-variants.{Through, Says}
 
 abbrev pub topKind : Order → Kind
 topKind order = writtenAt (placeOf 0) (placeOf 0) order

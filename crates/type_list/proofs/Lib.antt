@@ -1,3 +1,3 @@
 -- Laws that other crates cite.
-pub mod Finding
-pub mod Choosing
+pub mod KindsMet
+pub mod Positions

@@ -1,5 +1,4 @@
 -- "A list of at most 64 kinds met, with place, start and byte order": the list, and what is found in it.
---   kindsLimit      the most kinds
 --   noKind          what stands past the end of the list
 --   kindNo          the kind at a position
 --   findKind        the position of the kind at a place, the length where none is there
@@ -11,13 +10,11 @@
 --                   the list; where the list has none there, which no accepted type leads to, a fault
 use Rattle.choices.specs.{ℕ, suc, List, [], _∷_, cond, ltb, eqb, length, getD, choose}
 use Rattle.cdr.specs.{Place, Big}
-use Rattle.type_kinds.specs.{Kind, Inner, Here, There, placeOf, writtenAt, declared.Parameters.Parameters}
-use Rattle.type_kinds.specs.{declared.Parameters.the-variants.Fault, Parameters.parametersAt}
+use Rattle.type_kinds.specs.{Kind, Inner, Here, There, placeOf, writtenAt}
+use Rattle.type_parameters.specs.{declared.Parameters.Parameters}
+use Rattle.type_parameters.specs.{declared.Parameters.the-variants.Fault, Parameters.parametersAt}
 use Rattle.type_list.specs.declared.Position.{Position}
-use Rattle.type_list.specs.declared.Position.the-variants.{Is, NoPosition}
-
-abbrev pub kindsLimit : ℕ
-kindsLimit = 64
+use Rattle.type_list.specs.declared.Position.the-variants.{IsAt, NoPosition}
 
 abbrev pub noKind : Kind
 noKind = writtenAt (placeOf 0) (placeOf 0) Big
@@ -30,13 +27,13 @@ findKind [] p = 0
 findKind (a ∷ ks) p = choose (eqb (a .place .0) (p .0)) (λ _. 0) (λ _. suc (findKind ks p))
 
 unfoldable pub positionOf : List Kind → Place → Position
-positionOf ks p = cond (ltb (findKind ks p) (length ks)) (Is (findKind ks p)) NoPosition
+positionOf ks p = cond (ltb (findKind ks p) (length ks)) (IsAt (findKind ks p)) NoPosition
 
 unfoldable pub parametersOf : List ℕ → List Kind → ℕ → Parameters
 parametersOf v ks j = parametersAt v (kindNo ks j)
 
 abbrev pub atPosition : List ℕ → List Kind → Position → Parameters
-atPosition v ks (Is j) = parametersOf v ks j
+atPosition v ks (IsAt j) = parametersOf v ks j
 atPosition v ks NoPosition = Fault
 
 unfoldable pub foundAt : List ℕ → List Kind → Place → Parameters

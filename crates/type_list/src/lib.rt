@@ -1,25 +1,15 @@
 // The kinds met in a TypeCode: where each stands, and what its parameters are. Every function answers for any octets and lists.
 ghost use mathlib.Core.Path.{_≡_};
 ghost use Rattle.type_list.specs.Met.{kindNo, positionOf, parametersOf, foundAt, insideOf};
-ghost use Rattle.type_list.specs.Arrays.{orderIn, heldIn, kindsMet, noKinds, added};
+ghost use Rattle.type_list.specs.Arrays.{orderIn, kindsMet, noKinds, added};
 ghost use Prim.Native.Nat.{min};
+ghost use Rattle.type_numbers.specs.Kinds.{kindsLimit};
 use cdr::Order;
 use cdr::Place;
 use type_kinds::Inner;
 use type_kinds::Kind;
-use type_kinds::Labels;
-use type_kinds::Parameters;
 use type_numbers::KINDS_LIMIT;
-
-mod arms;
-mod discriminants;
-
-pub use arms::NO_DEFAULT;
-pub use arms::case_of;
-pub use arms::chosen_of;
-pub use arms::counts;
-pub use discriminants::labels_for;
-pub use discriminants::out_of_kind;
+use type_parameters::Parameters;
 
 // Of each kind met its place, the start of its encapsulation, and that encapsulation's order octet.
 #[repr(C)]
@@ -30,27 +20,18 @@ pub struct Met {
     pub count: usize,
 }
 
+// The places that an entry of the list can hold are below this.
+const ENTRY_LIMIT: usize = 65536;
+
 // The position of a kind in the list, or that it is not there.
 pub enum Position {
-    Is(usize),
+    IsAt(usize),
     NoPosition,
 }
 
-// What a discriminant's parameters say: an alias leads on, and every other kind has its labels or none.
-pub enum Discriminant {
-    Through(Inner),
-    Says(Labels),
-}
-
-// The type of a member that is chosen, or that none is.
-pub enum Arm {
-    Chosen(Inner),
-    NoneChosen,
-}
-
-// How many kinds the list has, of which its arrays have room for 64.
+// How many kinds the list has, of which its arrays have room for the most that a TypeCode may have.
 pub fn held_in(count: usize) -> usize
-    ensures { λ r. ⌜ r ≡ min count 64 ⌝ }
+    ensures { λ r. ⌜ r ≡ min count kindsLimit ⌝ }
 {
     if count < KINDS_LIMIT {
         return count;
@@ -93,10 +74,10 @@ impl Met {
         if KINDS_LIMIT <= i {
             return met;
         }
-        if 65536 <= p {
+        if ENTRY_LIMIT <= p {
             return met;
         }
-        if 65536 <= b {
+        if ENTRY_LIMIT <= b {
             return met;
         }
         met.places[i] = p as u16;
@@ -114,7 +95,7 @@ impl Met {
         let mut i: usize = 0;
         while i < n {
             if self.places[i] as usize == place.0 {
-                return Position::Is(i);
+                return Position::IsAt(i);
             }
             i += 1;
         }
@@ -147,11 +128,11 @@ pub fn entry_at(met: Met, j: usize) -> Kind
 pub fn parameters_of(v: &[u8], met: Met, j: usize) -> Parameters
     ensures { λ r. ⌜ r ≡ parametersOf (now (v .entry)) (kindsMet met) j ⌝ }
 {
-    type_kinds::parameters_at(v, entry_at(met, j))
+    type_parameters::parameters_at(v, entry_at(met, j))
 }
 
 // The parameters of the kind at a place, a fault where the list has none there.
-fn found_at(v: &[u8], met: Met, place: Place) -> Parameters
+pub fn found_at(v: &[u8], met: Met, place: Place) -> Parameters
     ensures { λ r. ⌜ r ≡ foundAt (now (v .entry)) (kindsMet met) place ⌝ }
 {
     let n = held_in(met.count);
@@ -160,7 +141,7 @@ fn found_at(v: &[u8], met: Met, place: Place) -> Parameters
         if met.places[i] as usize == place.0 {
             let start = Place(met.starts[i] as usize);
             let order = order_in(met.orders[i]);
-            return type_kinds::parameters_at(
+            return type_parameters::parameters_at(
                 v,
                 Kind {
                     place,
@@ -179,7 +160,7 @@ pub fn inside_of(v: &[u8], met: Met, inner: Inner) -> Parameters
     ensures { λ r. ⌜ r ≡ insideOf (now (v .entry)) (kindsMet met) inner ⌝ }
 {
     match inner {
-        Inner::Here(kind) => type_kinds::parameters_at(v, kind),
+        Inner::Here(kind) => type_parameters::parameters_at(v, kind),
         Inner::There(place) => found_at(v, met, place),
     }
 }

@@ -1,8 +1,8 @@
 -- Bits, the cells of steps, tests of the numbers below one, the closure, loops decided, ranks, and the rounds of the code.
-pub mod Bits
-pub mod Cells
-pub mod Below
-pub mod Closing
-pub mod Deciding
-pub mod Ranks
-pub mod Rounds
+pub mod RowBits
+pub mod CellsAfter
+pub mod SomeBelow
+pub mod ClosureWays
+pub mod LoopDecided
+pub mod RankFalls
+pub mod RoundsDone

@@ -4,12 +4,12 @@
 --   closure       whether kind i leads to kind j in one or more steps, where those between are below k (Warshall)
 --   anyBelow      whether a test holds of some number below n
 --   loopFound     whether some kind below n leads to itself, where those between are below n
---   mostKinds     "at most 64 kinds"
 --   bitAt         bit j of a number
 --   cell          whether rows of bits have a step from kind i to kind j
 --   rowWith       a row with bit j set
 --   withStep      rows and the step from kind i to kind j; as they are where there is no row i or no bit j
 use Rattle.choices.specs.{Bool, false, cond, _&&_, _||_, List, ℕ, zero, suc, _/_, _%_, _^_, bitOr, ltb, eqb, length, getD, set}
+use Rattle.type_numbers.specs.{kindsLimit}
 
 unfoldable pub closure : (ℕ → ℕ → Bool) → ℕ → ℕ → ℕ → Bool
 closure step zero i j = step i j
@@ -22,9 +22,6 @@ anyBelow (suc n) f = anyBelow n f || f n
 unfoldable pub loopFound : ℕ → (ℕ → ℕ → Bool) → Bool
 loopFound n step = anyBelow n (λ i. closure step n i i)
 
-abbrev pub mostKinds : ℕ
-mostKinds = 64
-
 unfoldable pub bitAt : ℕ → ℕ → Bool
 bitAt x zero = eqb (x % 2) 1
 bitAt x (suc j) = bitAt (x / 2) j
@@ -36,4 +33,4 @@ abbrev pub rowWith : ℕ → ℕ → ℕ
 rowWith row j = bitOr row (2 ^ j)
 
 unfoldable pub withStep : List ℕ → ℕ → ℕ → List ℕ
-withStep rows i j = cond (ltb i (length rows) && ltb j mostKinds) (set rows i (rowWith (getD rows i 0) j)) rows
+withStep rows i j = cond (ltb i (length rows) && ltb j kindsLimit) (set rows i (rowWith (getD rows i 0) j)) rows

@@ -2,7 +2,8 @@
 ghost use mathlib.Core.Path.{_≡_};
 ghost use Prim.Native.Nat.{min, _≤_, _<_};
 ghost use lib.ListN.{length};
-ghost use Rattle.type_loops.specs.Loops.{loopFound, mostKinds, bitAt, cell, rowWith, withStep};
+ghost use Rattle.type_loops.specs.Loops.{loopFound, bitAt, cell, rowWith, withStep};
+ghost use Rattle.type_numbers.specs.{kindsLimit};
 ghost use Rattle.type_loops.specs.Inner.{throughRow, RoundDone, Closed, someReturns};
 use type_numbers::KINDS_LIMIT;
 
@@ -26,7 +27,7 @@ pub fn add_step(rows: &mut [u64], i: usize, j: usize)
 
 // Whether some kind below n, or below 64 where n is more, returns to itself in one or more steps.
 pub fn has_loop(steps: Steps, n: usize) -> bool
-    ensures { λ r. ⌜ r ≡ loopFound (min n mostKinds) (cell (steps .rows)) ⌝ }
+    ensures { λ r. ⌜ r ≡ loopFound (min n kindsLimit) (cell (steps .rows)) ⌝ }
 {
     if n < KINDS_LIMIT {
         return some_returns(closed(steps, n), n);
@@ -36,7 +37,7 @@ pub fn has_loop(steps: Steps, n: usize) -> bool
 
 // Whether some kind below n has a step to itself.
 fn some_returns(steps: Steps, n: usize) -> bool
-    requires { ⌜ n ≤ mostKinds ⌝ }
+    requires { ⌜ n ≤ kindsLimit ⌝ }
     ensures { λ r. ⌜ r ≡ someReturns n (steps .rows) ⌝ }
 {
     let mut i = 0;
@@ -52,7 +53,7 @@ fn some_returns(steps: Steps, n: usize) -> bool
 
 // From each kind below n a step to every kind that it leads to through kinds below n.
 fn closed(steps: Steps, n: usize) -> Steps
-    requires { ⌜ n ≤ mostKinds ⌝ }
+    requires { ⌜ n ≤ kindsLimit ⌝ }
     ensures { λ r. ⌜ Closed n n (steps .rows) (r .rows) ⌝ }
 {
     let mut rows = steps.rows;
@@ -66,7 +67,7 @@ fn closed(steps: Steps, n: usize) -> Steps
 
 // The round for kind k: each kind below n that steps to k steps to where k steps.
 fn close_round(rows: &mut [u64; KINDS_LIMIT], n: usize, k: usize)
-    requires { ⌜ (n ≤ mostKinds) × (k < n) × (length (now rows) ≡ mostKinds) ⌝ }
+    requires { ⌜ (n ≤ kindsLimit) × (k < n) × (length (now rows) ≡ kindsLimit) ⌝ }
     ensures { λ _. ⌜ RoundDone n k (now (rows .entry)) (now (rows .exit)) ⌝ }
 {
     let onward = rows[k];
@@ -79,7 +80,7 @@ fn close_round(rows: &mut [u64; KINDS_LIMIT], n: usize, k: usize)
 
 // A row after the round for kind k, whose own row is `onward`.
 fn through_row(row: u64, k: usize, onward: u64) -> u64
-    requires { ⌜ k < mostKinds ⌝ }
+    requires { ⌜ k < kindsLimit ⌝ }
     ensures { λ r. ⌜ r ≡ throughRow row k onward ⌝ }
 {
     if has_bit(row, k) {
@@ -90,7 +91,7 @@ fn through_row(row: u64, k: usize, onward: u64) -> u64
 
 // Whether bit j of a row is set.
 fn has_bit(row: u64, j: usize) -> bool
-    requires { ⌜ j < mostKinds ⌝ }
+    requires { ⌜ j < kindsLimit ⌝ }
     ensures { λ r. ⌜ r ≡ bitAt row j ⌝ }
 {
     (row >> j) & 1 == 1
@@ -98,7 +99,7 @@ fn has_bit(row: u64, j: usize) -> bool
 
 // A row with bit j set.
 fn with_bit(row: u64, j: usize) -> u64
-    requires { ⌜ j < mostKinds ⌝ }
+    requires { ⌜ j < kindsLimit ⌝ }
     ensures { λ r. ⌜ r ≡ rowWith row j ⌝ }
 {
     row | (1 << j)

@@ -1,4 +1,4 @@
 -- What the table of steps has.
-pub mod Noting
-pub mod Members
-pub mod Filling
+pub mod StepNoted
+pub mod MemberSteps
+pub mod TableFilled

@@ -9,8 +9,9 @@
 use Rattle.choices.specs.{ℕ, List, [], _∷_, Bool, eqb, anyOf}
 use Rattle.cdr.specs.{Place}
 use Rattle.type_kinds.specs.{Inner, Kind, placeIn, typesOf}
-use Rattle.type_list.specs.{Shape, fault, flat, struct, exception, union, sequence, array, alias, Met.findKind, Met.parametersOf}
-use Rattle.type_list.specs.{Shapes.shapeOf}
+use Rattle.type_list.specs.{Met.findKind, Met.parametersOf}
+use Rattle.type_unions.specs.{Shape, fault, flat, struct, exception, union, sequence, array, alias}
+use Rattle.type_unions.specs.{Shapes.shapeOf}
 
 abbrev pub stands : List Kind → Place → ℕ → Bool
 stands ks p k = eqb (findKind ks p) k

@@ -6,16 +6,16 @@ ghost use Rattle.type_list.specs.Arrays.{kindsMet};
 ghost use Rattle.type_loops.specs.Loops.{loopFound};
 ghost use Rattle.type_kinds.specs.Members.{membersOf, typesOf};
 ghost use Rattle.type_steps.specs.Steps.{stands, anyStands, steps};
-ghost use Rattle.type_steps.specs.Inner.{Noted, Filled};
+ghost use Rattle.type_steps.specs.Inner.{Noted, RowsFilled};
 use cdr::Place;
 use type_kinds::Fields;
 use type_kinds::Labels;
-use type_kinds::Parameters;
 use type_kinds::Spot;
-use type_loops::Steps;
 use type_list::Met;
 use type_list::Position;
+use type_loops::Steps;
 use type_numbers::KINDS_LIMIT;
+use type_parameters::Parameters;
 
 // Whether some kind of the list returns to itself in one or more steps.
 pub fn loops_back(v: &[u8], met: Met) -> bool
@@ -27,7 +27,7 @@ pub fn loops_back(v: &[u8], met: Met) -> bool
 
 // The steps of every kind of the list.
 fn step_table(v: &[u8], met: Met) -> Steps
-    ensures { λ r. ⌜ Filled (now (v .entry)) (kindsMet met) (length (kindsMet met)) (r .rows) ⌝ }
+    ensures { λ r. ⌜ RowsFilled (now (v .entry)) (kindsMet met) (length (kindsMet met)) (r .rows) ⌝ }
 {
     let n = type_list::held_in(met.count);
     let mut rows: [u64; KINDS_LIMIT] = [0; KINDS_LIMIT];
@@ -56,14 +56,19 @@ fn steps_from(v: &[u8], met: Met, i: usize, rows: &mut [u64])
         } => {
             let place = type_kinds::place_in(discriminant);
             note(met, place, i, rows);
-            let labels = type_list::labels_for(v, met, place);
+            let labels = type_unions::labels_for(v, met, place);
             member_steps(labels, v, fields, met, i, rows)
         }
         Parameters::Sequence {
             element: _,
             bound: _,
         } => {}
-        Parameters::Array { element, length: _ } => note(met, type_kinds::place_in(element), i, rows),
+        Parameters::Array { element, length: _ } => note(
+            met,
+            type_kinds::place_in(element),
+            i,
+            rows,
+        ),
         Parameters::Alias(inner) => note(met, type_kinds::place_in(inner), i, rows),
     }
 }
@@ -71,7 +76,10 @@ fn steps_from(v: &[u8], met: Met, i: usize, rows: &mut [u64])
 // Puts the steps from kind i to its members into rows.
 fn member_steps(labels: Labels, v: &[u8], fields: Fields, met: Met, i: usize, rows: &mut [u64])
     requires { ⌜ i < length (now rows) ⌝ }
-    ensures { λ _. ⌜ Noted (length (kindsMet met)) (now (rows .entry)) i (λ z. anyStands (kindsMet met) z (typesOf (membersOf labels (now (v .entry)) fields))) (now (rows .exit)) ⌝ }
+    ensures { λ _. ⌜
+        Noted (length (kindsMet met)) (now (rows .entry)) i
+        (λ z. anyStands (kindsMet met) z (typesOf (membersOf labels (now (v .entry)) fields))) (now (rows .exit))
+        ⌝ }
 {
     let start = fields.start;
     let order = fields.order;
@@ -79,7 +87,7 @@ fn member_steps(labels: Labels, v: &[u8], fields: Fields, met: Met, i: usize, ro
     let mut at = fields.first;
     let mut k: u64 = 0;
     while k < count {
-        let Spot::At { inner, next } = type_kinds::member_at(labels, v, start, at, order) else {
+        let Spot::TypeAt { inner, next } = type_kinds::member_at(labels, v, start, at, order) else {
             return;
         };
         note(met, type_kinds::place_in(inner), i, rows);
@@ -94,7 +102,7 @@ fn note(met: Met, place: Place, i: usize, rows: &mut [u64])
     ensures { λ _. ⌜ Noted (length (kindsMet met)) (now (rows .entry)) i (stands (kindsMet met) place) (now (rows .exit)) ⌝ }
 {
     match met.position(place) {
-        Position::Is(j) => type_loops::add_step(rows, i, j),
+        Position::IsAt(j) => type_loops::add_step(rows, i, j),
         Position::NoPosition => {}
     }
 }

@@ -1,3 +1,3 @@
 -- Laws that other crates cite.
-pub mod Ways
-pub mod Seen
+pub mod TypeAtCases
+pub mod SeenAfter

@@ -21,36 +21,38 @@
 --   enteredAt         a kind is met, and what follows it is checked
 --   Enterer           a check of what follows a kind of a form
 --   onEntry           what follows where a kind may stand, unless it may not
---   kindAt            an indirection, or a kind that may stand there
+--   typeWith            an indirection, or a kind that may stand there
 --   enterAt           a kind of a form with so many levels left; with none left no kind may stand there
 --   typeAt            a TypeCode with so many levels left
 --   walkedOf          the check of octets as a TypeCode: "42 over 16,384 octets (before all else)"
 use Rattle.choices.specs.{ℕ, zero, suc, _+_, _-_, List, false, cond, ltb, eqb, length, getD, take, drop, choose}
 use Rattle.cdr.specs.{octetsLimit, Index, Place, Order, Four, indexOf}
 use Rattle.cdr_fields.specs.{fieldOf}
-use Rattle.type_kinds.specs.{Form, Unlisted, Plain, Bounded, Composite, Layout, Target, To, Outside, Labels, Of, NoLabels, Kind, placeOf}
-use Rattle.type_kinds.specs.{placeIn, onField, Forms.indirectionKind, Forms.formOf, Parts.onSpot, Parts.behind, Parts.targetOf, Parts.spotAt}
+use Rattle.type_kinds.specs.{Form, Unlisted, Plain, Bounded, Composite, Layout, Target, LeadsTo, Outside, Labels, Of, NoLabels, Kind, placeOf}
+use Rattle.type_kinds.specs.{placeIn, onField, Forms.formOf, Parts.onSpot, Parts.placeBefore, Parts.targetOf, Parts.spotAt}
+use Rattle.type_numbers.specs.{indirectionKind}
 use Rattle.type_kinds.specs.declared.Layout.the-variants.{Objref, Struct, Union, Enum, Sequence, Array, Alias, Exception}
-use Rattle.type_list.specs.{Met.findKind, Discriminants.labelsFor, Arms.noDefault}
-use Rattle.type_fields.specs.{Ends, NoSuchKind, BadEncapsulation, BadUnion, BadTarget, TooDeep, TooLong, Entry, Barred, Enters, Step, Switch}
+use Rattle.type_list.specs.{Met.findKind}
+use Rattle.type_unions.specs.{Discriminants.labelsFor, Arms.noDefault}
+use Rattle.type_fields.specs.{Ends, NoSuchKind, BadEncapsulation, BadUnion, BadTarget, TooDeep, TooLong, Entry, NoEntry, Enters, Step, Switch}
 use Rattle.type_fields.specs.{NoSwitch, Cases, Part, NoPart, Inside}
-use Rattle.type_fields.specs.Fields.{nestingLimit, entryOf, thenStep, textStep, namesStep, numberStep, lengthStep, headStep, exceptionStep}
+use Rattle.type_fields.specs.Fields.{nestingLimit, kindEntry, thenStep, textStep, namesStep, numberStep, lengthStep, headStep, exceptionStep}
 use Rattle.type_fields.specs.Fields.{enumStep, switchStep, labelStep, partOf}
-use Rattle.type_walk.specs.Walk.{Walk, Walked, nothingMet, entered, closed, refusedAs, goesOn, onStep, countThen, after}
+use Rattle.type_walk.specs.Walk.{Walk, Walked, nothingMet, entered, closedAt, refusedAs, goesOnAt, onStep, countThen, afterType}
 
 unfoldable pub targetStep : Walk → Place → Index → Walked
 targetStep w p next =
     cond (ltb (findKind (w .kinds) p) (length (w .kinds)))
-    (cond (getD (w .barred) (findKind (w .kinds) p) false) (refusedAs BadTarget w) (goesOn next w))
+    (cond (getD (w .barred) (findKind (w .kinds) p) false) (refusedAs BadTarget w) (goesOnAt next w))
     (refusedAs BadTarget w)
 
 abbrev pub aimedStep : Target → Walk → Index → Walked
-aimedStep (To p) w next = targetStep w p next
+aimedStep (LeadsTo p) w next = targetStep w p next
 aimedStep Outside w next = refusedAs BadTarget w
 
 unfoldable pub indirectionAt : List ℕ → Place → Order → Index → Walk → Walked
 indirectionAt s b order i w =
-    onField (fieldOf s i Four order) (refusedAs Ends w) (λ x next. aimedStep (targetOf (behind b next) x) w next)
+    onField (fieldOf s i Four order) (refusedAs Ends w) (λ x next. aimedStep (targetOf (placeBefore b next) x) w next)
 
 abbrev pub Checker : Type 0
 Checker = List ℕ → Place → Order → Index → Walk → Walked
@@ -59,10 +61,10 @@ unfoldable pub nameStep : Labels → List ℕ → List ℕ → Place → Order �
 nameStep labels v s b order default done first i = thenStep (labelStep labels v s b order default done first i) (λ h. textStep s h order)
 
 unfoldable pub membersAt : List ℕ → Checker → Labels → ℕ → List ℕ → Place → Order → Index → ℕ → ℕ → Index → Walk → Walked
-membersAt v go labels default s b order first zero done i w = goesOn i w
+membersAt v go labels default s b order first zero done i w = goesOnAt i w
 membersAt v go labels default s b order first (suc n) done i w =
     onStep (nameStep labels v s b order default done first i) w (λ j.
-    after (go s b order j w) (λ k w′. membersAt v go labels default s b order first n (done + 1) k w′))
+    afterType (go s b order j w) (λ k w′. membersAt v go labels default s b order first n (done + 1) k w′))
 
 unfoldable pub labelsAt : List ℕ → List Kind → Place → Index → Order → Labels
 labelsAt v ks b i order = onSpot (spotAt v b i order) NoLabels (λ x next. labelsFor v ks (placeIn x))
@@ -81,10 +83,10 @@ switchedAt v go labels s b order i w =
 
 unfoldable pub discriminantAt : List ℕ → Checker → List ℕ → Place → Order → Index → Walk → Walked
 discriminantAt v go s b order i w =
-    after (go s b order i w) (λ j w′. switchedAt v go (labelsAt v (w′ .kinds) b i order) s b order j w′)
+    afterType (go s b order i w) (λ j w′. switchedAt v go (labelsAt v (w′ .kinds) b i order) s b order j w′)
 
 abbrev pub contentsAt : List ℕ → Checker → Layout → List ℕ → Place → Order → Walk → Walked
-contentsAt v go Objref s b order w = onStep (namesStep s order) w (λ i. goesOn i w)
+contentsAt v go Objref s b order w = onStep (namesStep s order) w (λ i. goesOnAt i w)
 contentsAt v go Alias s b order w = onStep (namesStep s order) w (λ i. go s b order i w)
 contentsAt v go Struct s b order w =
     countThen (headStep s order) w (λ n next. membersAt v go NoLabels noDefault s b order next n 0 next w)
@@ -92,14 +94,14 @@ contentsAt v go Exception s b order w =
     countThen (exceptionStep s order) w (λ n next. membersAt v go NoLabels noDefault s b order next n 0 next w)
 contentsAt v go Union s b order w =
     onStep (namesStep s order) w (λ i. discriminantAt v go s b order i w)
-contentsAt v go Enum s b order w = onStep (enumStep s order) w (λ i. goesOn i w)
+contentsAt v go Enum s b order w = onStep (enumStep s order) w (λ i. goesOnAt i w)
 contentsAt v go Sequence s b order w =
-    after (go s b order (indexOf 1) w) (λ i w′. onStep (numberStep s i order) w′ (λ next. goesOn next w′))
+    afterType (go s b order (indexOf 1) w) (λ i w′. onStep (numberStep s i order) w′ (λ next. goesOnAt next w′))
 contentsAt v go Array s b order w =
-    after (go s b order (indexOf 1) w) (λ i w′. onStep (lengthStep s i order) w′ (λ next. goesOn next w′))
+    afterType (go s b order (indexOf 1) w) (λ i w′. onStep (lengthStep s i order) w′ (λ next. goesOnAt next w′))
 
 unfoldable pub endedAt : ℕ → ℕ → ℕ → Walked → Walked
-endedAt here n e c = after c (λ i w. cond (eqb (i .0) n) (goesOn (indexOf e) (closed w here)) (refusedAs BadEncapsulation w))
+endedAt here n e c = afterType c (λ i w. cond (eqb (i .0) n) (goesOnAt (indexOf e) (closedAt w here)) (refusedAs BadEncapsulation w))
 
 abbrev pub partThen : Part → Walk → (ℕ → ℕ → Order → Walked) → Walked
 partThen (NoPart r) w f = refusedAs r w
@@ -112,33 +114,33 @@ compositeAt v go layout s b order i w here =
 
 abbrev pub insideAt : List ℕ → Checker → Form → List ℕ → Place → Order → Index → Walk → ℕ → Walked
 insideAt v go Unlisted s b order i w here = refusedAs NoSuchKind w
-insideAt v go Plain s b order i w here = goesOn i (closed w here)
-insideAt v go Bounded s b order i w here = onStep (numberStep s i order) w (λ next. goesOn next (closed w here))
+insideAt v go Plain s b order i w here = goesOnAt i (closedAt w here)
+insideAt v go Bounded s b order i w here = onStep (numberStep s i order) w (λ next. goesOnAt next (closedAt w here))
 insideAt v go (Composite layout) s b order i w here = compositeAt v go layout s b order i w here
 
 unfoldable pub enteredAt : List ℕ → Checker → Form → List ℕ → Place → Order → Index → Walk → Walked
-enteredAt v go form s b order next w = insideAt v go form s b order next (entered w (behind b next) b order form) (length (w .kinds))
+enteredAt v go form s b order next w = insideAt v go form s b order next (entered w (placeBefore b next) b order form) (length (w .kinds))
 
 abbrev pub Enterer : Type 0
 Enterer = Form → List ℕ → Place → Order → Index → Walk → Walked
 
 abbrev pub onEntry : Entry → Walk → (Unit {0} → Walked) → Walked
-onEntry (Barred r) w f = refusedAs r w
+onEntry (NoEntry r) w f = refusedAs r w
 onEntry Enters w f = f tt
 
-unfoldable pub kindAt : ℕ → Enterer → Checker
-kindAt left enter s b order i w =
+unfoldable pub typeWith : ℕ → Enterer → Checker
+typeWith left enter s b order i w =
     onField (fieldOf s i Four order) (refusedAs Ends w) (λ kind next.
     choose (eqb kind indirectionKind)
     (λ _. indirectionAt s b order next w)
-    (λ _. onEntry (entryOf (formOf kind) kind left (length (w .kinds))) w (λ _. enter (formOf kind) s b order next w)))
+    (λ _. onEntry (kindEntry (formOf kind) kind left (length (w .kinds))) w (λ _. enter (formOf kind) s b order next w)))
 
 unfoldable pub enterAt : List ℕ → ℕ → Enterer
 enterAt v zero form s b order next w = refusedAs TooDeep w
-enterAt v (suc left) form s b order next w = enteredAt v (kindAt left (enterAt v left)) form s b order next w
+enterAt v (suc left) form s b order next w = enteredAt v (typeWith left (enterAt v left)) form s b order next w
 
 unfoldable pub typeAt : List ℕ → ℕ → Checker
-typeAt v left = kindAt left (enterAt v left)
+typeAt v left = typeWith left (enterAt v left)
 
 unfoldable pub walkedOf : List ℕ → Order → Walked
 walkedOf v order =

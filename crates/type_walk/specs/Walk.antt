@@ -6,12 +6,12 @@
 --   layoutBarred   a layout whose kinds are no target while they are read: "one still being read that is neither struct nor union"
 --   isBarred       the same of a form; what holds no type is read to its end before an indirection can follow
 --   entered        one more kind met, still being read
---   closed         the kind at a position is read to its end
+--   closedAt         the kind at a position is read to its end
 --   refusedAs      the check ends with a refusal
---   goesOn         the check goes on at an index
+--   goesOnAt         the check goes on at an index
 --   onStep         what follows, unless it is refused
 --   countThen      what follows a count, unless it is refused
---   after          what follows a type that was checked
+--   afterType          what follows a type that was checked
 use Rattle.choices.specs.{ℕ, List, [], _∷_, _++_, Bool, true, false, length, set, take}
 use Rattle.cdr.specs.{Index, Place, Order}
 use Rattle.type_kinds.specs.{Kind, Form, Unlisted, Plain, Bounded, Composite, Layout, writtenAt}
@@ -57,14 +57,14 @@ isBarred (Composite layout) = layoutBarred layout
 unfoldable pub entered : Walk → Place → Place → Order → Form → Walk
 entered w p b order form = record { kinds = w .kinds ++ (writtenAt p b order ∷ []); barred = w .barred ++ (isBarred form ∷ []) }
 
-unfoldable pub closed : Walk → ℕ → Walk
-closed w here = record { kinds = w .kinds; barred = set (w .barred) here false }
+unfoldable pub closedAt : Walk → ℕ → Walk
+closedAt w here = record { kinds = w .kinds; barred = set (w .barred) here false }
 
 abbrev pub refusedAs : Refusal → Walk → Walked
 refusedAs r w = record { step = Refused r; walk = w }
 
-abbrev pub goesOn : Index → Walk → Walked
-goesOn i w = record { step = Next i; walk = w }
+abbrev pub goesOnAt : Index → Walk → Walked
+goesOnAt i w = record { step = Next i; walk = w }
 
 abbrev pub onStep : Step → Walk → (Index → Walked) → Walked
 onStep (Refused r) w f = refusedAs r w
@@ -74,5 +74,5 @@ abbrev pub countThen : Count → Walk → (ℕ → Index → Walked) → Walked
 countThen (Wrong r) w f = refusedAs r w
 countThen (Stands n next) w f = f n next
 
-abbrev pub after : Walked → (Index → Walk → Walked) → Walked
-after c f = onStep (c .step) (c .walk) (λ i. f i (c .walk))
+abbrev pub afterType : Walked → (Index → Walk → Walked) → Walked
+afterType c f = onStep (c .step) (c .walk) (λ i. f i (c .walk))

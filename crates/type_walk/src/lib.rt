@@ -2,7 +2,9 @@
 ghost use mathlib.Core.Path.{_≡_};
 ghost use Prim.Native.Nat.{_+_, _≤_, _<_};
 ghost use lib.ListN.{length};
-ghost use Rattle.type_kinds.specs.Parts.{behind};
+ghost use Rattle.cdr.specs.{octetsLimit};
+ghost use Rattle.type_numbers.specs.Kinds.{kindsLimit};
+ghost use Rattle.type_kinds.specs.Parts.{placeBefore};
 ghost use Rattle.type_list.specs.Arrays.{kindsMet};
 ghost use Rattle.type_walk.specs.Walk.{seen, seenAs};
 ghost use Rattle.type_walk.specs.Types.{indirectionAt, discriminantAt, membersAt, labelsAt, contentsAt, insideAt, typeAt, walkedOf};
@@ -46,20 +48,28 @@ pub fn walk_type(v: &[u8], order: Order) -> Walked
     if cdr::OCTETS_LIMIT < v.len() {
         return walks::refused(Refusal::TooLong, walk);
     }
-    check(v, v, Place(0), order, Index::START, type_fields::NESTING, walk)
+    check(
+        v,
+        v,
+        Place(0),
+        order,
+        Index::START,
+        type_fields::NESTING,
+        walk,
+    )
 }
 
 // The place of the unsigned long that ends before an index.
-fn behind(start: Place, next: Index) -> Place
-    requires { ⌜ (4 ≤ next .0) × (start .0 + next .0 ≤ 16384) ⌝ }
-    ensures { λ r. ⌜ r ≡ behind start next ⌝ }
+fn place_before(start: Place, next: Index) -> Place
+    requires { ⌜ (4 ≤ next .0) × (start .0 + next .0 ≤ octetsLimit) ⌝ }
+    ensures { λ r. ⌜ r ≡ placeBefore start next ⌝ }
 {
     Place(start.0 + (next.0 - 4))
 }
 
 // Where an indirection leads whose offset stands at an index.
 fn indirection(s: &[u8], start: Place, order: Order, at: Index, walk: Walk) -> Walked
-    requires { ⌜ start .0 + length (now s) ≤ 16384 ⌝ }
+    requires { ⌜ start .0 + length (now s) ≤ octetsLimit ⌝ }
     ensures { λ r. ⌜ seenAs r ≡ indirectionAt (now (s .entry)) start order at (seen walk) ⌝ }
 {
     let Field::Value {
@@ -69,8 +79,8 @@ fn indirection(s: &[u8], start: Place, order: Order, at: Index, walk: Walk) -> W
     else {
         return walks::refused(Refusal::Ends, walk);
     };
-    match type_kinds::target_of(behind(start, next), offset) {
-        Target::To(place) => walks::target_step(walk, place, next),
+    match type_kinds::target_of(place_before(start, next), offset) {
+        Target::LeadsTo(place) => walks::target_step(walk, place, next),
         Target::Outside => walks::refused(Refusal::BadTarget, walk),
     }
 }
@@ -80,18 +90,21 @@ fn labels_at(v: &[u8], met: Met, start: Place, at: Index, order: Order) -> Label
     ensures { λ r. ⌜ r ≡ labelsAt (now (v .entry)) (kindsMet met) start at order ⌝ }
 {
     match type_kinds::spot_at(v, start, at, order) {
-        Spot::At { inner, next: _ } => type_list::labels_for(v, met, type_kinds::place_in(inner)),
-        Spot::Nowhere => Labels::NoLabels,
+        Spot::TypeAt { inner, next: _ } => type_unions::labels_for(
+            v,
+            met,
+            type_kinds::place_in(inner),
+        ),
+        Spot::NoType => Labels::NoLabels,
     }
 }
 
 // A TypeCode at an index, with so many levels left.
 fn check(v: &[u8], s: &[u8], start: Place, order: Order, at: Index, left: u8, walk: Walk) -> Walked
-    requires { ⌜ start .0 + length (now s) ≤ 16384 ⌝ }
+    requires { ⌜ start .0 + length (now s) ≤ octetsLimit ⌝ }
     ensures { λ r. ⌜ seenAs r ≡ typeAt (now (v .entry)) left (now (s .entry)) start order at (seen walk) ⌝ }
 {
-    let Field::Value { value: kind, next } = cdr_fields::read_field(s, at, Size::Four, order)
-    else {
+    let Field::Value { value: kind, next } = cdr_fields::read_field(s, at, Size::Four, order) else {
         return walks::refused(Refusal::Ends, walk);
     };
     if kind == type_numbers::INDIRECTION {
@@ -100,9 +113,9 @@ fn check(v: &[u8], s: &[u8], start: Place, order: Order, at: Index, left: u8, wa
     let form = type_kinds::form_of(kind);
     let here = walks::count(walk);
     match type_fields::entry_of(form, kind, left, here) {
-        Entry::Barred(refusal) => walks::refused(refusal, walk),
+        Entry::NoEntry(refusal) => walks::refused(refusal, walk),
         Entry::Enters => {
-            let place = behind(start, next);
+            let place = place_before(start, next);
             let entered = walks::enter(walk, place, start, order, form);
             inside(v, form, s, start, order, next, left - 1, entered, here)
         }
@@ -121,7 +134,7 @@ fn inside(
     walk: Walk,
     here: usize,
 ) -> Walked
-    requires { ⌜ (start .0 + length (now s) ≤ 16384) × (here < 64) ⌝ }
+    requires { ⌜ (start .0 + length (now s) ≤ octetsLimit) × (here < kindsLimit) ⌝ }
     ensures { λ r. ⌜ seenAs r ≡ insideAt (now (v .entry)) (typeAt (now (v .entry)) left) form (now (s .entry)) start order at (seen walk) here ⌝ }
 {
     match form {
@@ -153,7 +166,7 @@ fn parameters(
     left: u8,
     walk: Walk,
 ) -> Walked
-    requires { ⌜ start .0 + length (now s) ≤ 16384 ⌝ }
+    requires { ⌜ start .0 + length (now s) ≤ octetsLimit ⌝ }
     ensures { λ r. ⌜ seenAs r ≡ contentsAt (now (v .entry)) (typeAt (now (v .entry)) left) layout (now (s .entry)) start order (seen walk) ⌝ }
 {
     match layout {
@@ -165,7 +178,7 @@ fn parameters(
                 member_types(
                     v,
                     Labels::NoLabels,
-                    type_list::NO_DEFAULT,
+                    type_unions::NO_DEFAULT,
                     s,
                     start,
                     order,
@@ -182,7 +195,7 @@ fn parameters(
                 member_types(
                     v,
                     Labels::NoLabels,
-                    type_list::NO_DEFAULT,
+                    type_unions::NO_DEFAULT,
                     s,
                     start,
                     order,
@@ -222,7 +235,7 @@ fn switched(
     left: u8,
     walk: Walk,
 ) -> Walked
-    requires { ⌜ start .0 + length (now s) ≤ 16384 ⌝ }
+    requires { ⌜ start .0 + length (now s) ≤ octetsLimit ⌝ }
     ensures { λ r. ⌜ seenAs r ≡ discriminantAt (now (v .entry)) (typeAt (now (v .entry)) left) (now (s .entry)) start order at (seen walk) ⌝ }
 {
     let c = check(v, s, start, order, at, left, walk);
@@ -258,8 +271,10 @@ fn member_types(
     left: u8,
     walk: Walk,
 ) -> Walked
-    requires { ⌜ start .0 + length (now s) ≤ 16384 ⌝ }
-    ensures { λ r. ⌜ seenAs r ≡ membersAt (now (v .entry)) (typeAt (now (v .entry)) left) labels default (now (s .entry)) start order first count 0 first (seen walk) ⌝ }
+    requires { ⌜ start .0 + length (now s) ≤ octetsLimit ⌝ }
+    ensures { λ r. ⌜
+        seenAs r ≡ membersAt (now (v .entry)) (typeAt (now (v .entry)) left) labels default (now (s .entry)) start order first count 0 first (seen walk)
+        ⌝ }
 {
     let mut w = walk;
     let mut at = first;

@@ -3,7 +3,9 @@ ghost use mathlib.Core.Path.{_≡_};
 ghost use mathlib.Core.Bool.{false};
 ghost use Prim.Native.Nat.{_<_};
 ghost use lib.ListN.{getD, length};
-ghost use Rattle.type_walk.specs.Walk.{seen, seenAs, nothingMet, layoutBarred, isBarred, entered, closed, refusedAs, goesOn, onStep, after};
+ghost use Rattle.type_numbers.specs.Kinds.{kindsLimit};
+ghost use Rattle.type_list.specs.Arrays.{entryLimit};
+ghost use Rattle.type_walk.specs.Walk.{seen, seenAs, nothingMet, layoutBarred, isBarred, entered, closedAt, refusedAs, goesOnAt, onStep, afterType};
 ghost use Rattle.type_walk.specs.Types.{targetStep, nameStep, switchHead, endedAt};
 ghost use Rattle.type_fields.specs.Fields.{numberStep, lengthStep};
 use crate::Walk;
@@ -42,7 +44,7 @@ pub(crate) fn refused(refusal: Refusal, walk: Walk) -> Walked
 
 // The check goes on at an index.
 pub(crate) fn goes_on(at: Index, walk: Walk) -> Walked
-    ensures { λ r. ⌜ seenAs r ≡ goesOn at (seen walk) ⌝ }
+    ensures { λ r. ⌜ seenAs r ≡ goesOnAt at (seen walk) ⌝ }
 {
     Walked {
         step: Step::Next(at),
@@ -52,7 +54,7 @@ pub(crate) fn goes_on(at: Index, walk: Walk) -> Walked
 
 // The check goes on after a step, or ends.
 pub(crate) fn on(step: Step, walk: Walk) -> Walked
-    ensures { λ r. ⌜ seenAs r ≡ onStep step (seen walk) (λ i. goesOn i (seen walk)) ⌝ }
+    ensures { λ r. ⌜ seenAs r ≡ onStep step (seen walk) (λ i. goesOnAt i (seen walk)) ⌝ }
 {
     Walked { step, walk }
 }
@@ -82,7 +84,7 @@ pub(crate) fn target_step(walk: Walk, place: Place, next: Index) -> Walked
 {
     let met = walk.met;
     let barred = walk.barred;
-    let Position::Is(i) = met.position(place) else {
+    let Position::IsAt(i) = met.position(place) else {
         return refused(Refusal::BadTarget, walk);
     };
     if barred_at(barred, i) {
@@ -121,7 +123,7 @@ fn is_barred(form: Form) -> bool
 
 // One more kind is met.
 pub(crate) fn enter(walk: Walk, place: Place, start: Place, order: Order, form: Form) -> Walk
-    requires { ⌜ (length (seen walk .kinds) < 64) × (place .0 < 65536) × (start .0 < 65536) ⌝ }
+    requires { ⌜ (length (seen walk .kinds) < kindsLimit) × (place .0 < entryLimit) × (start .0 < entryLimit) ⌝ }
     ensures { λ r. ⌜ seen r ≡ entered (seen walk) place start order form ⌝ }
 {
     let met = walk.met;
@@ -136,8 +138,8 @@ pub(crate) fn enter(walk: Walk, place: Place, start: Place, order: Order, form: 
 
 // The kind at a position is read to its end.
 pub(crate) fn close(walk: Walk, here: usize) -> Walk
-    requires { ⌜ here < 64 ⌝ }
-    ensures { λ r. ⌜ seen r ≡ closed (seen walk) here ⌝ }
+    requires { ⌜ here < kindsLimit ⌝ }
+    ensures { λ r. ⌜ seen r ≡ closedAt (seen walk) here ⌝ }
 {
     let met = walk.met;
     let mut barred = walk.barred;
@@ -147,8 +149,8 @@ pub(crate) fn close(walk: Walk, here: usize) -> Walk
 
 // The bound of a string, the kind at a position.
 pub(crate) fn bounded(s: &[u8], order: Order, at: Index, walk: Walk, here: usize) -> Walked
-    requires { ⌜ here < 64 ⌝ }
-    ensures { λ r. ⌜ seenAs r ≡ onStep (numberStep (now (s .entry)) at order) (seen walk) (λ next. goesOn next (closed (seen walk) here)) ⌝ }
+    requires { ⌜ here < kindsLimit ⌝ }
+    ensures { λ r. ⌜ seenAs r ≡ onStep (numberStep (now (s .entry)) at order) (seen walk) (λ next. goesOnAt next (closedAt (seen walk) here)) ⌝ }
 {
     match type_fields::number_step(s, at, order) {
         Step::Refused(refusal) => refused(refusal, walk),
@@ -158,7 +160,7 @@ pub(crate) fn bounded(s: &[u8], order: Order, at: Index, walk: Walk, here: usize
 
 // The parameters have to end with their encapsulation.
 pub(crate) fn ended(c: Walked, here: usize, length: usize, end: usize) -> Walked
-    requires { ⌜ here < 64 ⌝ }
+    requires { ⌜ here < kindsLimit ⌝ }
     ensures { λ r. ⌜ seenAs r ≡ endedAt here length end (seenAs c) ⌝ }
 {
     let walk = c.walk;
@@ -176,7 +178,7 @@ pub(crate) fn ended(c: Walked, here: usize, length: usize, end: usize) -> Walked
 
 // The bound after a sequence's type.
 pub(crate) fn then_number(s: &[u8], order: Order, c: Walked) -> Walked
-    ensures { λ r. ⌜ seenAs r ≡ after (seenAs c) (λ i w. onStep (numberStep (now (s .entry)) i order) w (λ next. goesOn next w)) ⌝ }
+    ensures { λ r. ⌜ seenAs r ≡ afterType (seenAs c) (λ i w. onStep (numberStep (now (s .entry)) i order) w (λ next. goesOnAt next w)) ⌝ }
 {
     let walk = c.walk;
     let step = c.step;
@@ -188,7 +190,7 @@ pub(crate) fn then_number(s: &[u8], order: Order, c: Walked) -> Walked
 
 // The length after an array's type.
 pub(crate) fn then_length(s: &[u8], order: Order, c: Walked) -> Walked
-    ensures { λ r. ⌜ seenAs r ≡ after (seenAs c) (λ i w. onStep (lengthStep (now (s .entry)) i order) w (λ next. goesOn next w)) ⌝ }
+    ensures { λ r. ⌜ seenAs r ≡ afterType (seenAs c) (λ i w. onStep (lengthStep (now (s .entry)) i order) w (λ next. goesOnAt next w)) ⌝ }
 {
     let walk = c.walk;
     let step = c.step;

@@ -1,7 +1,7 @@
 // The check of a TypeCode: octets used and kinds written, or 01's refusal, 30 to 40 and 42; and the kinds met, for whoever reads values.
 ghost use mathlib.Core.Path.{_≡_};
 ghost use Rattle.type_list.specs.Arrays.{kindsMet};
-ghost use Rattle.typecode.specs.TypeCode.{answerNumber, refusedWith, loopLast, checkedType, toldBy};
+ghost use Rattle.typecode.specs.TypeCode.{typeAnswerNumber, withoutType, loopLast, checkedType, toldBy};
 use cdr::Index;
 use cdr::Order;
 use type_fields::Refusal;
@@ -18,7 +18,7 @@ pub enum TypeAnswer {
 impl TypeAnswer {
     // The paper's number of the answer, 0 for an accepted type.
     pub fn number(self) -> u32
-        ensures { λ r. ⌜ r ≡ answerNumber self ⌝ }
+        ensures { λ r. ⌜ r ≡ typeAnswerNumber self ⌝ }
     {
         match self {
             TypeAnswer::Accepted { used: _, kinds: _ } => 0,
@@ -36,7 +36,7 @@ pub struct CheckedType {
 
 // An answer without a type.
 fn refused_with(answer: TypeAnswer) -> CheckedType
-    ensures { λ r. ⌜ toldBy r ≡ refusedWith answer ⌝ }
+    ensures { λ r. ⌜ toldBy r ≡ withoutType answer ⌝ }
 {
     CheckedType {
         answer,

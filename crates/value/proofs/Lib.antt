@@ -1,3 +1,3 @@
 -- Laws of reading into a table, and of a single item.
-pub mod Walks
-pub mod Answers
+pub mod WalksLeaveReading
+pub mod AnswerCases

@@ -5,7 +5,7 @@
 --   itemAnswer       the answer
 use Rattle.choices.specs.{ℕ, List, ltb, eqb, length, choose}
 use Rattle.cdr.specs.{Order}
-use Rattle.value_items.specs.Items.{itemOf, itemNumbers}
+use Rattle.value_items.specs.Items.{itemOf, caseAndBits}
 use Rattle.value_meaning.specs.{Source, St, Log, anyRoom, Value.readingOf, Value.underType, Value.itemNo}
 use Rattle.value.specs.declared.ItemAnswer.{ItemAnswer}
 use Rattle.value.specs.declared.ItemAnswer.the-variants.{Given, Refused}
@@ -15,7 +15,7 @@ itemNumber (Given item) = 0
 itemNumber (Refused number) = number
 
 abbrev pub givenIn : ItemAnswer → List ℕ → List ℕ
-givenIn (Given item) before = itemNumbers item
+givenIn (Given item) before = caseAndBits item
 givenIn (Refused number) before = before
 
 unfoldable pub givenBy : St Log → ℕ → ItemAnswer

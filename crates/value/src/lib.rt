@@ -14,11 +14,11 @@ ghost use Rattle.value.specs.Typed.{Bounded};
 ghost use Rattle.value.specs.Inner.{Read};
 use cdr::Index;
 use cdr::Order;
+use type_list::Met;
+use typecode::TypeAnswer;
 use value_items::Item;
 use value_leaves::Mode;
-use type_list::Met;
 use value_meaning::ValueAnswer;
-use typecode::TypeAnswer;
 
 // Whether a value may be read under a type, or 01's number of the refusal.
 pub enum Judged {
@@ -43,55 +43,58 @@ const LIMIT: usize = cdr::OCTETS_LIMIT;
 
 // Reads a value into the table, three numbers an item; a refusal leaves it as it was.
 pub fn read_value(
-    t: &[u8],
+    types: &[u8],
     torder: Order,
-    v: &[u8],
+    value: &[u8],
     order: Order,
     start: Index,
     table: &mut [u64],
 ) -> ValueAnswer
-    ensures { λ r. ⌜ (r ≡ valueAnswer (now (t .entry)) torder (source (now (v .entry)) order start) (roomIn (now (table .entry)))) × (now (table .exit) ≡ tableAfter (now (t .entry)) torder (source (now (v .entry)) order start) (now (table .entry))) ⌝ }
+    ensures { λ r. ⌜
+        (r ≡ valueAnswer (now (types .entry)) torder (source (now (value .entry)) order start) (roomIn (now (table .entry))))
+        × (now (table .exit) ≡ tableAfter (now (types .entry)) torder (source (now (value .entry)) order start) (now (table .entry)))
+        ⌝ }
 {
-    let c = check(t, torder, v.len());
+    let c = check(types, torder, value.len());
     let met = c.met;
     let judged = c.judged;
     match judged {
-        Judged::Accepted => read_into(t, met, v, order, start, table),
+        Judged::Accepted => read_into(types, met, value, order, start, table),
         Judged::Refused(number) => ValueAnswer::Refused { number, visits: 0 },
     }
 }
 
 // Reads a value for the item of a number, counted from 0.
 pub fn read_item(
-    t: &[u8],
+    types: &[u8],
     torder: Order,
-    v: &[u8],
+    value: &[u8],
     order: Order,
     start: Index,
     number: u64,
 ) -> ItemAnswer
-    ensures { λ r. ⌜ r ≡ itemAnswer (now (t .entry)) torder (source (now (v .entry)) order start) number ⌝ }
+    ensures { λ r. ⌜ r ≡ itemAnswer (now (types .entry)) torder (source (now (value .entry)) order start) number ⌝ }
 {
-    let c = check(t, torder, v.len());
+    let c = check(types, torder, value.len());
     let met = c.met;
     let judged = c.judged;
     match judged {
-        Judged::Accepted => pick(t, met, v, order, start, number),
+        Judged::Accepted => pick(types, met, value, order, start, number),
         Judged::Refused(refusal) => ItemAnswer::Refused(refusal),
     }
 }
 
 // Checks the type of a value of so many octets.
-pub fn check(t: &[u8], torder: Order, octets: usize) -> Typed
-    ensures { λ r. ⌜ typedBy r ≡ typedFor (now (t .entry)) torder «octets» ⌝ }
+pub fn check(types: &[u8], torder: Order, octets: usize) -> Typed
+    ensures { λ r. ⌜ typedBy r ≡ typedFor (now (types .entry)) torder «octets» ⌝ }
 {
-    if over_long(t.len(), octets) {
+    if over_long(types.len(), octets) {
         return Typed {
             judged: Judged::Refused(refusals::TOO_LONG),
             met: Met::none(),
         };
     }
-    let c = typecode::check_type(t, torder);
+    let c = typecode::check_type(types, torder);
     let met = c.met;
     let answer = c.answer;
     Typed {
@@ -123,15 +126,15 @@ fn over_long(t: usize, v: usize) -> bool
 
 // Reads under a checked type: a first walk finds a refusal, and a second one fills the table.
 fn read_into(
-    t: &[u8],
+    types: &[u8],
     met: Met,
-    v: &[u8],
+    value: &[u8],
     order: Order,
     start: Index,
     table: &mut [u64],
 ) -> ValueAnswer
-    requires { ⌜ Bounded (checked (now t) (kindsMet met)) (source (now v) order start) ⌝ }
-    ensures { λ r. ⌜ Read (checked (now (t .entry)) (kindsMet met)) (source (now (v .entry)) order start) (now (table .entry)) r (now (table .exit)) ⌝ }
+    requires { ⌜ Bounded (checked (now types) (kindsMet met)) (source (now value) order start) ⌝ }
+    ensures { λ r. ⌜ Read (checked (now (types .entry)) (kindsMet met)) (source (now (value .entry)) order start) (now (table .entry)) r (now (table .exit)) ⌝ }
 {
     let looking = Mode {
         order,
@@ -140,7 +143,7 @@ fn read_into(
         fill: false,
         first: 0,
     };
-    let c = value_walk::walk(t, met, v, looking, table);
+    let c = value_walk::walk(types, met, value, looking, table);
     if c.fault != 0 {
         return ValueAnswer::Refused {
             number: c.fault,
@@ -154,7 +157,7 @@ fn read_into(
         fill: true,
         first: 0,
     };
-    let d = value_walk::walk(t, met, v, filling, table);
+    let d = value_walk::walk(types, met, value, filling, table);
     ValueAnswer::Accepted {
         used: d.at,
         items: d.items,
@@ -163,9 +166,9 @@ fn read_into(
 }
 
 // Reads under a checked type for one item, which goes into a row of its own.
-fn pick(t: &[u8], met: Met, v: &[u8], order: Order, start: Index, number: u64) -> ItemAnswer
-    requires { ⌜ Bounded (checked (now t) (kindsMet met)) (source (now v) order start) ⌝ }
-    ensures { λ r. ⌜ r ≡ givenBy (reading anyRoom (source (now (v .entry)) order start) (checked (now (t .entry)) (kindsMet met))) number ⌝ }
+fn pick(types: &[u8], met: Met, value: &[u8], order: Order, start: Index, number: u64) -> ItemAnswer
+    requires { ⌜ Bounded (checked (now types) (kindsMet met)) (source (now value) order start) ⌝ }
+    ensures { λ r. ⌜ r ≡ givenBy (reading anyRoom (source (now (value .entry)) order start) (checked (now (types .entry)) (kindsMet met))) number ⌝ }
 {
     let mut row = [0u64; 3];
     let picking = Mode {
@@ -175,7 +178,7 @@ fn pick(t: &[u8], met: Met, v: &[u8], order: Order, start: Index, number: u64) -
         fill: true,
         first: number as usize,
     };
-    let c = value_walk::walk(t, met, v, picking, &mut row);
+    let c = value_walk::walk(types, met, value, picking, &mut row);
     if c.fault != 0 {
         return ItemAnswer::Refused(c.fault);
     }

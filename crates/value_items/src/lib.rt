@@ -2,7 +2,7 @@
 // kind, content and item.
 ghost use mathlib.Core.Path.{_≡_};
 ghost use lib.Ieee.{binary32, binary64, ofBits};
-ghost use Rattle.value_items.specs.Items.{signedKind, signedOf, complementOf, singleOf, itemOf, caseOf, bitsOf};
+ghost use Rattle.value_items.specs.Items.{signedKind, signedOf, complementOf, singleOf, itemOf, itemCase, bitsOf};
 
 // What an item is; a float has the recorded bits beside it.
 pub enum Item {
@@ -96,7 +96,7 @@ fn double(bits: u64) -> f64
 impl Item {
     // Which case the item is: 0 signed, 1 unsigned, 2 single, 3 double.
     pub fn case(self) -> u64
-        ensures { λ r. ⌜ r ≡ caseOf self ⌝ }
+        ensures { λ r. ⌜ r ≡ itemCase self ⌝ }
     {
         match self {
             Item::Signed(_) => 0,

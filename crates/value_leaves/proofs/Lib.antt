@@ -1,4 +1,3 @@
 -- Laws that other crates cite.
-pub mod Filling
-pub mod Loops
-pub mod InRows
+pub mod ItemsInTable
+pub mod RepeatsLoop

@@ -3,7 +3,7 @@
 --   lentOf     the same from its parts
 --   set3       three numbers of a table
 --   rowPut     the table with item i, where the items from `first` on go into it and there is room
---   lent       the sink: `limited` says that no more items are taken than the table has room for, `fill` that they go into it
+--   lentSink   the sink: `limited` says that no more items are taken than the table has room for, `fill` that they go into it
 use Rattle.choices.specs.{ℕ, _+_, _-_, _*_, _%_, _^_, List, Bool, cond, _&&_, ltb, leb, set}
 use Rattle.value_meaning.specs.{Item, Sink, Value.roomIn}
 
@@ -24,8 +24,8 @@ rowPut first i x table =
     (cond (leb (roomIn table) (i - first)) table
     (set3 table ((i - first) * 3) (x .kind) (x .place) (x .content)))
 
-abbrev pub lent : Bool → Bool → ℕ → Sink Lent
-lent limited fill first = record {
+abbrev pub lentSink : Bool → Bool → ℕ → Sink Lent
+lentSink limited fill first = record {
   visit = λ a. lentOf ((a .visits + 1) % 2 ^ 64) (a .items) (a .table);
   took = λ p a. a;
   full = λ a. limited && leb (roomIn (a .table)) (a .items);

@@ -1,4 +1,3 @@
 -- The readers' sink, and where a walk over a value is.
 pub mod Lent
 pub mod Walk
-pub mod Inner

@@ -4,9 +4,9 @@ ghost use mathlib.Core.Path.{_≡_};
 ghost use mathlib.Core.List.{List};
 ghost use Prim.Native.Nat.{ℕ};
 ghost use Rattle.cdr.specs.Number.{readOf};
-ghost use Rattle.value_meaning.specs.Sinks.{number, run, failed, repeats, begun, taken};
-ghost use Rattle.value_meaning.specs.Visit.{sizeOf, leafAt, enumAt, textAt, countAt, objrefAt, inertAt};
-ghost use Rattle.value_leaves.specs.Walk.{sinkOf, sourceOf, stateOf, startOf, leafVisit};
+ghost use Rattle.value_meaning.specs.Sinks.{number, run, failed, begun, taken};
+ghost use Rattle.value_meaning.specs.Visit.{sizeOf, contentOf, leafAt, enumAt, textAt, countAt, objrefAt, inertAt};
+ghost use Rattle.value_leaves.specs.Walk.{sinkOf, sourceOf, stateOf, cursorStart};
 use cdr::Index;
 use cdr::Order;
 use cdr::Read;
@@ -16,7 +16,6 @@ use type_kinds::Inert;
 mod primitives;
 mod references;
 mod rows;
-mod runs;
 
 // What holds of a whole walk: order and starting index of the value; whether no more items are taken than the table has room for, whether
 // they go into it, and the number of the item that goes first.
@@ -40,7 +39,7 @@ pub struct Cursor {
 impl Cursor {
     // Before the first octet.
     pub fn start() -> Cursor
-        ensures { λ r. ⌜ r ≡ startOf ⌝ }
+        ensures { λ r. ⌜ r ≡ cursorStart ⌝ }
     {
         Cursor {
             at: 0,
@@ -105,12 +104,12 @@ impl Cursor {
 }
 
 // The number of a size that starts at or after an octet.
-fn number_at(v: &[u8], m: Mode, at: usize, size: Size) -> Read
-    ensures { λ r. ⌜ r ≡ readOf (now (v .entry)) (m .start) at size (m .order) ⌝ }
+pub fn number_at(value: &[u8], mode: Mode, at: usize, size: Size) -> Read
+    ensures { λ r. ⌜ r ≡ readOf (now (value .entry)) (mode .start) at size (mode .order) ⌝ }
 {
-    let start = m.start;
-    let order = m.order;
-    cdr::read_number(v, start, at, size, order)
+    let start = mode.start;
+    let order = mode.order;
+    cdr::read_number(value, start, at, size, order)
 }
 
 // The size of a primitive.
@@ -144,94 +143,115 @@ pub fn size_of(kind: u64) -> Size
     Size::One
 }
 
-// A kind without parameters: null and void are nothing, and the others a number.
-pub fn leaf(v: &[u8], m: Mode, table: &mut [u64], kind: u64, c: Cursor) -> Cursor
-    ensures { λ r. ⌜ stateOf r (now (table .exit)) ≡ leafAt (sinkOf m) (sourceOf m (now (v .entry))) kind (stateOf c (now (table .entry))) ⌝ }
+// The content of a primitive.
+pub fn content_of(kind: u64, value: u64) -> u64
+    ensures { λ r. ⌜ r ≡ contentOf kind value ⌝ }
 {
-    if kind < type_numbers::SHORT {
-        return c;
+    if value_items::is_signed(kind) {
+        return cdr::sign_extended(size_of(kind), value);
     }
-    let size = size_of(kind);
-    match number_at(v, m, c.at, size) {
-        Read::Number { at, value } => {
-            let next = at + size.octets();
-            primitives::leaf_done(table, m, kind, at, value, c.took(next, value))
-        }
-        Read::Ends => c.refused(refusals::VALUE_ENDS),
-    }
+    value
 }
 
-// So many visits of a kind without parameters.
-pub fn leaves(v: &[u8], m: Mode, table: &mut [u64], kind: u64, count: u64, c: Cursor) -> Cursor
-    ensures { λ r. ⌜ stateOf r (now (table .exit)) ≡ repeats (leafVisit m (now (v .entry)) kind) count (stateOf c (now (table .entry))) ⌝ }
+// A kind without parameters: null and void are nothing, and the others a number.
+pub fn leaf(value: &[u8], mode: Mode, table: &mut [u64], kind: u64, cursor: Cursor) -> Cursor
+    ensures { λ r. ⌜ stateOf r (now (table .exit)) ≡ leafAt (sinkOf mode) (sourceOf mode (now (value .entry))) kind (stateOf cursor (now (table .entry))) ⌝ }
 {
-    if runs::is_plain(kind, count, c.fault) {
-        return runs::together(v, m, table, kind, count as usize, c);
+    if kind < type_numbers::SHORT {
+        return cursor;
     }
-    runs::each(v, m, table, kind, count, c)
+    let size = size_of(kind);
+    match number_at(value, mode, cursor.at, size) {
+        Read::Number { at, value: number } => {
+            let next = at + size.octets();
+            primitives::leaf_done(table, mode, kind, at, number, cursor.took(next, number))
+        }
+        Read::Ends => cursor.refused(refusals::VALUE_ENDS),
+    }
 }
 
 // An enum with so many names.
-pub fn enumerated(v: &[u8], m: Mode, table: &mut [u64], names: u64, c: Cursor) -> Cursor
-    ensures { λ r. ⌜ stateOf r (now (table .exit)) ≡ enumAt (sinkOf m) (sourceOf m (now (v .entry))) names (stateOf c (now (table .entry))) ⌝ }
+fn enumerated(value: &[u8], mode: Mode, table: &mut [u64], names: u64, cursor: Cursor) -> Cursor
+    ensures { λ r. ⌜ stateOf r (now (table .exit)) ≡ enumAt (sinkOf mode) (sourceOf mode (now (value .entry))) names (stateOf cursor (now (table .entry))) ⌝ }
 {
-    match number_at(v, m, c.at, Size::Four) {
-        Read::Number { at, value } => {
-            if names <= value {
-                return c.took(at + 4, value).refused(refusals::NO_SUCH_NAME);
+    match number_at(value, mode, cursor.at, Size::Four) {
+        Read::Number { at, value: number } => {
+            if names <= number {
+                return cursor.took(at + 4, number).refused(refusals::NO_SUCH_NAME);
             }
-            rows::put(table, m, type_numbers::ENUM, at, value, c.took(at + 4, value))
+            rows::put(
+                table,
+                mode,
+                type_numbers::ENUM,
+                at,
+                number,
+                cursor.took(at + 4, number),
+            )
         }
-        Read::Ends => c.refused(refusals::VALUE_ENDS),
+        Read::Ends => cursor.refused(refusals::VALUE_ENDS),
     }
 }
 
 // A text with a bound, of which 0 is none.
-pub fn text(v: &[u8], m: Mode, table: &mut [u64], bound: u64, c: Cursor) -> Cursor
-    ensures { λ r. ⌜ stateOf r (now (table .exit)) ≡ textAt (sinkOf m) (sourceOf m (now (v .entry))) bound (stateOf c (now (table .entry))) ⌝ }
+pub fn text(value: &[u8], mode: Mode, table: &mut [u64], bound: u64, cursor: Cursor) -> Cursor
+    ensures { λ r. ⌜ stateOf r (now (table .exit)) ≡ textAt (sinkOf mode) (sourceOf mode (now (value .entry))) bound (stateOf cursor (now (table .entry))) ⌝ }
 {
-    match number_at(v, m, c.at, Size::Four) {
-        Read::Number { at, value } => {
-            references::text_got(v, m, table, bound, value, c.took(at + 4, value))
+    match number_at(value, mode, cursor.at, Size::Four) {
+        Read::Number { at, value: number } => {
+            references::text_got(
+                value,
+                mode,
+                table,
+                bound,
+                number,
+                cursor.took(at + 4, number),
+            )
         }
-        Read::Ends => c.refused(refusals::VALUE_ENDS),
+        Read::Ends => cursor.refused(refusals::VALUE_ENDS),
     }
 }
 
 // A count with a bound, of which 0 is none.
-pub fn count(v: &[u8], m: Mode, table: &mut [u64], bound: u64, c: Cursor) -> Cursor
-    ensures { λ r. ⌜ stateOf r (now (table .exit)) ≡ countAt (sinkOf m) (sourceOf m (now (v .entry))) bound (stateOf c (now (table .entry))) ⌝ }
+pub fn count(value: &[u8], mode: Mode, table: &mut [u64], bound: u64, cursor: Cursor) -> Cursor
+    ensures { λ r. ⌜ stateOf r (now (table .exit)) ≡ countAt (sinkOf mode) (sourceOf mode (now (value .entry))) bound (stateOf cursor (now (table .entry))) ⌝ }
 {
-    match number_at(v, m, c.at, Size::Four) {
-        Read::Number { at, value } => {
-            if cdr_text::over_bound(value as usize, bound as usize) {
-                return c.took(at + 4, value).refused(refusals::OVER_BOUND);
+    match number_at(value, mode, cursor.at, Size::Four) {
+        Read::Number { at, value: number } => {
+            if cdr_text::over_bound(number as usize, bound as usize) {
+                return cursor.took(at + 4, number).refused(refusals::OVER_BOUND);
             }
-            rows::put(table, m, type_numbers::SEQUENCE, at, value, c.took(at + 4, value))
+            rows::put(
+                table,
+                mode,
+                type_numbers::SEQUENCE,
+                at,
+                number,
+                cursor.took(at + 4, number),
+            )
         }
-        Read::Ends => c.refused(refusals::VALUE_ENDS),
+        Read::Ends => cursor.refused(refusals::VALUE_ENDS),
     }
 }
 
 // A reference to an object: a text, and its profiles.
-pub fn reference(v: &[u8], m: Mode, table: &mut [u64], c: Cursor) -> Cursor
-    ensures { λ r. ⌜ stateOf r (now (table .exit)) ≡ objrefAt (sinkOf m) (sourceOf m (now (v .entry))) (stateOf c (now (table .entry))) ⌝ }
+fn reference(value: &[u8], mode: Mode, table: &mut [u64], cursor: Cursor) -> Cursor
+    ensures { λ r. ⌜ stateOf r (now (table .exit)) ≡ objrefAt (sinkOf mode) (sourceOf mode (now (value .entry))) (stateOf cursor (now (table .entry))) ⌝ }
 {
-    let d = text(v, m, table, 0, c);
+    let d = text(value, mode, table, 0, cursor);
     if d.fault != 0 {
         return d;
     }
-    references::profiles(v, m, table, d)
+    references::profiles(value, mode, table, d)
 }
 
 // A kind that holds no other.
-pub fn inert(v: &[u8], m: Mode, table: &mut [u64], inert: Inert, c: Cursor) -> Cursor
-    ensures { λ r. ⌜ stateOf r (now (table .exit)) ≡ inertAt (sinkOf m) (sourceOf m (now (v .entry))) inert (stateOf c (now (table .entry))) ⌝ }
+pub fn inert(value: &[u8], mode: Mode, table: &mut [u64], inert: Inert, cursor: Cursor) -> Cursor
+    ensures { λ r. ⌜ stateOf r (now (table .exit)) ≡ inertAt (sinkOf mode) (sourceOf mode (now (value .entry))) inert (stateOf cursor (now (table .entry))) ⌝ }
 {
     match inert {
-        Inert::Leaf(kind) => leaf(v, m, table, kind, c),
-        Inert::Text(bound) => text(v, m, table, bound, c),
-        Inert::Objref => reference(v, m, table, c),
-        Inert::Enum(names) => enumerated(v, m, table, names, c),
+        Inert::Leaf(kind) => leaf(value, mode, table, kind, cursor),
+        Inert::Text(bound) => text(value, mode, table, bound, cursor),
+        Inert::Objref => reference(value, mode, table, cursor),
+        Inert::Enum(names) => enumerated(value, mode, table, names, cursor),
     }
 }

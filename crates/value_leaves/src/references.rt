@@ -14,88 +14,117 @@ use cdr_text::Text;
 
 // A text of so many octets, its final zero among them.
 pub(crate) fn text_got(
-    v: &[u8],
-    m: Mode,
+    value: &[u8],
+    mode: Mode,
     table: &mut [u64],
     bound: u64,
     length: u64,
-    c: Cursor,
+    cursor: Cursor,
 ) -> Cursor
-    ensures { λ r. ⌜ ((p : ℕ) → stateOf r (now (table .exit)) ≡ textGot (sinkOf m) (sourceOf m (now (v .entry))) bound p length (stateOf c (now (table .entry)))) ⌝ }
+    ensures { λ r. ⌜
+        ((p : ℕ) → stateOf r (now (table .exit)) ≡ textGot (sinkOf mode) (sourceOf mode (now (value .entry))) bound p length
+        (stateOf cursor (now (table .entry))))
+        ⌝ }
 {
-    let at = c.at;
-    match cdr_text::read_text(v, at, length as usize, bound as usize) {
+    let at = cursor.at;
+    match cdr_text::read_text(value, at, length as usize, bound as usize) {
         Text::Chars(n) => {
             let next = at + length as usize;
-            rows::put(table, m, type_numbers::STRING, at, n as u64, c.passed(next))
+            rows::put(
+                table,
+                mode,
+                type_numbers::STRING,
+                at,
+                n as u64,
+                cursor.passed(next),
+            )
         }
-        Text::Empty => c.refused(refusals::BAD_VALUE_TEXT),
-        Text::Over => c.refused(refusals::OVER_BOUND),
-        Text::Short => c.refused(refusals::VALUE_ENDS),
+        Text::Empty => cursor.refused(refusals::BAD_VALUE_TEXT),
+        Text::Over => cursor.refused(refusals::OVER_BOUND),
+        Text::Short => cursor.refused(refusals::VALUE_ENDS),
         Text::Zeros => {
             let next = at + length as usize;
-            c.passed(next).refused(refusals::BAD_VALUE_TEXT)
+            cursor.passed(next).refused(refusals::BAD_VALUE_TEXT)
         }
     }
 }
 
 // The tag of a profile.
-fn tag(v: &[u8], m: Mode, table: &mut [u64], c: Cursor) -> Cursor
-    ensures { λ r. ⌜ stateOf r (now (table .exit)) ≡ tagAt (sinkOf m) (sourceOf m (now (v .entry))) (stateOf c (now (table .entry))) ⌝ }
+fn tag(value: &[u8], mode: Mode, table: &mut [u64], cursor: Cursor) -> Cursor
+    ensures { λ r. ⌜ stateOf r (now (table .exit)) ≡ tagAt (sinkOf mode) (sourceOf mode (now (value .entry))) (stateOf cursor (now (table .entry))) ⌝ }
 {
-    match crate::number_at(v, m, c.at, Size::Four) {
-        Read::Number { at, value } => rows::put(
+    match crate::number_at(value, mode, cursor.at, Size::Four) {
+        Read::Number { at, value: number } => rows::put(
             table,
-            m,
+            mode,
             type_numbers::ULONG,
             at,
-            value,
-            c.took(at + 4, value),
+            number,
+            cursor.took(at + 4, number),
         ),
-        Read::Ends => c.refused(refusals::VALUE_ENDS),
+        Read::Ends => cursor.refused(refusals::VALUE_ENDS),
     }
 }
 
 // So many octets as they are.
-fn run_got(v: &[u8], m: Mode, table: &mut [u64], count: u64, c: Cursor) -> Cursor
-    ensures { λ r. ⌜ ((p : ℕ) → stateOf r (now (table .exit)) ≡ runGot (sinkOf m) (sourceOf m (now (v .entry))) p count (stateOf c (now (table .entry)))) ⌝ }
+fn run_got(value: &[u8], mode: Mode, table: &mut [u64], count: u64, cursor: Cursor) -> Cursor
+    ensures { λ r. ⌜
+        ((p : ℕ) → stateOf r (now (table .exit)) ≡ runGot (sinkOf mode) (sourceOf mode (now (value .entry))) p count
+        (stateOf cursor (now (table .entry))))
+        ⌝ }
 {
-    let at = c.at;
-    match cdr_text::read_run(v, at, count as usize) {
-        Run::To(end) => rows::put(table, m, type_numbers::RUN, at, count, c.passed(end)),
-        Run::Past => c.refused(refusals::VALUE_ENDS),
+    let at = cursor.at;
+    match cdr_text::read_run(value, at, count as usize) {
+        Run::To(end) => rows::put(
+            table,
+            mode,
+            type_numbers::RUN,
+            at,
+            count,
+            cursor.passed(end),
+        ),
+        Run::Past => cursor.refused(refusals::VALUE_ENDS),
     }
 }
 
 // Octets behind their count.
-fn counted_run(v: &[u8], m: Mode, table: &mut [u64], c: Cursor) -> Cursor
-    ensures { λ r. ⌜ stateOf r (now (table .exit)) ≡ runAt (sinkOf m) (sourceOf m (now (v .entry))) (stateOf c (now (table .entry))) ⌝ }
+fn counted_run(value: &[u8], mode: Mode, table: &mut [u64], cursor: Cursor) -> Cursor
+    ensures { λ r. ⌜ stateOf r (now (table .exit)) ≡ runAt (sinkOf mode) (sourceOf mode (now (value .entry))) (stateOf cursor (now (table .entry))) ⌝ }
 {
-    match crate::number_at(v, m, c.at, Size::Four) {
-        Read::Number { at, value } => run_got(v, m, table, value, c.took(at + 4, value)),
-        Read::Ends => c.refused(refusals::VALUE_ENDS),
+    match crate::number_at(value, mode, cursor.at, Size::Four) {
+        Read::Number { at, value: number } => run_got(
+            value,
+            mode,
+            table,
+            number,
+            cursor.took(at + 4, number),
+        ),
+        Read::Ends => cursor.refused(refusals::VALUE_ENDS),
     }
 }
 
 // A profile: its tag, and its octets.
-fn profile(v: &[u8], m: Mode, table: &mut [u64], c: Cursor) -> Cursor
-    ensures { λ r. ⌜ stateOf r (now (table .exit)) ≡ profileAt (sinkOf m) (sourceOf m (now (v .entry))) (stateOf c (now (table .entry))) ⌝ }
+fn profile(value: &[u8], mode: Mode, table: &mut [u64], cursor: Cursor) -> Cursor
+    ensures { λ r. ⌜ stateOf r (now (table .exit)) ≡ profileAt (sinkOf mode) (sourceOf mode (now (value .entry))) (stateOf cursor (now (table .entry))) ⌝ }
 {
-    let d = tag(v, m, table, c);
+    let d = tag(value, mode, table, cursor);
     if d.fault != 0 {
         return d;
     }
-    counted_run(v, m, table, d)
+    counted_run(value, mode, table, d)
 }
 
 // So many profiles.
-fn profile_list(v: &[u8], m: Mode, table: &mut [u64], count: u64, c: Cursor) -> Cursor
-    ensures { λ r. ⌜ stateOf r (now (table .exit)) ≡ repeats (profileAt (sinkOf m) (sourceOf m (now (v .entry)))) count (stateOf c (now (table .entry))) ⌝ }
+fn profile_list(value: &[u8], mode: Mode, table: &mut [u64], count: u64, cursor: Cursor) -> Cursor
+    ensures { λ r. ⌜
+        stateOf r (now (table .exit))
+        ≡ repeats (profileAt (sinkOf mode) (sourceOf mode (now (value .entry)))) count (stateOf cursor (now (table .entry)))
+        ⌝ }
 {
-    let mut d = c;
+    let mut d = cursor;
     let mut k: u64 = 0;
     while k < count {
-        d = profile(v, m, table, d);
+        d = profile(value, mode, table, d);
         if d.fault != 0 {
             return d;
         }
@@ -105,12 +134,12 @@ fn profile_list(v: &[u8], m: Mode, table: &mut [u64], count: u64, c: Cursor) -> 
 }
 
 // The profiles behind their count.
-pub(crate) fn profiles(v: &[u8], m: Mode, table: &mut [u64], c: Cursor) -> Cursor
-    ensures { λ r. ⌜ stateOf r (now (table .exit)) ≡ profilesAt (sinkOf m) (sourceOf m (now (v .entry))) (stateOf c (now (table .entry))) ⌝ }
+pub(crate) fn profiles(value: &[u8], mode: Mode, table: &mut [u64], cursor: Cursor) -> Cursor
+    ensures { λ r. ⌜ stateOf r (now (table .exit)) ≡ profilesAt (sinkOf mode) (sourceOf mode (now (value .entry))) (stateOf cursor (now (table .entry))) ⌝ }
 {
-    let d = crate::count(v, m, table, 0, c);
+    let d = crate::count(value, mode, table, 0, cursor);
     if d.fault != 0 {
         return d;
     }
-    profile_list(v, m, table, d.last, d)
+    profile_list(value, mode, table, d.last, d)
 }

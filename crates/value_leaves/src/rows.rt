@@ -3,22 +3,12 @@ ghost use mathlib.Core.Path.{_≡_};
 ghost use mathlib.Core.Bool.{cond, _&&_};
 ghost use lib.Dec.{leb};
 ghost use lib.ListN.{length};
-ghost use Prim.Native.Nat.{_+_, _<_, _/_};
+ghost use Prim.Native.Nat.{_/_};
 ghost use Rattle.value_meaning.specs.Sinks.{item, done};
-ghost use Rattle.value_leaves.specs.Lent.{set3, rowPut};
+ghost use Rattle.value_leaves.specs.Lent.{rowPut};
 ghost use Rattle.value_leaves.specs.Walk.{sinkOf, stateOf};
 use crate::Cursor;
 use crate::Mode;
-
-// Three numbers of the table.
-pub(crate) fn store(table: &mut [u64], j: usize, a: u64, b: u64, c: u64)
-    requires { ⌜ j + 2 < length (now table) ⌝ }
-    ensures { λ _. ⌜ now (table .exit) ≡ set3 (now (table .entry)) j a b c ⌝ }
-{
-    table[j] = a;
-    table[j + 1] = b;
-    table[j + 2] = c;
-}
 
 // Item i in its row, if it has one.
 fn put_row(table: &mut [u64], first: usize, i: usize, kind: u64, place: u64, content: u64)
@@ -31,7 +21,9 @@ fn put_row(table: &mut [u64], first: usize, i: usize, kind: u64, place: u64, con
     if table.len() / 3 <= row {
         return;
     }
-    store(table, row * 3, kind, place, content);
+    table[row * 3] = kind;
+    table[row * 3 + 1] = place;
+    table[row * 3 + 2] = content;
 }
 
 // Item i, where items go into the table.
@@ -61,24 +53,24 @@ fn is_full(limited: bool, room: usize, i: usize) -> bool
 // An item is finished.
 pub(crate) fn put(
     table: &mut [u64],
-    m: Mode,
+    mode: Mode,
     kind: u64,
     place: usize,
     content: u64,
-    c: Cursor,
+    cursor: Cursor,
 ) -> Cursor
-    ensures { λ r. ⌜ stateOf r (now (table .exit)) ≡ done (sinkOf m) (item kind place content) (stateOf c (now (table .entry))) ⌝ }
+    ensures { λ r. ⌜ stateOf r (now (table .exit)) ≡ done (sinkOf mode) (item kind place content) (stateOf cursor (now (table .entry))) ⌝ }
 {
-    let i = c.items;
-    if is_full(m.limited, table.len() / 3, i) {
-        return c.refused(refusals::NO_ITEM_ROOM);
+    let i = cursor.items;
+    if is_full(mode.limited, table.len() / 3, i) {
+        return cursor.refused(refusals::NO_ITEM_ROOM);
     }
-    put_in(table, m.fill, m.first, i, kind, place as u64, content);
+    put_in(table, mode.fill, mode.first, i, kind, place as u64, content);
     Cursor {
-        at: c.at,
-        visits: c.visits,
+        at: cursor.at,
+        visits: cursor.visits,
         items: std::num::wrapping_add_usize(i, 1),
-        fault: c.fault,
-        last: c.last,
+        fault: cursor.fault,
+        last: cursor.last,
     }
 }

@@ -24,8 +24,8 @@
 --   readsNode  a visit with so many levels left; "55 a visit with 64 open above it, not counted"
 use Rattle.choices.specs.{ℕ, zero, suc, List, [], _∷_, eqb, length, choose}
 use Rattle.type_kinds.specs.{Inner, Inert, Text, Member}
-use Rattle.type_list.specs.{Shape, fault, flat, struct, exception, union, sequence, array, alias, Arms.onArm, Arms.chosenOf}
-use Rattle.value_meaning.specs.{Sinks.Source, Sinks.Sink, Sinks.St, Sinks.failed, Sinks.after, Sinks.begun, Visit.Checked, Visit.countAt}
+use Rattle.type_unions.specs.{Shape, fault, flat, struct, exception, union, sequence, array, alias, Arms.onArm, Arms.chosenOf}
+use Rattle.value_meaning.specs.{Sinks.Source, Sinks.Sink, Sinks.St, Sinks.failed, Sinks.andThen, Sinks.begun, Visit.Checked, Visit.countAt}
 use Rattle.value_meaning.specs.{Visit.inertAt}
 
 pub record Node : Type 0 where
@@ -116,7 +116,7 @@ module _ {A : Type 0} (k : Sink A) (x : Source) where
 module _ {A : Type 0} (f : Node → St A → St A) (t : Checked) where
   unfoldable pub closes : ℕ → Open → St A → St A
   closes zero o s = s
-  closes (suc n) o s = onNext (next o (s .last)) s (λ x o′. after (f (nodeAt t x) s) (closes n o′))
+  closes (suc n) o s = onNext (next o (s .last)) s (λ x o′. andThen (f (nodeAt t x) s) (closes n o′))
 
   unfoldable pub shuts : Open → St A → St A
   shuts o s = closes (entries o) o s

@@ -10,7 +10,7 @@
 --   reading    the reading of a value from its start
 use Rattle.choices.specs.{ℕ, _+_, List, [], _∷_, _++_, Bool, false, leb, length}
 use Rattle.type_kinds.specs.{There, placeOf}
-use Rattle.type_list.specs.{Shape}
+use Rattle.type_unions.specs.{Shape}
 use Rattle.value_meaning.specs.{Sinks.Source, Sinks.Item, Sinks.Piece, Sinks.Sink, Sinks.St, Sinks.st, Visit.Checked, Opens.node}
 use Rattle.value_meaning.specs.{Opens.readsNode}
 

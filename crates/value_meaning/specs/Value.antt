@@ -3,8 +3,8 @@
 --   valueNumber     01's number of an answer, 0 for an accepted value
 --   visitsIn        the visits that an answer gives: "a refusal gives the visits begun"
 --   usedIn          octets used and items of an accepted value
---   answerNumbers   an answer's number, and octets used, items and visits: a refusal's other numbers are 0
---   answerOf        "acceptance gives octets used, items and visits"
+--   valueAnswerNumbers  an answer's number, and octets used, items and visits: a refusal's other numbers are 0
+--   readingAnswer   "acceptance gives octets used, items and visits"
 --   readingOf       the reading under the type that octets give
 --   overlong        "42, also for over 16,384 value octets", comes before the type check
 --   onType          what follows an accepted type, and a refused one's number
@@ -16,7 +16,7 @@
 --   itemNo          "numbers start at 0": the item of a number; past the last, three zeros
 use Rattle.choices.specs.{ℕ, zero, suc, _/_, List, [], _∷_, _++_, Bool, _||_, ltb, eqb, length, sets, choose}
 use Rattle.cdr.specs.{Order, octetsLimit}
-use Rattle.typecode.specs.{TypeAnswer, Accepted as accepted, Refused as refused, Loop, TypeCode.answerNumber, TypeCode.checkedType}
+use Rattle.typecode.specs.{TypeAnswer, Accepted as accepted, Refused as refused, Loop, TypeCode.typeAnswerNumber, TypeCode.checkedType}
 use Rattle.value_meaning.specs.{declared.ValueAnswer.ValueAnswer, Sinks.Source, Sinks.Item, Sinks.item, Sinks.St, Visit.checked}
 use Rattle.value_meaning.specs.{Reading.Log, Reading.roomFor, Reading.reading}
 use Rattle.value_meaning.specs.declared.ValueAnswer.the-variants.{Accepted, Refused}
@@ -36,11 +36,11 @@ abbrev pub usedIn : ValueAnswer → List ℕ → List ℕ
 usedIn (Accepted used items visits) before = used ∷ items ∷ []
 usedIn (Refused number visits) before = before
 
-abbrev pub answerNumbers : ValueAnswer → List ℕ
-answerNumbers a = valueNumber a ∷ (usedIn a (0 ∷ 0 ∷ []) ++ (visitsIn a ∷ []))
+abbrev pub valueAnswerNumbers : ValueAnswer → List ℕ
+valueAnswerNumbers a = valueNumber a ∷ (usedIn a (0 ∷ 0 ∷ []) ++ (visitsIn a ∷ []))
 
-abbrev pub answerOf : St Log → ValueAnswer
-answerOf s =
+abbrev pub readingAnswer : St Log → ValueAnswer
+readingAnswer s =
     choose (eqb (s .fault) 0)
     (λ _. Accepted (s .at) (length (s .kept .items)) (s .kept .visits))
     (λ _. Refused (s .fault) (s .kept .visits))
@@ -53,14 +53,14 @@ overlong v x = ltb octetsLimit (length v) || ltb octetsLimit (length (x .octets)
 
 abbrev pub onType : {A : Type 0} → TypeAnswer → (Unit {0} → A) → (ℕ → A) → A
 onType (accepted used kinds) f g = f tt
-onType (refused r) f g = g (answerNumber (refused r))
-onType Loop f g = g (answerNumber Loop)
+onType (refused r) f g = g (typeAnswerNumber (refused r))
+onType Loop f g = g (typeAnswerNumber Loop)
 
 abbrev pub underType : {A : Type 0} → List ℕ → Order → Source → (Unit {0} → A) → (ℕ → A) → A
 underType v order x f g = choose (overlong v x) (λ _. g 42) (λ _. onType (checkedType v order .answer) f g)
 
 unfoldable pub valueAnswer : List ℕ → Order → Source → ℕ → ValueAnswer
-valueAnswer v order x room = underType v order x (λ _. answerOf (readingOf (roomFor room) v order x)) (λ n. Refused n 0)
+valueAnswer v order x room = underType v order x (λ _. readingAnswer (readingOf (roomFor room) v order x)) (λ n. Refused n 0)
 
 unfoldable pub flat : List Item → List ℕ
 flat [] = []

@@ -25,10 +25,12 @@
 use Rattle.choices.specs.{ℕ, _-_, List, cond, _||_, ltb, leb, eqb, choose}
 use Rattle.cdr.specs.{Size, One, Two, Four, Eight, octets, Number.signExtended}
 use Rattle.value_items.specs.Items.{signedKind}
+use Rattle.type_numbers.specs.Kinds.{shortKind, longKind, unsignedShortKind, unsignedLongKind, floatKind, doubleKind, booleanKind, enumKind}
+use Rattle.type_numbers.specs.Kinds.{stringKind, sequenceKind, longLongKind, unsignedLongLongKind, runKind}
 use Rattle.cdr_text.specs.Text.{overBound, endsText}
 use Rattle.type_kinds.specs.{Inner, Inert, Leaf, Text, Objref, Enum, Kind}
-use Rattle.type_list.specs.{Shape, look}
-use Rattle.value_meaning.specs.Sinks.{Source, item, Sink, St, failed, after, repeats, done, numberStep, octetsStep}
+use Rattle.type_unions.specs.{Shape, look}
+use Rattle.value_meaning.specs.Sinks.{Source, item, Sink, St, failed, andThen, repeats, done, numberStep, octetsStep}
 
 pub record Checked : Type 0 where
   pub look : Inner → Shape
@@ -38,9 +40,9 @@ checked v ks = record { look = λ x. look v ks x }
 
 unfoldable pub sizeOf : ℕ → Size
 sizeOf kind =
-    cond (eqb kind 2 || eqb kind 4) Two
-    (cond (eqb kind 3 || (eqb kind 5 || eqb kind 6)) Four
-    (cond (eqb kind 7 || (eqb kind 23 || eqb kind 24)) Eight
+    cond (eqb kind shortKind || eqb kind unsignedShortKind) Two
+    (cond (eqb kind longKind || (eqb kind unsignedLongKind || eqb kind floatKind)) Four
+    (cond (eqb kind doubleKind || (eqb kind longLongKind || eqb kind unsignedLongLongKind)) Eight
     One))
 
 unfoldable pub contentOf : ℕ → ℕ → ℕ
@@ -49,21 +51,21 @@ contentOf kind n = cond (signedKind kind) (signExtended (octets (sizeOf kind)) n
 module _ {A : Type 0} (k : Sink A) (x : Source) where
   unfoldable pub leafDone : ℕ → ℕ → ℕ → St A → St A
   leafDone kind p n s =
-      choose (eqb kind 8)
+      choose (eqb kind booleanKind)
       (λ _. choose (ltb 1 n) (λ _. failed 51 s) (λ _. done k (item kind p n) s))
       (λ _. done k (item kind p (contentOf kind n)) s)
 
   unfoldable pub leafAt : ℕ → St A → St A
-  leafAt kind s = choose (ltb kind 2) (λ _. s) (λ _. numberStep k x (sizeOf kind) (leafDone kind) s)
+  leafAt kind s = choose (ltb kind shortKind) (λ _. s) (λ _. numberStep k x (sizeOf kind) (leafDone kind) s)
 
   unfoldable pub enumDone : ℕ → ℕ → ℕ → St A → St A
-  enumDone names p n s = choose (leb names n) (λ _. failed 52 s) (λ _. done k (item 17 p n) s)
+  enumDone names p n s = choose (leb names n) (λ _. failed 52 s) (λ _. done k (item enumKind p n) s)
 
   unfoldable pub enumAt : ℕ → St A → St A
   enumAt names s = numberStep k x Four (enumDone names) s
 
   unfoldable pub textDone : ℕ → ℕ → List ℕ → St A → St A
-  textDone n p these s = choose (endsText these) (λ _. done k (item 18 p (n - 1)) s) (λ _. failed 53 s)
+  textDone n p these s = choose (endsText these) (λ _. done k (item stringKind p (n - 1)) s) (λ _. failed 53 s)
 
   unfoldable pub textGot : ℕ → ℕ → ℕ → St A → St A
   textGot bound p n s =
@@ -77,19 +79,19 @@ module _ {A : Type 0} (k : Sink A) (x : Source) where
   textAt bound s = numberStep k x Four (textGot bound) s
 
   unfoldable pub countDone : ℕ → ℕ → ℕ → St A → St A
-  countDone bound p n s = choose (overBound n bound) (λ _. failed 54 s) (λ _. done k (item 19 p n) s)
+  countDone bound p n s = choose (overBound n bound) (λ _. failed 54 s) (λ _. done k (item sequenceKind p n) s)
 
   unfoldable pub countAt : ℕ → St A → St A
   countAt bound s = numberStep k x Four (countDone bound) s
 
   unfoldable pub tagDone : ℕ → ℕ → St A → St A
-  tagDone p n s = done k (item 5 p n) s
+  tagDone p n s = done k (item unsignedLongKind p n) s
 
   unfoldable pub tagAt : St A → St A
   tagAt s = numberStep k x Four tagDone s
 
   unfoldable pub runDone : ℕ → ℕ → List ℕ → St A → St A
-  runDone n p these s = done k (item 256 p n) s
+  runDone n p these s = done k (item runKind p n) s
 
   unfoldable pub runGot : ℕ → ℕ → St A → St A
   runGot p n s = octetsStep k x n (runDone n) s
@@ -98,13 +100,13 @@ module _ {A : Type 0} (k : Sink A) (x : Source) where
   runAt s = numberStep k x Four runGot s
 
   unfoldable pub profileAt : St A → St A
-  profileAt s = after (tagAt s) runAt
+  profileAt s = andThen (tagAt s) runAt
 
   unfoldable pub profilesAt : St A → St A
-  profilesAt s = after (countAt 0 s) (λ u. repeats profileAt (u .last) u)
+  profilesAt s = andThen (countAt 0 s) (λ u. repeats profileAt (u .last) u)
 
   unfoldable pub objrefAt : St A → St A
-  objrefAt s = after (textAt 0 s) profilesAt
+  objrefAt s = andThen (textAt 0 s) profilesAt
 
   unfoldable pub inertAt : Inert → St A → St A
   inertAt (Leaf kind) s = leafAt kind s

@@ -1,2 +1,2 @@
 -- Laws of plans.
-pub mod Steps
+pub mod PlanReadsStruct

@@ -12,8 +12,8 @@
 --   planOf        the plan of a struct of so many members, of which those that are there have these types, with so many levels left
 use Rattle.choices.specs.{ℕ, zero, suc, _+_, List, [], _∷_, Bool, true, false, cond, _&&_, eqb, ltb, leb, getD, set, replicate, choose}
 use Rattle.type_kinds.specs.{Inner, Inert, Leaf, Text, Objref, Enum}
-use Rattle.type_list.specs.{Shape, fault, flat, struct, exception, union, sequence, array, alias}
-use Rattle.value_meaning.specs.{Source, Sink, St, after, begun, Visit.Checked, Visit.leafAt}
+use Rattle.type_unions.specs.{Shape, fault, flat, struct, exception, union, sequence, array, alias}
+use Rattle.value_meaning.specs.{Source, Sink, St, andThen, begun, Visit.Checked, Visit.leafAt}
 use Rattle.value_leaves.specs.{declared.Mode.Mode, Lent.Lent, Walk.sinkOf, Walk.sourceOf}
 use Rattle.value_plans.specs.declared.Plan.{Plan}
 
@@ -23,7 +23,7 @@ module _ {A : Type 0} (k : Sink A) (x : Source) where
 
   unfoldable pub planSteps : List ℕ → ℕ → ℕ → St A → St A
   planSteps kinds j zero s = s
-  planSteps kinds j (suc n) s = after (leafStep (getD kinds j 0) s) (planSteps kinds (j + 1) n)
+  planSteps kinds j (suc n) s = andThen (leafStep (getD kinds j 0) s) (planSteps kinds (j + 1) n)
 
 abbrev pub planVisit : Mode → List ℕ → Plan → St Lent → St Lent
 planVisit m v plan s = planSteps (sinkOf m) (sourceOf m v) (plan .kinds) 0 (plan .count) (begun (sinkOf m) s)

@@ -10,7 +10,7 @@ ghost use Rattle.type_kinds.specs.declared.Labels.the-variants.{NoLabels};
 ghost use Rattle.type_kinds.specs.Members.{membersOf, typesOf};
 ghost use Rattle.type_kinds.specs.declared.Kind.{Kind};
 ghost use Rattle.type_list.specs.Arrays.{kindsMet};
-ghost use Rattle.type_list.specs.Shapes.{Shape, shapeOf};
+ghost use Rattle.type_unions.specs.Shapes.{Shape, shapeOf};
 ghost use Rattle.value_meaning.specs.Sinks.{repeats};
 ghost use Rattle.value_meaning.specs.Visit.{Checked, checked};
 ghost use Rattle.value_meaning.specs.Reading.{reads};
@@ -19,33 +19,46 @@ ghost use Rattle.value_plans.specs.Plans.{planSteps, planVisit, noLeaf, 
 use type_kinds::Fields;
 use type_kinds::Inert;
 use type_kinds::Labels;
-use type_kinds::Parameters;
 use type_kinds::Spot;
+use type_list::Met;
+use type_parameters::Parameters;
 use value_leaves::Cursor;
 use value_leaves::Mode;
-use type_list::Met;
+
+// The most members of a plan.
+pub const MOST_MEMBERS: usize = 16;
 
 // A struct whose members are all kinds without parameters: the kinds of its members, and their number; or that there is none.
 pub struct Plan {
     pub found: bool,
-    pub kinds: [u8; 16],
+    pub kinds: [u8; MOST_MEMBERS],
     pub count: u64,
 }
 
-// The most members of a plan.
-const MEMBERS: u64 = 16;
+// The same, as a number of members.
+const MEMBERS: u64 = MOST_MEMBERS as u64;
 
 // What stands for a kind that a plan cannot hold.
 const NO_LEAF: u8 = 255;
 
 // A visit that enters nothing, with so many levels left.
-pub fn flat(v: &[u8], m: Mode, table: &mut [u64], inert: Inert, left: u32, c: Cursor) -> Cursor
-    ensures { λ r. ⌜ ((t : Checked) → stateOf r (now (table .exit)) ≡ reads (sinkOf m) (sourceOf m (now (v .entry))) t left (Shape.flat inert) (stateOf c (now (table .entry)))) ⌝ }
+pub fn flat(
+    value: &[u8],
+    mode: Mode,
+    table: &mut [u64],
+    inert: Inert,
+    left: u32,
+    cursor: Cursor,
+) -> Cursor
+    ensures { λ r. ⌜
+        ((t : Checked) → stateOf r (now (table .exit)) ≡ reads (sinkOf mode) (sourceOf mode (now (value .entry))) t left (Shape.flat inert)
+        (stateOf cursor (now (table .entry))))
+        ⌝ }
 {
     if left == 0 {
-        return c.refused(refusals::TOO_MANY_OPEN);
+        return cursor.refused(refusals::TOO_MANY_OPEN);
     }
-    value_leaves::inert(v, m, table, inert, c.visit())
+    value_leaves::inert(value, mode, table, inert, cursor.visit())
 }
 
 // No plan.
@@ -54,7 +67,7 @@ fn no_plan() -> Plan
 {
     Plan {
         found: false,
-        kinds: [0; 16],
+        kinds: [0; MOST_MEMBERS],
         count: 0,
     }
 }
@@ -90,8 +103,10 @@ fn leaf_of(e: Parameters) -> u8
 }
 
 // The plan of a struct, if it has one and there are levels for it.
-pub fn plan_of(t: &[u8], met: Met, fields: Fields, left: u32) -> Plan
-    ensures { λ r. ⌜ r ≡ planOf (checked (now (t .entry)) (kindsMet met)) left (fields .count) (typesOf (membersOf NoLabels (now (t .entry)) fields)) ⌝ }
+pub fn plan_of(types: &[u8], met: Met, fields: Fields, left: u32) -> Plan
+    ensures { λ r. ⌜
+        r ≡ planOf (checked (now (types .entry)) (kindsMet met)) left (fields .count) (typesOf (membersOf NoLabels (now (types .entry)) fields))
+        ⌝ }
 {
     let start = fields.start;
     let order = fields.order;
@@ -105,16 +120,21 @@ pub fn plan_of(t: &[u8], met: Met, fields: Fields, left: u32) -> Plan
     let mut at = fields.first;
     let mut plan = Plan {
         found: true,
-        kinds: [0; 16],
+        kinds: [0; MOST_MEMBERS],
         count,
     };
     let mut k: u64 = 0;
     while k < count {
-        let Spot::At { inner, next } = type_kinds::member_at(Labels::NoLabels, t, start, at, order)
-        else {
+        let Spot::TypeAt { inner, next } = type_kinds::member_at(
+            Labels::NoLabels,
+            types,
+            start,
+            at,
+            order,
+        ) else {
             return no_plan();
         };
-        let kind = leaf_of(type_list::inside_of(t, met, inner));
+        let kind = leaf_of(type_list::inside_of(types, met, inner));
         if kind == NO_LEAF {
             return no_plan();
         }
@@ -126,7 +146,7 @@ pub fn plan_of(t: &[u8], met: Met, fields: Fields, left: u32) -> Plan
 }
 
 // The kind of a plan's member, 0 past its end.
-fn kind_at(kinds: [u8; 16], k: u64) -> u64
+fn kind_at(kinds: [u8; MOST_MEMBERS], k: u64) -> u64
     ensures { λ r. ⌜ r ≡ getD kinds k 0 ⌝ }
 {
     if k < MEMBERS {
@@ -137,15 +157,18 @@ fn kind_at(kinds: [u8; 16], k: u64) -> u64
 }
 
 // The members of a struct that has a plan.
-fn plan_members(v: &[u8], m: Mode, table: &mut [u64], plan: Plan, c: Cursor) -> Cursor
-    ensures { λ r. ⌜ stateOf r (now (table .exit)) ≡ planSteps (sinkOf m) (sourceOf m (now (v .entry))) (plan .kinds) 0 (plan .count) (stateOf c (now (table .entry))) ⌝ }
+fn plan_members(value: &[u8], mode: Mode, table: &mut [u64], plan: Plan, cursor: Cursor) -> Cursor
+    ensures { λ r. ⌜
+        stateOf r (now (table .exit))
+        ≡ planSteps (sinkOf mode) (sourceOf mode (now (value .entry))) (plan .kinds) 0 (plan .count) (stateOf cursor (now (table .entry)))
+        ⌝ }
 {
     let kinds = plan.kinds;
     let count = plan.count;
-    let mut d = c;
+    let mut d = cursor;
     let mut k: u64 = 0;
     while k < count {
-        d = value_leaves::leaf(v, m, table, kind_at(kinds, k), d.visit());
+        d = value_leaves::leaf(value, mode, table, kind_at(kinds, k), d.visit());
         if d.fault != 0 {
             return d;
         }
@@ -155,13 +178,20 @@ fn plan_members(v: &[u8], m: Mode, table: &mut [u64], plan: Plan, c: Cursor) -> 
 }
 
 // So many structs that have a plan.
-pub fn structs(v: &[u8], m: Mode, table: &mut [u64], plan: Plan, count: u64, c: Cursor) -> Cursor
-    ensures { λ r. ⌜ stateOf r (now (table .exit)) ≡ repeats (planVisit m (now (v .entry)) plan) count (stateOf c (now (table .entry))) ⌝ }
+pub fn structs(
+    value: &[u8],
+    mode: Mode,
+    table: &mut [u64],
+    plan: Plan,
+    count: u64,
+    cursor: Cursor,
+) -> Cursor
+    ensures { λ r. ⌜ stateOf r (now (table .exit)) ≡ repeats (planVisit mode (now (value .entry)) plan) count (stateOf cursor (now (table .entry))) ⌝ }
 {
-    let mut d = c;
+    let mut d = cursor;
     let mut k: u64 = 0;
     while k < count {
-        d = plan_members(v, m, table, plan, d.visit());
+        d = plan_members(value, mode, table, plan, d.visit());
         if d.fault != 0 {
             return d;
         }

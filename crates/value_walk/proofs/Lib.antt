@@ -1,3 +1,3 @@
 -- Laws that other crates cite.
-pub mod Nested
-pub mod Onward
+pub mod VisitIsNested
+pub mod MembersLoop

@@ -7,7 +7,7 @@ use lib.Seq.{length-take-le}
 use Rattle.cdr_write.specs.Write.{Stored}
 use Rattle.ask_text.specs.Items.{lf, itemsOf, itemsText}
 use Rattle.ask_text.specs.Replies.{octetsText, saidText, headText}
-use Rattle.ask_text.proofs.Heads.{head-end, head-is, read-text, rewritten-text, profiled-text, component-text, other-text}
+use Rattle.ask_text.proofs.TextsFit.{head-end, head-is, read-text, rewritten-text, profiled-text, component-text, other-text}
 use borrow.Author.Needs.{needs}
 use Rattle.ask_text.proofs.write_reply.Statement.{statement}
 use Rattle.ask_text.proofs.write_reply.Tie as tie
@@ -158,7 +158,7 @@ returns-4 c =
     let put = c .before .before .before .before .before .before .before .before .before .before .put in
     let reply2 = c .before .before .before .before .before .before .before .reply2 in
     subst (λ (xs : List ℕ). Stored (a .out .now) (a .at) xs (write4 .result) (write4 .last .0))
-    (ap (λ (xs : List ℕ). xs ++ octetsText (octets-in .result .now) lf) (head-is (a .reply) _ refl _ _ (put .ensures)) ∙ ap (λ (ys : List ℕ). headText (a .reply) ++ octetsText ys lf) (octets-in .ensures) ∙ component-text (a .reply) (itemsOf (a .items .now)) (a .octets .now) _ _ _ (reply2 .given .1))
+    (ap (λ (xs : List ℕ). xs ++ octetsText (octets-in .result .now) lf) (head-is (a .reply) _ refl _ _ (put .ensures)) ∙ ap (λ (ys : List ℕ). headText (a .reply) ++ octetsText ys lf) (octets-in .ensures .octets) ∙ component-text (a .reply) (itemsOf (a .items .now)) (a .octets .now) _ _ _ (reply2 .given .1))
     (write4 .ensures)
 
 same-length-5 : tie.Need-same-length-5

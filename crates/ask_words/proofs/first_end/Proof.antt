@@ -4,7 +4,7 @@ use Prim.Native.Nat.{_-_, _≤_}
 use native.Mathlib.Omega.{arith}
 use lib.ListN.{length, take, drop}
 use Rattle.ask_words.specs.Words.{wordsFrom, words}
-use Rattle.ask_words.proofs.Found.{word-ended, word-onward, word-last, ends-at, ends-last}
+use Rattle.ask_words.proofs.FirstWordEnds.{word-ended, word-onward, word-last, ends-at, ends-last}
 use borrow.Author.Needs.{needs}
 use Rattle.ask_words.proofs.first_end.Statement.{statement}
 use Rattle.ask_words.proofs.first_end.Tie as tie

@@ -1,5 +1,5 @@
 -- The words of a value, a number, and no word more.
-use Rattle.ask_words.proofs.Subjects.{fields-none, no-number, fields-more, fields-are}
+use Rattle.ask_words.proofs.FieldsFound.{fields-none, no-number, fields-more, fields-are}
 use borrow.Author.Needs.{needs}
 use Rattle.ask_words.proofs.read_fields.Statement.{statement}
 use Rattle.ask_words.proofs.read_fields.Tie as tie

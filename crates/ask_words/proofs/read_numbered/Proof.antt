@@ -1,7 +1,7 @@
 -- A word, a number, and no word more.
 use native.Mathlib.Omega.{arith}
-use Rattle.ask_words.proofs.Left.{word-within}
-use Rattle.ask_words.proofs.Subjects.{numbered-none, word-alone, numbered-more, numbered-is}
+use Rattle.ask_words.proofs.WordsLeft.{word-within}
+use Rattle.ask_words.proofs.FieldsFound.{numbered-none, word-alone, numbered-more, numbered-is}
 use borrow.Author.Needs.{needs}
 use Rattle.ask_words.proofs.read_numbered.Statement.{statement}
 use Rattle.ask_words.proofs.read_numbered.Tie as tie

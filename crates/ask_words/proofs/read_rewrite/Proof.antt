@@ -1,5 +1,5 @@
 -- The words of a value, an order, two numbers, and no word more.
-use Rattle.ask_words.proofs.Subjects.{rewrite-none, no-order, no-index, no-room, rewrite-more, rewrite-asks}
+use Rattle.ask_words.proofs.FieldsFound.{rewrite-none, no-order, no-index, no-room, rewrite-more, rewrite-asks}
 use borrow.Author.Needs.{needs}
 use Rattle.ask_words.proofs.read_rewrite.Statement.{statement}
 use Rattle.ask_words.proofs.read_rewrite.Tie as tie

@@ -4,7 +4,7 @@ use Prim.Native.Nat.{_-_, _≤_}
 use native.Mathlib.Omega.{arith}
 use lib.ListN.{length, drop}
 use Rattle.ask_words.specs.Words.{sameWord}
-use Rattle.ask_words.proofs.Found.{same-unlike, same-other, same-onward, same-last}
+use Rattle.ask_words.proofs.FirstWordEnds.{same-unlike, same-other, same-onward, same-last}
 use borrow.Author.Needs.{needs}
 use Rattle.ask_words.proofs.same.Statement.{statement}
 use Rattle.ask_words.proofs.same.Tie as tie

@@ -8,10 +8,10 @@ use lib.ListN.{length, drop}
 use lib.Seq.{sets}
 use Rattle.type_kinds.specs.declared.Kind.{Kind}
 use Rattle.type_list.specs.declared.Met.{Met}
-use Rattle.type_list.specs.Arrays.{heldIn, kindsMet, noKinds}
-use Rattle.type_list.proofs.Finding.{length-kinds}
+use Rattle.type_list.specs.Arrays.{kindsHeld, kindsMet, noKinds}
+use Rattle.type_list.proofs.KindsMet.{length-kinds}
 use Rattle.c_values.specs.Types.{entriesOf, placeNumber, startNumber, orderNumber}
-use Rattle.c_values.proofs.Gathering.{set-more, set-all}
+use Rattle.c_values.proofs.EntriesGathered.{set-more, set-all}
 use Rattle.c_values.proofs.gather.Statement.{statement}
 use Rattle.c_values.proofs.gather.Tie as tie
 
@@ -49,7 +49,7 @@ loop-holds c =
     }
 
 -- the entry is one of the struct's
-low : (c : tie.In-loop Inv-loop μ-loop) → c .before .loop .i < heldIn (c .before .before .before .before .args .t1)
+low : (c : tie.In-loop Inv-loop μ-loop) → c .before .loop .i < kindsHeld (c .before .before .before .before .args .t1)
 low c =
     omega (arith, c .loop-test .taken, c .before .before .before .held-in .ensures)
 

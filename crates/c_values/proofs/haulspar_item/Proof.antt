@@ -2,7 +2,7 @@
 use borrow.Author.Needs.{needs}
 use Rattle.c_values.proofs.haulspar_item.Statement.{statement}
 use Rattle.c_values.proofs.haulspar_item.Tie as tie
-use Rattle.c_values.proofs.Values.{picks-given, picks-refused}
+use Rattle.c_values.proofs.ValueCallsLeave.{picks-given, picks-refused}
 
 order-is-requires : tie.Need-order-is-requires
 order-is-requires c κs = search needs
@@ -32,14 +32,16 @@ returns c =
     let order-is2 = c .before .before .before .before .before .before .before .order-is2 in
     let read-item = c .before .before .before .before .before .before .read-item in
     let answer = c .before .before .before .before .answer in
-    picks-given (a .t .now) (a .little) (a .v .now) (a .order) (a .start) _ _ (order-is .ensures) (order-is2 .ensures) (a .number) (a .given .now) _ (read-item .ensures) _ _ _ (answer .given .1) (c .before .before .case .ensures) (c .before .bits .ensures)
+    picks-given (a .types .now) (a .little) (a .value .now) (a .order) (a .start) _ _ (order-is .ensures) (order-is2 .ensures) (a .number)
+    (a .given .now) _ (read-item .ensures) _ _ _ (answer .given .1) (c .before .before .case .ensures) (c .before .bits .ensures)
 
 returns-2 : tie.Need-returns-2
 returns-2 c =
     let a = c .before .before .before .before .before .before .before .before .args in
     let order-is = c .before .before .before .before .before .order-is in
     let order-is2 = c .before .before .before .before .order-is2 in
-    picks-refused (a .t .now) (a .little) (a .v .now) (a .order) (a .start) _ _ (order-is .ensures) (order-is2 .ensures) (a .number) (a .given .now) _ (c .before .before .before .read-item .ensures) _ (c .before .answer2 .given .1)
+    picks-refused (a .types .now) (a .little) (a .value .now) (a .order) (a .start) _ _ (order-is .ensures) (order-is2 .ensures) (a .number)
+    (a .given .now) _ (c .before .before .before .read-item .ensures) _ (c .before .answer2 .given .1)
 
 pub haulspar-item-spec : {M : Type 1} → statement M
 haulspar-item-spec =

@@ -6,8 +6,8 @@ use mathlib.Core.Path.{ap}
 use Rattle.cdr.specs.declared.Order.{Order}
 use Rattle.cdr.specs.Align.{indexOf}
 use Rattle.rewrite_meaning.specs.Written.{target}
-use Rattle.c_values.specs.Types.{orderIs}
-use Rattle.c_values.proofs.Values.{rewrites-as}
+use Rattle.c_values.specs.Types.{orderOfFlag}
+use Rattle.c_values.proofs.ValueCallsLeave.{rewrites-as}
 
 order-is-requires : tie.Need-order-is-requires
 order-is-requires c κs = search needs
@@ -37,7 +37,9 @@ returns c =
     let order-is3 = c .before .before .before .before .before .before .before .order-is3 in
     let order-is2 = c .before .before .before .before .before .before .before .before .order-is2 in
     let rewrite = c .before .before .before .before .before .rewrite in
-    rewrites-as (a .t .now) (a .little) (a .v .now) (a .order) (a .start) _ _ (order-is .ensures) (order-is3 .ensures) _ (target (orderIs (a .to)) (indexOf (a .index))) (ap (λ (o : Order). target o (indexOf (a .index))) (order-is2 .ensures)) (a .out .now) (a .count .now) _ _ (rewrite .ensures) _ _ (c .before .rewritten-count .ensures) (c .rewritten-number .ensures)
+    rewrites-as (a .types .now) (a .little) (a .value .now) (a .order) (a .start) _ _ (order-is .ensures) (order-is3 .ensures) _
+    (target (orderOfFlag (a .to)) (indexOf (a .index))) (ap (λ (o : Order). target o (indexOf (a .index))) (order-is2 .ensures)) (a .out .now)
+    (a .count .now) _ _ (rewrite .ensures) _ _ (c .before .rewritten-count .ensures) (c .rewritten-number .ensures)
 
 pub haulspar-rewrite-spec : {M : Type 1} → statement M
 haulspar-rewrite-spec =

@@ -5,7 +5,7 @@ use Rattle.c_values.proofs.haulspar_rewrite_unnamed.Tie as tie
 use mathlib.Core.Path.{refl}
 use Rattle.cdr.specs.Align.{indexOf}
 use Rattle.rewrite_meaning.specs.Written.{target, unnamedOrder}
-use Rattle.c_values.proofs.Values.{rewrites-as}
+use Rattle.c_values.proofs.ValueCallsLeave.{rewrites-as}
 
 order-is-requires : tie.Need-order-is-requires
 order-is-requires c κs = search needs
@@ -31,7 +31,9 @@ returns c =
     let order-is = c .before .before .before .before .before .before .before .before .order-is in
     let order-is2 = c .before .before .before .before .before .before .before .order-is2 in
     let rewrite-unnamed = c .before .before .before .before .before .rewrite-unnamed in
-    rewrites-as (a .t .now) (a .little) (a .v .now) (a .order) (a .start) _ _ (order-is .ensures) (order-is2 .ensures) _ (target unnamedOrder (indexOf (a .index))) refl (a .out .now) (a .count .now) _ _ (rewrite-unnamed .ensures) _ _ (c .before .rewritten-count .ensures) (c .rewritten-number .ensures)
+    rewrites-as (a .types .now) (a .little) (a .value .now) (a .order) (a .start) _ _ (order-is .ensures) (order-is2 .ensures) _
+    (target unnamedOrder (indexOf (a .index))) refl (a .out .now) (a .count .now) _ _ (rewrite-unnamed .ensures) _ _
+    (c .before .rewritten-count .ensures) (c .rewritten-number .ensures)
 
 pub haulspar-rewrite-unnamed-spec : {M : Type 1} → statement M
 haulspar-rewrite-unnamed-spec =

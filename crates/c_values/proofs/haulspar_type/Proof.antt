@@ -5,8 +5,8 @@ use Rattle.c_values.proofs.haulspar_type.Statement.{statement}
 use Rattle.c_values.proofs.haulspar_type.Tie as tie
 use mathlib.Core.Path.{_≡_, _∙_, ap}
 use Rattle.typecode.specs.TypeCode.{checkedType, toldBy}
-use Rattle.c_values.specs.Types.{orderIs}
-use Rattle.c_values.proofs.Types.{checks-accepted, checks-refused, checks-loop}
+use Rattle.c_values.specs.Types.{orderOfFlag}
+use Rattle.c_values.proofs.TypeCallLeaves.{checks-accepted, checks-refused, checks-loop}
 
 order-is-requires : tie.Need-order-is-requires
 order-is-requires c κs = search needs
@@ -32,7 +32,7 @@ enum-told c = search needs
 -- the check, in the order that the flag says
 checked-is : (c : tie.After-check-type) →
     let a = c .before .before .before .args in
-    toldBy (c .check-type .result) ≡ checkedType (a .octets .now) (orderIs (a .little))
+    toldBy (c .check-type .result) ≡ checkedType (a .octets .now) (orderOfFlag (a .little))
 checked-is c =
     let a = c .before .before .before .args in
     c .check-type .ensures ∙ ap (checkedType (a .octets .now)) (c .before .order-is .ensures)

@@ -2,7 +2,7 @@
 use borrow.Author.Needs.{needs}
 use Rattle.c_values.proofs.haulspar_value.Statement.{statement}
 use Rattle.c_values.proofs.haulspar_value.Tie as tie
-use Rattle.c_values.proofs.Values.{reads-as}
+use Rattle.c_values.proofs.ValueCallsLeave.{reads-as}
 
 order-is-requires : tie.Need-order-is-requires
 order-is-requires c κs = search needs
@@ -28,7 +28,8 @@ returns c =
     let order-is = c .before .before .before .before .before .before .before .before .before .order-is in
     let order-is2 = c .before .before .before .before .before .before .before .before .order-is2 in
     let read-value = c .before .before .before .before .before .before .read-value in
-    reads-as (a .t .now) (a .little) (a .v .now) (a .order) (a .start) _ _ (order-is .ensures) (order-is2 .ensures) (a .table .now) (a .numbers .now) _ _ (read-value .ensures) _ (c .before .before .answer .given .1)
+    reads-as (a .types .now) (a .little) (a .value .now) (a .order) (a .start) _ _ (order-is .ensures) (order-is2 .ensures) (a .table .now)
+    (a .numbers .now) _ _ (read-value .ensures) _ (c .before .before .answer .given .1)
 
 same-length-2 : tie.Need-same-length-2
 same-length-2 c = search needs
@@ -39,7 +40,8 @@ returns-2 c =
     let order-is = c .before .before .before .before .before .before .before .before .order-is in
     let order-is2 = c .before .before .before .before .before .before .before .order-is2 in
     let read-value = c .before .before .before .before .before .read-value in
-    reads-as (a .t .now) (a .little) (a .v .now) (a .order) (a .start) _ _ (order-is .ensures) (order-is2 .ensures) (a .table .now) (a .numbers .now) _ _ (read-value .ensures) _ (c .before .answer2 .given .1)
+    reads-as (a .types .now) (a .little) (a .value .now) (a .order) (a .start) _ _ (order-is .ensures) (order-is2 .ensures) (a .table .now)
+    (a .numbers .now) _ _ (read-value .ensures) _ (c .before .answer2 .given .1)
 
 pub haulspar-value-spec : {M : Type 1} → statement M
 haulspar-value-spec =

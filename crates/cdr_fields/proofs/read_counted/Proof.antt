@@ -4,7 +4,7 @@ use mathlib.Core.Path.{sym, _∙_}
 use Rattle.cdr_fields.proofs.read_counted.Statement.{statement}
 use Rattle.cdr_fields.proofs.read_counted.Tie as tie
 use Rattle.cdr_fields.specs.Encapsulation.{countedOf}
-use Rattle.cdr_fields.proofs.Fields.{counted-none, counted-is}
+use Rattle.cdr_fields.proofs.FieldsRead.{counted-none, counted-is}
 
 read-field-requires : tie.Need-read-field-requires
 read-field-requires c κs = search needs

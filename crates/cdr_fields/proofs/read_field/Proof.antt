@@ -4,7 +4,7 @@ use mathlib.Core.Path.{sym, _∙_}
 use native.Mathlib.Omega.{arith}
 use Rattle.cdr_fields.proofs.read_field.Statement.{statement}
 use Rattle.cdr_fields.proofs.read_field.Tie as tie
-use Rattle.cdr_fields.proofs.Fields.{field-is, field-none}
+use Rattle.cdr_fields.proofs.FieldsRead.{field-is, field-none}
 use Rattle.cdr_fields.specs.Encapsulation.{start}
 use Rattle.cdr.proofs.Alignment.{octets-small, read-facts}
 

@@ -3,7 +3,7 @@ use borrow.Author.Needs.{needs}
 use mathlib.Core.Path.{sym, _∙_}
 use Rattle.cdr_fields.proofs.read_string.Statement.{statement}
 use Rattle.cdr_fields.proofs.read_string.Tie as tie
-use Rattle.cdr_fields.proofs.Fields.{string-none, string-is}
+use Rattle.cdr_fields.proofs.FieldsRead.{string-none, string-is}
 
 read-field-requires : tie.Need-read-field-requires
 read-field-requires c κs = search needs

@@ -9,7 +9,7 @@ use borrow.Author.Tests.{not-true, not-false}
 use Rattle.frame.proofs.sized.Statement.{statement}
 use Rattle.frame.proofs.sized.Tie as tie
 use Rattle.cdr.specs.Number.{numberAt}
-use Rattle.frame.specs.Header.{headerSize, minorAt, kindAt, moreAt, sizeAt}
+use Rattle.frame.specs.Header.{headerSize, minorAt, messageTypeAt, moreAt, sizeAt}
 use Rattle.frame.specs.Frames.{sizeAllowed, fragmentAllowed, eightsAllowed}
 use Rattle.frame.proofs.Rows.{sized-above, sized-below, sized-of-type, sized-fragmented, sized-last, id-there}
 
@@ -30,19 +30,19 @@ equal c = let e = size-is (c .before .before) in omega arith
 -- the tests are those of the rows
 size-fits-is : (c : tie.After-size-allowed) →
     let at-start = c .before .before .before .before .before .before .before .before .before .before .before in
-    c .size-allowed .result ≡ sizeAllowed (minorAt (at-start .args .octets .now)) (kindAt (at-start .args .octets .now)) (sizeAt (at-start .args .octets .now))
+    c .size-allowed .result ≡ sizeAllowed (minorAt (at-start .args .octets .now)) (messageTypeAt (at-start .args .octets .now)) (sizeAt (at-start .args .octets .now))
 size-fits-is c =
     let at-there = c .before .before .before in
     let at-start = at-there .before .before .before .before .before .before .before .before in
-    c .size-allowed .ensures ∙ ap (sizeAllowed (minorAt (at-start .args .octets .now)) (kindAt (at-start .args .octets .now))) (size-is (at-there))
+    c .size-allowed .ensures ∙ ap (sizeAllowed (minorAt (at-start .args .octets .now)) (messageTypeAt (at-start .args .octets .now))) (size-is (at-there))
 
 fragment-fits-is : (c : tie.After-fragment-allowed) →
     let at-start = c .before .before .before .before .before .before .before .before .before .before .before .before in
-    c .fragment-allowed .result ≡ fragmentAllowed (minorAt (at-start .args .octets .now)) (kindAt (at-start .args .octets .now)) (moreAt (at-start .args .octets .now))
+    c .fragment-allowed .result ≡ fragmentAllowed (minorAt (at-start .args .octets .now)) (messageTypeAt (at-start .args .octets .now)) (moreAt (at-start .args .octets .now))
 fragment-fits-is c =
     let at-more-flag = c .before .before .before .before .before .before in
     let at-start = at-more-flag .before .before .before .before .before .before in
-    c .fragment-allowed .ensures ∙ ap (fragmentAllowed (minorAt (at-start .args .octets .now)) (kindAt (at-start .args .octets .now))) (at-more-flag .more-flag .ensures)
+    c .fragment-allowed .ensures ∙ ap (fragmentAllowed (minorAt (at-start .args .octets .now)) (messageTypeAt (at-start .args .octets .now))) (at-more-flag .more-flag .ensures)
 
 eights-fit-is : (c : tie.After-eights-allowed) →
     let at-start = c .before .before .before .before .before .before .before .before .before .before .before .before .before in

@@ -5,7 +5,7 @@ use Prim.Native.Nat.{_≤_, _-_}
 use native.Mathlib.Omega.{arith}
 use lib.ListN.{length, drop}
 use Rattle.hexline.specs.Decoding.{allDigits}
-use Rattle.hexline.proofs.Steps.{judge-turn, judge-done}
+use Rattle.hexline.proofs.NextDigits.{judge-turn, judge-done}
 use Rattle.hexline.proofs.all_digits.Statement.{statement}
 use Rattle.hexline.proofs.all_digits.Tie as tie
 

@@ -5,7 +5,7 @@ use native.Mathlib.Omega.{arith}
 use lib.ListN.{length, drop, length-set}
 use lib.Seq.{sets}
 use Rattle.hexline.specs.Encoding.{octetDigits}
-use Rattle.hexline.proofs.Steps.{digits-turn, digits-done}
+use Rattle.hexline.proofs.NextDigits.{digits-turn, digits-done}
 use Rattle.hexline.proofs.write_digits.Statement.{statement}
 use Rattle.hexline.proofs.write_digits.Tie as tie
 

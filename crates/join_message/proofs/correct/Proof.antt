@@ -2,7 +2,7 @@
 use mathlib.Core.Path.{_∙_}
 use lib.ListN.{length-set}
 use borrow.Author.Needs.{needs}
-use Rattle.join_message.proofs.Correcting.{header-stored}
+use Rattle.join_message.proofs.HeaderCorrected.{header-stored}
 use Rattle.join_message.proofs.correct.Statement.{statement}
 use Rattle.join_message.proofs.correct.Tie as tie
 

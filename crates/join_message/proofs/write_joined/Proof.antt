@@ -6,7 +6,7 @@ use borrow.Author.Needs.{needs}
 use lib.ListN.{length}
 use Rattle.choices.proofs.Choices.{clash}
 use Rattle.cdr_write.specs.declared.Written.the-variants.{Upto, NoRoom}
-use Rattle.join_message.proofs.Correcting.{no-header, no-room, message, second-end, joined-written}
+use Rattle.join_message.proofs.HeaderCorrected.{no-header, no-room, message, second-end, joined-written}
 use Rattle.join_message.proofs.write_joined.Statement.{statement}
 use Rattle.join_message.proofs.write_joined.Tie as tie
 

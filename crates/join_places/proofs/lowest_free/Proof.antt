@@ -1,42 +1,56 @@
--- The four in turn.
+-- No place below is free.
+use mathlib.Core.Path.{_≡_, refl, sym, ap, _∙_}
+use mathlib.Core.Bool.{not}
+use Prim.Native.Nat.{_≤_, _-_}
+use native.Mathlib.Omega.{arith}
 use borrow.Author.Needs.{needs}
-use Rattle.join_places.specs.Places.{lowestFree}
+use Rattle.join_places.specs.declared.Found.the-variants.{Nowhere}
+use Rattle.join_places.specs.Places.{lowestFree, firstWith, isOpen, placesCount}
+use Rattle.join_places.proofs.Folds.{first-here, first-passed}
 use Rattle.join_places.proofs.lowest_free.Statement.{statement}
 use Rattle.join_places.proofs.lowest_free.Tie as tie
 
-array-read-if1 : tie.Need-array-read-if1
-array-read-if1 c = search needs
+abbrev Inv-loop : tie.InvT-loop
+Inv-loop r i₀ i = (i ≤ placesCount) × (firstWith (λ j. not (isOpen r j)) i ≡ Nowhere)
 
-returns : tie.Need-returns
+abbrev μ-loop : tie.MeasureT-loop
+μ-loop r i₀ i = placesCount - i
+
+loop-holds : tie.Need-loop-holds Inv-loop μ-loop
+unfolding firstWith
+loop-holds c = (omega arith, refl)
+
+element-copy-out-if1 : tie.Need-element-copy-out-if1 Inv-loop μ-loop
+element-copy-out-if1 c = search needs
+
+returns : tie.Need-returns Inv-loop μ-loop
 unfolding lowestFree
-returns c = rw (c .if1 .taken)
+returns c =
+    let l = c .before .before .before .loop in
+    let o = c .before .before .before .before .args in
+    sym (first-here (λ j. not (isOpen (o .t1) j)) placesCount (l .i) (omega arith) (l .inv .1) (c .if1 .taken))
 
-array-read-if2 : tie.Need-array-read-if2
-array-read-if2 c = search needs
+add-i : tie.Need-add-i Inv-loop μ-loop
+add-i c = search needs
 
-returns-2 : tie.Need-returns-2
+loop-less : tie.Need-loop-less Inv-loop μ-loop
+loop-less c = omega arith
+
+loop-again : tie.Need-loop-again Inv-loop μ-loop
+loop-again c =
+    let l = c .before .before .before .loop in
+    let o = c .before .before .before .before .args in
+    (omega arith, first-passed (λ j. not (isOpen (o .t1) j)) (l .i) (l .inv .1) (c .if1 .left))
+
+returns-2 : tie.Need-returns-2 Inv-loop μ-loop
 unfolding lowestFree
-returns-2 c = rw (c .before .if1 .left, c .if2 .taken)
-
-array-read-if3 : tie.Need-array-read-if3
-array-read-if3 c = search needs
-
-returns-3 : tie.Need-returns-3
-unfolding lowestFree
-returns-3 c = rw (c .before .before .if1 .left, c .before .if2 .left, c .if3 .taken)
-
-array-read-if4 : tie.Need-array-read-if4
-array-read-if4 c = search needs
-
-returns-4 : tie.Need-returns-4
-unfolding lowestFree
-returns-4 c = rw (c .before .before .before .if1 .left, c .before .before .if2 .left, c .before .if3 .left, c .if4 .taken)
-
-returns-5 : tie.Need-returns-5
-unfolding lowestFree
-returns-5 c = rw (c .before .before .before .if1 .left, c .before .before .if2 .left, c .before .if3 .left, c .if4 .left)
+returns-2 c =
+    let l = c .before .loop in
+    let o = c .before .before .args in
+    let e : l .i ≡ placesCount = omega arith in
+    sym (ap (firstWith (λ j. not (isOpen (o .t1) j))) (sym e) ∙ l .inv .1)
 
 pub lowest-free-spec : {M : Type 1} → statement M
 lowest-free-spec =
     tie.close
-    (tie.spec array-read-if1 array-read-if2 array-read-if3 array-read-if4 returns returns-2 returns-3 returns-4 returns-5)
+    (tie.spec Inv-loop μ-loop loop-holds element-copy-out-if1 returns add-i loop-less loop-again returns-2)

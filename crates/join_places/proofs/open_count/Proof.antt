@@ -1,68 +1,61 @@
--- Each flag counts as one.
-use mathlib.Core.Path.{refl}
+-- The flags so far are counted.
+use mathlib.Core.Path.{_≡_, refl, ap, _∙_}
+use Prim.Native.Nat.{_+_, _≤_, _-_}
 use native.Mathlib.Omega.{arith}
-use mathlib.Core.Bool.{false}
-use lib.ListN.{getD}
-use Rattle.join_places.proofs.Counting.{flag-most, count-is}
 use borrow.Author.Needs.{needs}
+use Rattle.join_places.specs.Places.{placesCount, isOpen, openAt, sumOver, openCount}
+use Rattle.join_places.proofs.OpenCounts.{flag-is, count-more, count-below}
 use Rattle.join_places.proofs.open_count.Statement.{statement}
 use Rattle.join_places.proofs.open_count.Tie as tie
 
-array-read-result : tie.Need-array-read-result
-array-read-result c = search needs
+abbrev Inv-loop : tie.InvT-loop
+Inv-loop r count₀ i₀ count i = (i ≤ placesCount) × (count ≡ sumOver (openAt r) i)
 
-cast-result : tie.Need-cast-result
-cast-result c = search needs
+abbrev μ-loop : tie.MeasureT-loop
+μ-loop r count₀ i₀ count i = placesCount - i
 
-array-read-result-2 : tie.Need-array-read-result-2
-array-read-result-2 c = search needs
+loop-holds : tie.Need-loop-holds Inv-loop μ-loop
+unfolding sumOver
+loop-holds c = (omega arith, refl)
 
-cast-result-2 : tie.Need-cast-result-2
-cast-result-2 c = search needs
+element-copy-out-count : tie.Need-element-copy-out-count Inv-loop μ-loop
+element-copy-out-count c = search needs
 
-add-result : tie.Need-add-result
-add-result c =
-    let o = c .before .args .r .opened in
-    omega (arith, flag-most (getD o 0 false), flag-most (getD o 1 false))
+cast-count : tie.Need-cast-count Inv-loop μ-loop
+cast-count c = search needs
 
-array-read-result-3 : tie.Need-array-read-result-3
-array-read-result-3 c = search needs
+add-count : tie.Need-add-count Inv-loop μ-loop
+add-count c =
+    let l = c .before .before .loop in
+    let r = c .before .before .before .args .t1 in
+    let one = count-below r (l .i + 1) in
+    let more = count-more r (l .i) in
+    let flag = flag-is (isOpen r (l .i)) in
+    omega arith
 
-cast-result-3 : tie.Need-cast-result-3
-cast-result-3 c = search needs
+add-i : tie.Need-add-i Inv-loop μ-loop
+add-i c = search needs
 
-add-result-2 : tie.Need-add-result-2
-add-result-2 c =
-    let o = c .before .args .r .opened in
-    omega (arith, flag-most (getD o 0 false), flag-most (getD o 1 false), flag-most (getD o 2 false))
+loop-less : tie.Need-loop-less Inv-loop μ-loop
+loop-less c = omega arith
 
-array-read-result-4 : tie.Need-array-read-result-4
-array-read-result-4 c = search needs
+loop-again : tie.Need-loop-again Inv-loop μ-loop
+loop-again c =
+    let l = c .before .before .loop in
+    let r = c .before .before .before .args .t1 in
+    let more = count-more r (l .i) in
+    let flag = flag-is (isOpen r (l .i)) in
+    (omega arith, omega arith)
 
-cast-result-4 : tie.Need-cast-result-4
-cast-result-4 c = search needs
-
-add-result-3 : tie.Need-add-result-3
-add-result-3 c =
-    let o = c .before .args .r .opened in
-    omega (arith, flag-most (getD o 0 false), flag-most (getD o 1 false), flag-most (getD o 2 false), flag-most (getD o 3 false))
-
-returns : tie.Need-returns
-returns c = count-is (c .before .args .r) _ _ _ _ refl refl refl refl
+returns : tie.Need-returns Inv-loop μ-loop
+unfolding openCount
+returns c =
+    let l = c .before .loop in
+    let r = c .before .before .args .t1 in
+    let e : l .i ≡ placesCount = omega arith in
+    l .inv .1 ∙ ap (sumOver (openAt r)) e
 
 pub open-count-spec : {M : Type 1} → statement M
 open-count-spec =
     tie.close
-    (tie.spec
-    array-read-result
-    cast-result
-    array-read-result-2
-    cast-result-2
-    add-result
-    array-read-result-3
-    cast-result-3
-    add-result-2
-    array-read-result-4
-    cast-result-4
-    add-result-3
-    returns)
+    (tie.spec Inv-loop μ-loop loop-holds element-copy-out-count cast-count add-count add-i loop-less loop-again returns)

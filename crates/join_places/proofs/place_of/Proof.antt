@@ -1,73 +1,55 @@
--- The four in turn.
-use mathlib.Core.Path.{sym, _∙_}
+-- No place below has the open message of the id.
+use mathlib.Core.Path.{_≡_, refl, sym, ap, _∙_}
+use Prim.Native.Nat.{_≤_, _-_}
+use native.Mathlib.Omega.{arith}
 use borrow.Author.Needs.{needs}
-use Rattle.join_places.specs.Places.{placeOf}
+use Rattle.join_places.specs.declared.Found.the-variants.{Nowhere}
+use Rattle.join_places.specs.Places.{placeOfId, firstWith, isOpenWith, placesCount}
+use Rattle.join_places.proofs.Folds.{first-here, first-passed}
 use Rattle.join_places.proofs.place_of.Statement.{statement}
 use Rattle.join_places.proofs.place_of.Tie as tie
 
-is-open-with-requires : tie.Need-is-open-with-requires
+abbrev Inv-loop : tie.InvT-loop
+Inv-loop r id i₀ i = (i ≤ placesCount) × (firstWith (isOpenWith r id) i ≡ Nowhere)
+
+abbrev μ-loop : tie.MeasureT-loop
+μ-loop r id i₀ i = placesCount - i
+
+loop-holds : tie.Need-loop-holds Inv-loop μ-loop
+unfolding firstWith
+loop-holds c = (omega arith, refl)
+
+is-open-with-requires : tie.Need-is-open-with-requires Inv-loop μ-loop
 is-open-with-requires c κs = search needs
 
-returns : tie.Need-returns
-unfolding placeOf
-returns c = rw (sym (c .before .is-open-with .ensures) ∙ c .if1 .taken)
+returns : tie.Need-returns Inv-loop μ-loop
+unfolding placeOfId
+returns c =
+    let l = c .before .before .before .loop in
+    let o = c .before .before .before .before .args in
+    sym (first-here (isOpenWith (o .r) (o .id)) placesCount (l .i) (omega arith) (l .inv .1) (sym (c .before .is-open-with .ensures) ∙ c .if1 .taken))
 
-is-open-with-requires-2 : tie.Need-is-open-with-requires-2
-is-open-with-requires-2 c κs = search needs
+add-i : tie.Need-add-i Inv-loop μ-loop
+add-i c = search needs
 
-returns-2 : tie.Need-returns-2
-unfolding placeOf
+loop-less : tie.Need-loop-less Inv-loop μ-loop
+loop-less c = omega arith
+
+loop-again : tie.Need-loop-again Inv-loop μ-loop
+loop-again c =
+    let l = c .before .before .before .loop in
+    let o = c .before .before .before .before .args in
+    (omega arith, first-passed (isOpenWith (o .r) (o .id)) (l .i) (l .inv .1) (sym (c .before .is-open-with .ensures) ∙ c .if1 .left))
+
+returns-2 : tie.Need-returns-2 Inv-loop μ-loop
+unfolding placeOfId
 returns-2 c =
-    let at-is-open-with = c .before .before .before in
-    rw (sym (at-is-open-with .is-open-with .ensures) ∙ c .before .before .if1 .left, sym (c .before .is-open-with2 .ensures) ∙ c .if2 .taken)
-
-is-open-with-requires-3 : tie.Need-is-open-with-requires-3
-is-open-with-requires-3 c κs = search needs
-
-returns-3 : tie.Need-returns-3
-unfolding placeOf
-returns-3 c =
-    let at-is-open-with2 = c .before .before .before in
-    let at-if1 = at-is-open-with2 .before in
-    let at-is-open-with = at-if1 .before in
-    rw
-    (sym (at-is-open-with .is-open-with .ensures) ∙ at-if1 .if1 .left, sym (at-is-open-with2 .is-open-with2 .ensures) ∙ c .before .before .if2 .left, sym (c .before .is-open-with3 .ensures) ∙ c .if3 .taken)
-
-is-open-with-requires-4 : tie.Need-is-open-with-requires-4
-is-open-with-requires-4 c κs = search needs
-
-returns-4 : tie.Need-returns-4
-unfolding placeOf
-returns-4 c =
-    let at-is-open-with3 = c .before .before .before in
-    let at-if2 = at-is-open-with3 .before in
-    let at-is-open-with2 = at-if2 .before in
-    let at-if1 = at-is-open-with2 .before in
-    let at-is-open-with = at-if1 .before in
-    rw
-    (sym (at-is-open-with .is-open-with .ensures) ∙ at-if1 .if1 .left, sym (at-is-open-with2 .is-open-with2 .ensures) ∙ at-if2 .if2 .left, sym (at-is-open-with3 .is-open-with3 .ensures) ∙ c .before .before .if3 .left, sym (c .before .is-open-with4 .ensures) ∙ c .if4 .taken)
-
-returns-5 : tie.Need-returns-5
-unfolding placeOf
-returns-5 c =
-    let at-is-open-with3 = c .before .before .before in
-    let at-if2 = at-is-open-with3 .before in
-    let at-is-open-with2 = at-if2 .before in
-    let at-if1 = at-is-open-with2 .before in
-    let at-is-open-with = at-if1 .before in
-    rw
-    (sym (at-is-open-with .is-open-with .ensures) ∙ at-if1 .if1 .left, sym (at-is-open-with2 .is-open-with2 .ensures) ∙ at-if2 .if2 .left, sym (at-is-open-with3 .is-open-with3 .ensures) ∙ c .before .before .if3 .left, sym (c .before .is-open-with4 .ensures) ∙ c .if4 .left)
+    let l = c .before .loop in
+    let o = c .before .before .args in
+    let e : l .i ≡ placesCount = omega arith in
+    sym (ap (firstWith (isOpenWith (o .r) (o .id))) (sym e) ∙ l .inv .1)
 
 pub place-of-spec : {M : Type 1} → statement M
 place-of-spec =
     tie.close
-    (tie.spec
-    is-open-with-requires
-    returns
-    is-open-with-requires-2
-    returns-2
-    is-open-with-requires-3
-    returns-3
-    is-open-with-requires-4
-    returns-4
-    returns-5)
+    (tie.spec Inv-loop μ-loop loop-holds is-open-with-requires returns add-i loop-less loop-again returns-2)

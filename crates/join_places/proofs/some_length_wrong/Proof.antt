@@ -1,61 +1,55 @@
--- The four in turn.
-use mathlib.Core.Path.{sym, _∙_}
+-- No length so far is out of its range.
+use mathlib.Core.Path.{_≡_, refl, sym, ap, _∙_}
+use mathlib.Core.Bool.{false}
+use Prim.Native.Nat.{_≤_, _-_}
+use native.Mathlib.Omega.{arith}
 use borrow.Author.Needs.{needs}
-use Rattle.join_places.specs.Places.{someLengthWrong}
+use Rattle.join_places.specs.Places.{someLengthWrong, someWith, lengthWrong, placesCount}
+use Rattle.join_places.proofs.Folds.{some-here, some-passed}
 use Rattle.join_places.proofs.some_length_wrong.Statement.{statement}
 use Rattle.join_places.proofs.some_length_wrong.Tie as tie
 
-length-wrong-requires : tie.Need-length-wrong-requires
+abbrev Inv-loop : tie.InvT-loop
+Inv-loop r i₀ i = (i ≤ placesCount) × (someWith (lengthWrong r) i ≡ false)
+
+abbrev μ-loop : tie.MeasureT-loop
+μ-loop r i₀ i = placesCount - i
+
+loop-holds : tie.Need-loop-holds Inv-loop μ-loop
+unfolding someWith
+loop-holds c = (omega arith, refl)
+
+length-wrong-requires : tie.Need-length-wrong-requires Inv-loop μ-loop
 length-wrong-requires c κs = search needs
 
-returns : tie.Need-returns
+returns : tie.Need-returns Inv-loop μ-loop
 unfolding someLengthWrong
-returns c = rw (sym (c .before .length-wrong .ensures) ∙ c .if1 .taken)
+returns c =
+    let l = c .before .before .before .loop in
+    let o = c .before .before .before .before .args in
+    sym (some-here (lengthWrong (o .r)) placesCount (l .i) (omega arith) (sym (c .before .length-wrong .ensures) ∙ c .if1 .taken))
 
-length-wrong-requires-2 : tie.Need-length-wrong-requires-2
-length-wrong-requires-2 c κs = search needs
+add-i : tie.Need-add-i Inv-loop μ-loop
+add-i c = search needs
 
-returns-2 : tie.Need-returns-2
+loop-less : tie.Need-loop-less Inv-loop μ-loop
+loop-less c = omega arith
+
+loop-again : tie.Need-loop-again Inv-loop μ-loop
+loop-again c =
+    let l = c .before .before .before .loop in
+    let o = c .before .before .before .before .args in
+    (omega arith, some-passed (lengthWrong (o .r)) (l .i) (l .inv .1) (sym (c .before .length-wrong .ensures) ∙ c .if1 .left))
+
+returns-2 : tie.Need-returns-2 Inv-loop μ-loop
 unfolding someLengthWrong
 returns-2 c =
-    let at-length-wrong = c .before .before .before in
-    rw (sym (at-length-wrong .length-wrong .ensures) ∙ c .before .before .if1 .left, sym (c .before .length-wrong2 .ensures) ∙ c .if2 .taken)
-
-length-wrong-requires-3 : tie.Need-length-wrong-requires-3
-length-wrong-requires-3 c κs = search needs
-
-returns-3 : tie.Need-returns-3
-unfolding someLengthWrong
-returns-3 c =
-    let at-length-wrong2 = c .before .before .before in
-    let at-if1 = at-length-wrong2 .before in
-    let at-length-wrong = at-if1 .before in
-    rw
-    (sym (at-length-wrong .length-wrong .ensures) ∙ at-if1 .if1 .left, sym (at-length-wrong2 .length-wrong2 .ensures) ∙ c .before .before .if2 .left, sym (c .before .length-wrong3 .ensures) ∙ c .if3 .taken)
-
-length-wrong-requires-4 : tie.Need-length-wrong-requires-4
-length-wrong-requires-4 c κs = search needs
-
-returns-4 : tie.Need-returns-4
-unfolding someLengthWrong
-returns-4 c =
-    let at-if2 = c .before .before .before in
-    let at-length-wrong2 = at-if2 .before in
-    let at-if1 = at-length-wrong2 .before in
-    let at-length-wrong = at-if1 .before in
-    rw
-    (sym (at-length-wrong .length-wrong .ensures) ∙ at-if1 .if1 .left, sym (at-length-wrong2 .length-wrong2 .ensures) ∙ at-if2 .if2 .left, sym (c .before .before .length-wrong3 .ensures) ∙ c .before .if3 .left)
-    (c .length-wrong4 .ensures)
+    let l = c .before .loop in
+    let o = c .before .before .args in
+    let e : l .i ≡ placesCount = omega arith in
+    sym (ap (someWith (lengthWrong (o .r))) (sym e) ∙ l .inv .1)
 
 pub some-length-wrong-spec : {M : Type 1} → statement M
 some-length-wrong-spec =
     tie.close
-    (tie.spec
-    length-wrong-requires
-    returns
-    length-wrong-requires-2
-    returns-2
-    length-wrong-requires-3
-    returns-3
-    length-wrong-requires-4
-    returns-4)
+    (tie.spec Inv-loop μ-loop loop-holds length-wrong-requires returns add-i loop-less loop-again returns-2)

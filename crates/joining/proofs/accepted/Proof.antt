@@ -4,9 +4,9 @@ use lib.ListN.{length}
 use borrow.Author.Needs.{needs}
 use Rattle.frame.specs.declared.RequestId.the-variants.{Id, NoId}
 use Rattle.join_answers.specs.declared.Refusal.the-variants.{BadRecord}
-use Rattle.joining.specs.Steps.{Passes, written, withId}
-use Rattle.joining.proofs.Doing.{by-step, refuses}
-use Rattle.joining.proofs.Deciding.{bad-refused, by-id}
+use Rattle.joining.specs.Steps.{Passes, withId}
+use Rattle.joining.proofs.Takes.{by-step, refuses}
+use Rattle.joining.proofs.StepIs.{bad-refused, by-id}
 use Rattle.joining.proofs.accepted.Statement.{statement}
 use Rattle.joining.proofs.accepted.Tie as tie
 
@@ -24,7 +24,7 @@ returns c =
     let places = start .args .places .now in
     let out = start .args .out .now in
     refuses octets r places out _ BadRecord _
-    (bad-refused r places (length out) (length octets) (start .args .h) (sym (c .before .before .bad-record .ensures) ∙ c .before .if1 .taken))
+    (bad-refused r places (length octets) (start .args .h) (sym (c .before .before .bad-record .ensures) ∙ c .before .if1 .taken))
     (c .refused .ensures)
 
 enum-known-id : tie.Need-enum-known-id
@@ -61,8 +61,8 @@ returns-2 c =
     let places = start .args .places .now in
     let out = start .args .out .now in
     let h = start .args .h in
-    by-step octets r places out _ (withId r places (length out) (length octets) h (at-id .id .given .0 .0)) _ _ _
-    (by-id r places (length out) (length octets) h (Id (at-id .id .given .0 .0)) (sym (at-bad-record .bad-record .ensures) ∙ at-if1 .if1 .left) (at-id .id .given .1))
+    by-step octets r places out _ (withId r places (length octets) h (at-id .id .given .0 .0)) _ _ _
+    (by-id r places (length octets) h (Id (at-id .id .given .0 .0)) (sym (at-bad-record .bad-record .ensures) ∙ at-if1 .if1 .left) (at-id .id .given .1))
     (at-identified .identified .ensures)
 
 same-length-3 : tie.Need-same-length-3
@@ -78,8 +78,8 @@ returns-3 c =
     let r = start .args .before in
     let places = start .args .places .now in
     let out = start .args .out .now in
-    by-step octets r places out _ (written (length out) (length octets) Passes) _ places _
-    (by-id r places (length out) (length octets) (start .args .h) NoId (sym (at-bad-record .bad-record .ensures) ∙ at-if1 .if1 .left) (at-enum-told .enum-told .given .1))
+    by-step octets r places out _ Passes _ places _
+    (by-id r places (length octets) (start .args .h) NoId (sym (at-bad-record .bad-record .ensures) ∙ at-if1 .if1 .left) (at-enum-told .enum-told .given .1))
     (c .before .before .whole .ensures places)
 
 pub accepted-spec : {M : Type 1} → statement M

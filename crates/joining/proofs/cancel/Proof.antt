@@ -1,14 +1,11 @@
 -- Freed where the id was open; a message as it is where not.
-use mathlib.Core.Path.{ap, subst, _∙_}
-use lib.ListN.{length}
+use mathlib.Core.Path.{ap, subst}
 use native.Mathlib.Omega.{arith}
 use borrow.Author.Needs.{needs}
 use Rattle.join_places.specs.declared.Found.the-variants.{At}
-use Rattle.join_answers.specs.declared.Refusal.the-variants.{NoRoom}
-use Rattle.joining.specs.Steps.{Passes, Frees, written, cancelled}
-use Rattle.join_places.specs.Places.{Within}
-use Rattle.joining.proofs.Doing.{by-step, refuses, frees}
-use Rattle.joining.proofs.Deciding.{no-room}
+use Rattle.joining.specs.Steps.{Passes, Frees, cancelled}
+use Rattle.join_places.specs.Places.{IsPlace}
+use Rattle.joining.proofs.Takes.{by-step, no-room, frees}
 use Rattle.joining.proofs.cancel.Statement.{statement}
 use Rattle.joining.proofs.cancel.Tie as tie
 
@@ -28,10 +25,10 @@ returns : tie.Need-returns
 returns c =
     let at-enum-told = c .before .before .before .before in
     let start = at-enum-told .before .before .before .before in
-    let octets = start .args .octets .now in
+    let octets = start .args .request .now in
     let out = start .args .out .now in
-    λ places. by-step octets (start .args .before) places out _ (written (length out) (length octets) Passes) _ places _
-    (ap (cancelled (length out) (length octets)) (at-enum-told .enum-told .given .1)) (c .before .before .whole .ensures places)
+    λ places. by-step octets (start .args .before) places out _ Passes _ places _
+    (ap cancelled (at-enum-told .enum-told .given .1)) (c .before .before .whole .ensures places)
 
 refused-requires : tie.Need-refused-requires
 refused-requires c κs = search needs
@@ -40,11 +37,11 @@ returns-2 : tie.Need-returns-2
 returns-2 c =
     let at-found = c .before .before .before in
     let start = at-found .before .before .before .before in
-    let octets = start .args .octets .now in
+    let octets = start .args .request .now in
     let out = start .args .out .now in
-    λ places. refuses octets (start .args .before) places out _ NoRoom _
-    (ap (cancelled (length out) (length octets)) (at-found .found .given .1) ∙ no-room (length out) (length octets) (Frees (at-found .found .given .0 .0)) (c .before .if1 .taken))
-    (c .refused .ensures)
+    λ places. by-step octets (start .args .before) places out _ (Frees (at-found .found .given .0 .0)) _ places out
+    (ap cancelled (at-found .found .given .1))
+    (no-room octets (start .args .before) places out (Frees (at-found .found .given .0 .0)) _ (c .before .if1 .taken) (c .refused .ensures))
 
 write-octets-requires : tie.Need-write-octets-requires
 write-octets-requires c κs = search needs
@@ -53,7 +50,7 @@ closed-requires : tie.Need-closed-requires
 closed-requires c κs =
     let at-found = c .before .before .before .before .before .before in
     let start = at-found .before .before .before .before in
-    let within : Within (At (at-found .found .given .0 .0)) = subst Within (at-found .found .given .1) (start .pre) in
+    let within : IsPlace (At (at-found .found .given .0 .0)) = subst IsPlace (at-found .found .given .1) (start .pre) in
     omega arith
 
 same-length-2 : tie.Need-same-length-2
@@ -65,11 +62,11 @@ returns-3 c =
     let at-if1 = at-write-octets .before .before in
     let at-found = at-if1 .before .before in
     let start = at-found .before .before .before .before in
-    let octets = start .args .octets .now in
+    let octets = start .args .request .now in
     let r = start .args .before in
     let out = start .args .out .now in
-    λ places. by-step octets r places out _ (written (length out) (length octets) (Frees (at-found .found .given .0 .0))) _ places _
-    (ap (cancelled (length out) (length octets)) (at-found .found .given .1))
+    λ places. by-step octets r places out _ (Frees (at-found .found .given .0 .0)) _ places _
+    (ap cancelled (at-found .found .given .1))
     (frees octets r places out (at-found .found .given .0 .0) (c .closed .result) _ _ (at-if1 .if1 .left) (c .closed .ensures) (at-write-octets .write-octets .ensures))
 
 pub cancel-spec : {M : Type 1} → statement M

@@ -1,6 +1,6 @@
 -- By what the writer of the joined message answers; a place that is open has a header.
 use borrow.Author.Needs.{needs}
-use Rattle.joining.proofs.Completing.{written-whole, written-not, has-header}
+use Rattle.joining.proofs.JoinedTakes.{written-whole, written-not, has-header}
 use Rattle.joining.proofs.complete.Statement.{statement}
 use Rattle.joining.proofs.complete.Tie as tie
 

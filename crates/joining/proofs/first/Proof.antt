@@ -3,10 +3,10 @@ use Prim.Native.Nat.{_<_}
 use native.Mathlib.Omega.{arith}
 use borrow.Author.Needs.{needs}
 use Rattle.join_places.specs.Places.{placesCount}
-use Rattle.join_answers.specs.declared.Refusal.the-variants.{FourOpen}
+use Rattle.join_answers.specs.declared.Refusal.the-variants.{NoPlaceFree}
 use Rattle.joining.specs.Steps.{Opens}
-use Rattle.joining.proofs.Doing.{by-step, refuses, opens}
-use Rattle.joining.proofs.Deciding.{no-place, free-place, opens-place}
+use Rattle.joining.proofs.Takes.{by-step, refuses, opens}
+use Rattle.joining.proofs.StepIs.{no-place, free-place, opens-place}
 use Rattle.joining.proofs.first.Statement.{statement}
 use Rattle.joining.proofs.first.Tie as tie
 
@@ -24,16 +24,18 @@ refused-requires c κs = search needs
 
 returns : tie.Need-returns
 returns c =
-    let a = c .before .before .before .before .before .before .args in
+    let a2 = c .before .before .before .before .before .before .args in
+    let a = a2 in
     λ out.
-    refuses (a .octets .now) (a .before) (a .places .now) out _ FourOpen _
+    refuses (a .octets .now) (a .before) (a .places .now) out _ NoPlaceFree _
     (no-place (a .before) (a .id) _ (c .before .before .before .lowest-free .ensures) (c .before .enum-told .given .1))
     (c .refused .ensures)
 
--- the place is one of the four
+-- the place is one of the places
 place : (c : tie.After-i) → c .i .given .0 .0 < placesCount
 place c =
-    let a = c .before .before .before .before .before .args in
+    let a2 = c .before .before .before .before .before .args in
+    let a = a2 in
     free-place (a .before) _ _ (c .before .before .lowest-free .ensures) (c .i .given .1)
 
 mul-write-octets : tie.Need-mul-write-octets
@@ -50,10 +52,14 @@ same-length c = search needs
 
 returns-2 : tie.Need-returns-2
 returns-2 c =
-    let a = c .before .before .before .before .before .before .before .before .before .before .before .args in
-    let i2 = c .before .before .before .before .before .before .i in
-    let pre = c .before .before .before .before .before .before .before .before .before .before .before .pre in
-    let lowest-free = c .before .before .before .before .before .before .before .before .lowest-free in
+    let a2 = c .before .before .before .before .before .before .before .before .before .before .before .args in
+    let i3 = c .before .before .before .before .before .before .i in
+    let pre2 = c .before .before .before .before .before .before .before .before .before .before .before .pre in
+    let lowest-free2 = c .before .before .before .before .before .before .before .before .lowest-free in
+    let a = a2 in
+    let i2 = i3 in
+    let pre = pre2 in
+    let lowest-free = lowest-free2 in
     λ out.
     let octets = a .octets .now in
     let r = a .before in

@@ -8,9 +8,9 @@ use Rattle.frame.specs.declared.Header.{Header}
 use Rattle.join_places.specs.declared.Record.{Record}
 use Rattle.join_places.specs.Places.{placeStart, lengthOf, heldIn}
 use Rattle.join_answers.specs.declared.Refusal.the-variants.{FirstDiffers, TooLong}
-use Rattle.joining.specs.Steps.{Extends, Completes, differs, written, lengthAfter}
-use Rattle.joining.proofs.Doing.{part-of, by-step, refuses}
-use Rattle.joining.proofs.Deciding.{first-differs, too-long, goes-on, last-one}
+use Rattle.joining.specs.Steps.{Extends, Completes, differs}
+use Rattle.joining.proofs.Takes.{part-of, by-step, refuses}
+use Rattle.joining.proofs.StepIs.{first-differs, too-long, goes-on, last-one}
 use Rattle.joining.proofs.fragment.Statement.{statement}
 use Rattle.joining.proofs.fragment.Tie as tie
 
@@ -65,7 +65,7 @@ returns c =
     let h = start .args .h in
     let i = start .args .i in
     refuses octets r places out _ FirstDiffers _
-    (first-differs r places (length out) (length octets) h i (sym (same-held r places i h) ∙ sym (c .before .before .differs .ensures) ∙ c .before .if1 .taken))
+    (first-differs r places (length octets) h i (sym (same-held r places i h) ∙ sym (c .before .before .differs .ensures) ∙ c .before .if1 .taken))
     (c .refused .ensures)
 
 refused-requires-2 : tie.Need-refused-requires-2
@@ -85,7 +85,7 @@ returns-2 c =
     let h = start .args .h in
     let i = start .args .i in
     refuses octets r places out _ TooLong _
-    (too-long r places (length out) (length octets) h i (sym (same-held r places i h) ∙ sym (at-differs .differs .ensures) ∙ c .before .before .if1 .left) (c .before .if2 .taken))
+    (too-long r places (length octets) h i (sym (same-held r places i h) ∙ sym (at-differs .differs .ensures) ∙ c .before .before .if1 .left) (c .before .if2 .taken))
     (c .refused2 .ensures)
 
 extend-requires : tie.Need-extend-requires
@@ -108,7 +108,7 @@ returns-3 c =
     let i = start .args .i in
     let h = start .args .h in
     by-step octets r places out _ (Extends i) _ _ out
-    (goes-on r places (length out) (length octets) h i (sym (same-held r places i h) ∙ sym (at-differs .differs .ensures) ∙ at-if1 .if1 .left) (at-if2 .if2 .left) (at-if3 .if3 .taken))
+    (goes-on r places (length octets) h i (sym (same-held r places i h) ∙ sym (at-differs .differs .ensures) ∙ at-if1 .if1 .left) (at-if2 .if2 .left) (at-if3 .if3 .taken))
     (c .before .before .extend .ensures out)
 
 complete-requires : tie.Need-complete-requires
@@ -133,8 +133,8 @@ returns-4 c =
     let out = start .args .out .now in
     let i = start .args .i in
     let h = start .args .h in
-    by-step octets r places out _ (written (length out) (lengthAfter r i (length octets)) (Completes i)) _ places _
-    (last-one r places (length out) (length octets) h i (sym (same-held r places i h) ∙ sym (at-differs .differs .ensures) ∙ at-if1 .if1 .left) (at-if2 .if2 .left) (at-if3 .if3 .left))
+    by-step octets r places out _ (Completes i) _ places _
+    (last-one r places (length octets) h i (sym (same-held r places i h) ∙ sym (at-differs .differs .ensures) ∙ at-if1 .if1 .left) (at-if2 .if2 .left) (at-if3 .if3 .left))
     (c .before .before .complete .ensures)
 
 pub fragment-spec : {M : Type 1} → statement M

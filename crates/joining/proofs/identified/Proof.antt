@@ -4,9 +4,9 @@ use borrow.Author.Tests.{eq-eqb, ne-eqb}
 use lib.ListN.{length}
 use borrow.Author.Needs.{needs}
 use Rattle.join_answers.specs.declared.Refusal.the-variants.{IdNotOpen}
-use Rattle.joining.specs.Steps.{cancelled, continued, fragmentOf, startOf}
-use Rattle.joining.proofs.Doing.{by-step, refuses}
-use Rattle.joining.proofs.Deciding.{place-within, cancels, fragments, begins, continues}
+use Rattle.joining.specs.Steps.{cancelled, continued, fragmentOf, startingOf}
+use Rattle.joining.proofs.Takes.{by-step, refuses}
+use Rattle.joining.proofs.StepIs.{place-within, cancels, fragments, begins, continues}
 use Rattle.joining.proofs.identified.Statement.{statement}
 use Rattle.joining.proofs.identified.Tie as tie
 
@@ -31,8 +31,8 @@ returns c =
     let r = start .args .before in
     let places = start .args .places .now in
     let out = start .args .out .now in
-    by-step octets r places out _ (cancelled (length out) (length octets) (at-place-of .place-of .result)) _ places _
-    (cancels r places (length out) (length octets) (start .args .h) (start .args .id) (eq-eqb _ _ (at-if1 .if1 .taken)) ∙ ap (cancelled (length out) (length octets)) (sym (at-place-of .place-of .ensures)))
+    by-step octets r places out _ (cancelled (at-place-of .place-of .result)) _ places _
+    (cancels r places (length octets) (start .args .h) (start .args .id) (eq-eqb _ _ (at-if1 .if1 .taken)) ∙ ap cancelled (sym (at-place-of .place-of .ensures)))
     (c .before .before .cancel .ensures places)
 
 enum-known-found : tie.Need-enum-known-found
@@ -56,7 +56,7 @@ returns-2 c =
     let out = start .args .out .now in
     let h = start .args .h in
     refuses octets r places out _ IdNotOpen _
-    (fragments r places (length out) (length octets) h (start .args .id) (ne-eqb _ _ (at-if1 .if1 .left)) (eq-eqb _ _ (at-if2 .if2 .taken)) ∙ ap (fragmentOf r places (length out) (length octets) h) (sym (at-place-of .place-of .ensures) ∙ c .before .enum-told .given .1))
+    (fragments r places (length octets) h (start .args .id) (ne-eqb _ _ (at-if1 .if1 .left)) (eq-eqb _ _ (at-if2 .if2 .taken)) ∙ ap (fragmentOf r places (length octets) h) (sym (at-place-of .place-of .ensures) ∙ c .before .enum-told .given .1))
     (c .refused .ensures)
 
 fragment-requires : tie.Need-fragment-requires
@@ -87,8 +87,8 @@ returns-3 c =
     let places = start .args .places .now in
     let out = start .args .out .now in
     let h = start .args .h in
-    by-step octets r places out _ (continued r places (length out) (length octets) h (at-found .found .given .0 .0)) _ _ _
-    (fragments r places (length out) (length octets) h (start .args .id) (ne-eqb _ _ (at-if1 .if1 .left)) (eq-eqb _ _ (at-if2 .if2 .taken)) ∙ ap (fragmentOf r places (length out) (length octets) h) (sym (at-place-of .place-of .ensures) ∙ at-found .found .given .1))
+    by-step octets r places out _ (continued r places (length octets) h (at-found .found .given .0 .0)) _ _ _
+    (fragments r places (length octets) h (start .args .id) (ne-eqb _ _ (at-if1 .if1 .left)) (eq-eqb _ _ (at-if2 .if2 .taken)) ∙ ap (fragmentOf r places (length octets) h) (sym (at-place-of .place-of .ensures) ∙ at-found .found .given .1))
     (at-fragment .fragment .ensures)
 
 start-requires : tie.Need-start-requires
@@ -113,8 +113,8 @@ returns-4 c =
     let out = start .args .out .now in
     let h = start .args .h in
     let id = start .args .id in
-    by-step octets r places out _ (startOf r (length out) (length octets) h id (at-place-of .place-of .result)) _ _ _
-    (begins r places (length out) (length octets) h id (ne-eqb _ _ (at-if1 .if1 .left)) (ne-eqb _ _ (at-if2 .if2 .left)) ∙ ap (startOf r (length out) (length octets) h id) (sym (at-place-of .place-of .ensures)))
+    by-step octets r places out _ (startingOf r h id (at-place-of .place-of .result)) _ _ _
+    (begins r places (length octets) h id (ne-eqb _ _ (at-if1 .if1 .left)) (ne-eqb _ _ (at-if2 .if2 .left)) ∙ ap (startingOf r h id) (sym (at-place-of .place-of .ensures)))
     (at-start .start .ensures)
 
 pub identified-spec : {M : Type 1} → statement M

@@ -5,8 +5,8 @@ use borrow.Author.Needs.{needs}
 use Rattle.frame.specs.declared.Frame.the-variants.{Accepted, Refused}
 use Rattle.join_answers.specs.declared.Refusal.the-variants.{Frame}
 use Rattle.joining.specs.Steps.{messageStep}
-use Rattle.joining.proofs.Doing.{by-step, refuses}
-use Rattle.joining.proofs.Deciding.{step-of}
+use Rattle.joining.proofs.Takes.{by-step, refuses}
+use Rattle.joining.proofs.StepIs.{step-of}
 use Rattle.joining.proofs.join.Statement.{statement}
 use Rattle.joining.proofs.join.Tie as tie
 
@@ -44,8 +44,8 @@ returns c =
     let r = start .args .before in
     let places = start .args .places .now in
     let out = start .args .out .now in
-    by-step octets r places out _ (messageStep r places (length out) (length octets) (at-h .h .given .0 .0)) _ _ _
-    (step-of octets r places (length out) (Accepted (at-h .h .given .0 .0)) (sym (at-judge .judge .ensures) ∙ at-h .h .given .1))
+    by-step octets r places out _ (messageStep r places (length octets) (at-h .h .given .0 .0)) _ _ _
+    (step-of octets r places (Accepted (at-h .h .given .0 .0)) (sym (at-judge .judge .ensures) ∙ at-h .h .given .1))
     (at-accepted .accepted .ensures)
 
 returns-2 : tie.Need-returns-2
@@ -58,7 +58,7 @@ returns-2 c =
     let places = start .args .places .now in
     let out = start .args .out .now in
     refuses octets r places out _ (Frame (at-row .row .given .0 .0)) _
-    (step-of octets r places (length out) (Refused (at-row .row .given .0 .0)) (sym (at-judge .judge .ensures) ∙ at-row .row .given .1))
+    (step-of octets r places (Refused (at-row .row .given .0 .0)) (sym (at-judge .judge .ensures) ∙ at-row .row .given .1))
     (c .refused .ensures)
 
 pub join-spec : {M : Type 1} → statement M

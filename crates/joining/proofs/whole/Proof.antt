@@ -1,9 +1,6 @@
 -- 27, or the message as it is.
-use lib.ListN.{length}
 use borrow.Author.Needs.{needs}
-use Rattle.join_answers.specs.declared.Refusal.the-variants.{NoRoom}
-use Rattle.joining.proofs.Doing.{refuses, passes}
-use Rattle.joining.proofs.Deciding.{no-room}
+use Rattle.joining.proofs.Takes.{no-room, passes}
 use Rattle.joining.specs.Steps.{Passes}
 use Rattle.joining.proofs.whole.Statement.{statement}
 use Rattle.joining.proofs.whole.Tie as tie
@@ -16,8 +13,7 @@ returns c =
     let start = c .before .before .before .before in
     let octets = start .args .octets .now in
     let out = start .args .out .now in
-    λ places. refuses octets (start .args .before) places out _ NoRoom _ (no-room (length out) (length octets) Passes (c .before .if1 .taken))
-    (c .refused .ensures)
+    λ places. no-room octets (start .args .before) places out Passes _ (c .before .if1 .taken) (c .refused .ensures)
 
 write-octets-requires : tie.Need-write-octets-requires
 write-octets-requires c κs = search needs

@@ -4,7 +4,7 @@ use Prim.Native.Nat.{_-_}
 use lib.ListN.{length}
 use borrow.Author.Needs.{needs}
 use Rattle.lines.specs.Inner.{SameLF}
-use Rattle.lines.proofs.Steps.{found, onward, at-end}
+use Rattle.lines.proofs.TakenBySteps.{found, onward, at-end}
 use Rattle.lines.proofs.find_lf.Statement.{statement}
 use Rattle.lines.proofs.find_lf.Tie as tie
 

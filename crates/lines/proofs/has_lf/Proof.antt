@@ -6,7 +6,7 @@ use native.Mathlib.Omega.{arith}
 use lib.ListN.{length, drop}
 use borrow.Author.Needs.{needs}
 use Rattle.lines.specs.Lines.{hasLF}
-use Rattle.lines.proofs.Steps.{met-turn, met-done}
+use Rattle.lines.proofs.TakenBySteps.{met-turn, met-done}
 use Rattle.lines.proofs.has_lf.Statement.{statement}
 use Rattle.lines.proofs.has_lf.Tie as tie
 

@@ -5,7 +5,7 @@ use native.Mathlib.Omega.{arith}
 use lib.ListN.{length}
 use borrow.Author.Needs.{needs}
 use Rattle.lines.specs.Inner.{SameLF}
-use Rattle.lines.proofs.Steps.{run-passed}
+use Rattle.lines.proofs.TakenBySteps.{run-passed}
 use Rattle.lines.proofs.past_runs.Statement.{statement}
 use Rattle.lines.proofs.past_runs.Tie as tie
 

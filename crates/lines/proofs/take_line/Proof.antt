@@ -8,7 +8,7 @@ use lib.ListN.{length, take, drop}
 use lib.Seq.{sets}
 use Rattle.lines.proofs.take_line.Statement.{statement}
 use Rattle.lines.proofs.take_line.Tie as tie
-use Rattle.lines.proofs.Steps.{up-within, held-fits, count-fits, kept-as, steps-taken}
+use Rattle.lines.proofs.TakenBySteps.{up-within, held-fits, count-fits, kept-as, steps-taken}
 
 -- the search ends inside the block, not before its start
 stops : (c : tie.After-find-lf) →

@@ -3,7 +3,7 @@ use borrow.Author.Needs.{needs}
 use Rattle.profile.proofs.component.Statement.{statement}
 use Rattle.profile.proofs.component.Tie as tie
 use mathlib.Core.Path.{sym, _∙_}
-use Rattle.profile.proofs.Stages.{component-is}
+use Rattle.profile.proofs.StageAnswers.{component-is}
 
 read-requires : tie.Need-read-requires
 read-requires c κs = search needs

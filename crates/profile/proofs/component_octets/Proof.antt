@@ -1,9 +1,12 @@
 -- The octets of the part, or none.
 use borrow.Author.Needs.{needs}
+use Rattle.cdr_fields.specs.declared.Extent.{Extent}
+use Rattle.cdr_fields.specs.Extents.{PartOf}
+use Rattle.profile.proofs.PartNone.{none-of}
 use Rattle.profile.proofs.component_octets.Statement.{statement}
 use Rattle.profile.proofs.component_octets.Tie as tie
-use mathlib.Core.Path.{sym, _∙_}
-use Rattle.profile.proofs.Stages.{component-octets-are}
+use mathlib.Core.Path.{refl, sym, subst, _∙_}
+use Rattle.profile.proofs.StageAnswers.{component-octets-are}
 
 component-requires : tie.Need-component-requires
 component-requires c κs = search needs
@@ -30,12 +33,14 @@ returns : tie.Need-returns
 returns c =
     let a = c .before .before .before .before .before .before .args in
     let component = c .before .before .before .before .component in
-    c .octets-in .ensures ∙ sym (component-octets-are (a .s .now) (a .number) _ (sym (component .ensures) ∙ c .before .before .octets .given .1))
+    let part = component-octets-are (a .s .now) (a .number) _ (sym (component .ensures) ∙ c .before .before .octets .given .1) in
+    subst (λ (x : Extent). PartOf (a .s) x (c .octets-in .result)) (sym part) (c .octets-in .ensures)
 
 returns-2 : tie.Need-returns-2
 returns-2 c =
     let a = c .before .before .before .before .before .args in
-    sym (component-octets-are (a .s .now) (a .number) _ (sym (c .before .before .before .component .ensures) ∙ c .before .enum-told .given .1))
+    let part = component-octets-are (a .s .now) (a .number) _ (sym (c .before .before .before .component .ensures) ∙ c .before .enum-told .given .1) in
+    none-of (a .s) _ part _ refl refl refl
 
 pub component-octets-spec : {M : Type 1} → statement M
 component-octets-spec =

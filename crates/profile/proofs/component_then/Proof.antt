@@ -3,7 +3,7 @@ use borrow.Author.Needs.{needs}
 use Rattle.profile.proofs.component_then.Statement.{statement}
 use Rattle.profile.proofs.component_then.Tie as tie
 use mathlib.Core.Path.{sym, _∙_}
-use Rattle.profile.proofs.Stages.{component-beyond, component-there}
+use Rattle.profile.proofs.StageAnswers.{component-beyond, component-there}
 
 returns : tie.Need-returns
 returns c =

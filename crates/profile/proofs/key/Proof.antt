@@ -1,9 +1,12 @@
 -- The octets of the part, or none.
 use borrow.Author.Needs.{needs}
+use Rattle.cdr_fields.specs.declared.Extent.{Extent}
+use Rattle.cdr_fields.specs.Extents.{PartOf}
+use Rattle.profile.proofs.PartNone.{none-of}
 use Rattle.profile.proofs.key.Statement.{statement}
 use Rattle.profile.proofs.key.Tie as tie
-use mathlib.Core.Path.{sym, _∙_}
-use Rattle.profile.proofs.Stages.{key-octets-are}
+use mathlib.Core.Path.{refl, sym, subst, _∙_}
+use Rattle.profile.proofs.StageAnswers.{key-is}
 
 read-requires : tie.Need-read-requires
 read-requires c κs = search needs
@@ -30,12 +33,14 @@ returns : tie.Need-returns
 returns c =
     let a = c .before .before .before .before .before .before .args in
     let read = c .before .before .before .before .read in
-    c .octets-in .ensures ∙ sym (key-octets-are (a .s .now) _ (sym (read .ensures) ∙ c .before .before .profile .given .1))
+    let part = key-is (a .s .now) _ (sym (read .ensures) ∙ c .before .before .profile .given .1) in
+    subst (λ (x : Extent). PartOf (a .s) x (c .octets-in .result)) (sym part) (c .octets-in .ensures)
 
 returns-2 : tie.Need-returns-2
 returns-2 c =
     let a = c .before .before .before .before .before .args in
-    sym (key-octets-are (a .s .now) _ (sym (c .before .before .before .read .ensures) ∙ c .before .enum-told .given .1))
+    let part = key-is (a .s .now) _ (sym (c .before .before .before .read .ensures) ∙ c .before .enum-told .given .1) in
+    none-of (a .s) _ part _ refl refl refl
 
 pub key-spec : {M : Type 1} → statement M
 key-spec =

@@ -3,13 +3,13 @@ use borrow.Author.Needs.{needs}
 use Rattle.profile.proofs.key_then.Statement.{statement}
 use Rattle.profile.proofs.key_then.Tie as tie
 use mathlib.Core.Path.{sym, _∙_}
-use Rattle.profile.proofs.Stages.{key-then-is}
+use Rattle.profile.proofs.StageAnswers.{key-then-is}
 
 key-at-requires : tie.Need-key-at-requires
 key-at-requires c κs = search needs
 
-enum-known-from : tie.Need-enum-known-from
-enum-known-from c = search needs
+enum-known-octets : tie.Need-enum-known-octets
+enum-known-octets c = search needs
 
 list-then-requires : tie.Need-list-then-requires
 list-then-requires c κs = search needs
@@ -21,7 +21,7 @@ returns : tie.Need-returns
 returns c =
     let a = c .before .before .before .before .before .before .args in
     let key-at = c .before .before .before .before .key-at in
-    c .list-then .ensures ∙ sym (key-then-is (a .s .now) (a .head) (a .host) (a .port) (a .at) _ (sym (key-at .ensures) ∙ c .before .before .from .given .1))
+    c .list-then .ensures ∙ sym (key-then-is (a .s .now) (a .head) (a .host) (a .port) (a .at) _ (sym (key-at .ensures) ∙ c .before .before .octets .given .1))
 
 returns-2 : tie.Need-returns-2
 returns-2 c =
@@ -33,7 +33,7 @@ key-then-spec =
     tie.close
     (tie.spec
     key-at-requires
-    enum-known-from
+    enum-known-octets
     list-then-requires
     enum-known-refusal
     returns

@@ -3,7 +3,7 @@ use borrow.Author.Needs.{needs}
 use Rattle.profile.proofs.list_then.Statement.{statement}
 use Rattle.profile.proofs.list_then.Tie as tie
 use mathlib.Core.Path.{sym, _∙_}
-use Rattle.profile.proofs.Stages.{list-then-is}
+use Rattle.profile.proofs.StageAnswers.{list-then-is}
 
 list-at-requires : tie.Need-list-at-requires
 list-at-requires c κs = search needs

@@ -3,7 +3,7 @@ use borrow.Author.Needs.{needs}
 use Rattle.profile.proofs.port_then.Statement.{statement}
 use Rattle.profile.proofs.port_then.Tie as tie
 use mathlib.Core.Path.{sym, _∙_}
-use Rattle.profile.proofs.Stages.{port-then-is}
+use Rattle.profile.proofs.StageAnswers.{port-then-is}
 
 port-at-requires : tie.Need-port-at-requires
 port-at-requires c κs = search needs

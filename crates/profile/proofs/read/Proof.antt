@@ -3,7 +3,7 @@ use borrow.Author.Needs.{needs}
 use Rattle.profile.proofs.read.Statement.{statement}
 use Rattle.profile.proofs.read.Tie as tie
 use mathlib.Core.Path.{sym, _∙_}
-use Rattle.profile.proofs.Stages.{profile-too-long, profile-is}
+use Rattle.profile.proofs.StageAnswers.{profile-too-long, profile-is}
 
 returns : tie.Need-returns
 returns c = sym (profile-too-long (c .before .before .args .s .now) (c .if1 .taken))

@@ -3,7 +3,7 @@ use borrow.Author.Needs.{needs}
 use Rattle.profile.proofs.version_then.Statement.{statement}
 use Rattle.profile.proofs.version_then.Tie as tie
 use mathlib.Core.Path.{sym, _∙_}
-use Rattle.profile.proofs.Stages.{version-then-is}
+use Rattle.profile.proofs.StageAnswers.{version-then-is}
 
 version-at-requires : tie.Need-version-at-requires
 version-at-requires c κs = search needs

@@ -1,14 +1,12 @@
--- The tag, then the counted octets, which end in the body's.
+-- The tagged octets.
 use borrow.Author.Needs.{needs}
 use Rattle.profile_parts.proofs.component_at.Statement.{statement}
 use Rattle.profile_parts.proofs.component_at.Tie as tie
 use mathlib.Core.Path.{sym, _∙_}
-use Rattle.profile_parts.proofs.Parts.{component-none, component-is}
-use native.Mathlib.Omega.{arith}
-use Rattle.cdr_fields.proofs.Found.{counted-facts}
+use Rattle.profile_parts.proofs.PartsWithin.{component-is}
 
-read-field-requires : tie.Need-read-field-requires
-read-field-requires c κs = search needs
+tagged-at-requires : tie.Need-tagged-at-requires
+tagged-at-requires c κs = search needs
 
 enum-known-tag : tie.Need-enum-known-tag
 enum-known-tag c = search needs
@@ -18,50 +16,14 @@ enum-told c = search needs
 
 returns : tie.Need-returns
 returns c =
-    let a = c .before .before .before .before .args in
-    sym (component-none (a .s .now) (a .at) (a .order) (sym (c .before .before .read-field .ensures) ∙ c .enum-told .given .1))
-
-read-counted-requires : tie.Need-read-counted-requires
-read-counted-requires c κs = search needs
-
-enum-known-from : tie.Need-enum-known-from
-enum-known-from c = search needs
-
-add-t13 : tie.Need-add-t13
-add-t13 c =
-    let a = c .before .before .before .before .before .before .before .before .before .before .args in
-    let read-counted = c .before .before .before .before .read-counted in
-    let f = counted-facts (a .s .now) _ (a .order) _ _ (sym (read-counted .ensures) ∙ c .before .before .from .given .1) .1 in omega (arith, f)
-
-enum-told-2 : tie.Need-enum-told-2
-enum-told-2 c = search needs
+    let a = c .before .before .before .before .before .args in
+    sym (component-is (a .s .now) (a .at) (a .order) _ (sym (c .before .before .before .tagged-at .ensures) ∙ c .before .tag .given .1))
 
 returns-2 : tie.Need-returns-2
 returns-2 c =
-    let a = c .before .before .before .before .before .before .before .before .before .before .args in
-    let read-field = c .before .before .before .before .before .before .before .before .read-field in
-    let tag = c .before .before .before .before .before .before .tag in
-    let read-counted = c .before .before .before .before .read-counted in
-    sym (component-is (a .s .now) (a .at) (a .order) _ _ (sym (read-field .ensures) ∙ tag .given .1) _ (sym (read-counted .ensures) ∙ c .before .before .from .given .1))
-
-returns-3 : tie.Need-returns-3
-returns-3 c =
-    let a = c .before .before .before .before .before .before .before .before .args in
-    let read-field = c .before .before .before .before .before .before .read-field in
-    let tag = c .before .before .before .before .tag in
-    sym (component-is (a .s .now) (a .at) (a .order) _ _ (sym (read-field .ensures) ∙ tag .given .1) _ (sym (c .before .before .read-counted .ensures) ∙ c .enum-told2 .given .1))
+    let a = c .before .before .before .before .args in
+    sym (component-is (a .s .now) (a .at) (a .order) _ (sym (c .before .before .tagged-at .ensures) ∙ c .enum-told .given .1))
 
 pub component-at-spec : {M : Type 1} → statement M
 component-at-spec =
-    tie.close
-    (tie.spec
-    read-field-requires
-    enum-known-tag
-    enum-told
-    returns
-    read-counted-requires
-    enum-known-from
-    add-t13
-    enum-told-2
-    returns-2
-    returns-3)
+    tie.close (tie.spec tagged-at-requires enum-known-tag enum-told returns returns-2)

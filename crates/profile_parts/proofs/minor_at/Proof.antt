@@ -3,7 +3,7 @@ use borrow.Author.Needs.{needs}
 use Rattle.profile_parts.proofs.minor_at.Statement.{statement}
 use Rattle.profile_parts.proofs.minor_at.Tie as tie
 use mathlib.Core.Path.{sym, _∙_}
-use Rattle.profile_parts.proofs.Parts.{minor-none, minor-is}
+use Rattle.profile_parts.proofs.PartsWithin.{minor-none, minor-is}
 use native.Mathlib.Omega.{arith}
 use Rattle.cdr_text.proofs.Texts.{run-facts}
 

@@ -3,7 +3,7 @@ use borrow.Author.Needs.{needs}
 use Rattle.profile_parts.proofs.number_at.Statement.{statement}
 use Rattle.profile_parts.proofs.number_at.Tie as tie
 use mathlib.Core.Path.{sym, _∙_}
-use Rattle.profile_parts.proofs.Parts.{number-is}
+use Rattle.profile_parts.proofs.PartsWithin.{number-is}
 
 read-field-requires : tie.Need-read-field-requires
 read-field-requires c κs = search needs

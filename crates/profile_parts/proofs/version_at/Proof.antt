@@ -3,7 +3,7 @@ use borrow.Author.Needs.{needs}
 use Rattle.profile_parts.proofs.version_at.Statement.{statement}
 use Rattle.profile_parts.proofs.version_at.Tie as tie
 use mathlib.Core.Path.{sym, _∙_}
-use Rattle.profile_parts.proofs.Parts.{version-none, version-is}
+use Rattle.profile_parts.proofs.PartsWithin.{version-none, version-is}
 use native.Mathlib.Omega.{arith}
 use Rattle.cdr_text.proofs.Texts.{run-facts}
 

@@ -1,4 +1,4 @@
--- `reader::component_in` meets its contract: a walk of its MIR, by hand. The `Reader` that `new` returns is held in a local and passed to `moved`, and what that
+-- `profile_reader::component_in` meets its contract: a walk of its MIR, by hand. The `Reader` that `new` returns is held in a local and passed to `moved`, and what that
 -- returns to `component`. All that the proof knows of the three is that each meets its contract.
 -- A machine value that a call returns is stored and passed on as it is. In a local of a body MIR erases the lifetime of the struct's type, so the value is shown to
 -- have the type at `erased`: what the struct owns does not say the lifetime's name.
@@ -50,20 +50,20 @@ use Rattle.profile_parts.specs.declared.ComponentPart.{ComponentPart}
 use Rattle.profile_parts.proofs.ComponentPart as P
 use Rattle.profile_parts.proofs.ComponentPart.Laws as P′
 use Rattle.profile_reader.specs.declared.Reader.{Reader}
-use Rattle.profile_reader.proofs.Held.{B, slice, index, ordered, slice-typed, index-typed, order-typed, reader-typed}
+use Rattle.profile_reader.proofs.ReaderOwns.{B, slice, index, ordered, slice-typed, index-typed, order-typed, reader-typed}
 use Rattle.profile_reader.proofs.new as new
 use Rattle.profile_reader.proofs.new.Symbol as new-def
-use Rattle.profile_reader.proofs.new.Symbol.{name as #reader·new}
+use Rattle.profile_reader.proofs.new.Symbol.{name as #new}
 use Rattle.profile_reader.proofs.new.Met as new-thm
 use Rattle.profile_reader.proofs.moved as moved
 use Rattle.profile_reader.proofs.moved.Symbol as moved-def
-use Rattle.profile_reader.proofs.moved.Symbol.{name as #reader·moved}
+use Rattle.profile_reader.proofs.moved.Symbol.{name as #moved}
 use Rattle.profile_reader.proofs.moved.Met as moved-thm
 use Rattle.profile_reader.proofs.component as component
 use Rattle.profile_reader.proofs.component.Symbol as component-def
-use Rattle.profile_reader.proofs.component.Symbol.{name as #reader·component}
+use Rattle.profile_reader.proofs.component.Symbol.{name as #component}
 use Rattle.profile_reader.proofs.component.Met as component-thm
-use Rattle.profile_reader.proofs.component_in.Key.{name as #reader·component-in}
+use Rattle.profile_reader.proofs.component_in.Key.{name as #component-in}
 use Rattle.profile_reader.proofs.component_in as within
 use Rattle.profile_reader.proofs.component_in.Statement as stated
 use Rattle.profile_reader.proofs.component_in.Code as code
@@ -166,8 +166,8 @@ module _ {M : Type 1} (𝓤 : URA M) (H : Heap 𝓤) (A : Atoms 𝓤) (W : Given
       move ! (1 ∷ []) $ frame ! $ move ! (1 ∷ 0 ∷ []) $ frame ! $ done !
 
   module _ (C : Calls 𝓤 H) (Λ : Loops 𝓤 H) (fm : FmC 𝓤 H (W .laws) C)
-      (known-new : Triple 𝓤 (C #reader·new) (New 𝓤 H A mem run)) (known-moved : Triple 𝓤 (C #reader·moved) (Move 𝓤 H A mem run))
-      (known-find : Triple 𝓤 (C #reader·component) (Find 𝓤 H A mem run)) where
+      (known-new : Triple 𝓤 (C #new) (New 𝓤 H A mem run)) (known-moved : Triple 𝓤 (C #moved) (Move 𝓤 H A mem run))
+      (known-find : Triple 𝓤 (C #component) (Find 𝓤 H A mem run)) where
     walk : Is (ShrSlice (named 0) κ u8) s (slice s ∷ []) → ent 𝓤 (onEntry 𝓤 H A within.signature (κ, tt) (q, tt) a at)
         (WpFn 𝓤 H C Λ code.function (slice s ∷ index i ∷ ordered o ∷ []) Post)
     walk p =
@@ -207,8 +207,8 @@ module _ {M : Type 1} (𝓤 : URA M) (H : Heap 𝓤) (A : Atoms 𝓤) (W : Given
         by ! (exits t u″ (g ∙ found s i o r m e f))))))))))))))))))))
 
 module _ {M : Type 1} (𝓤 : URA M) (H : Heap 𝓤) (A : Atoms 𝓤) (W : Given 𝓤 H A) (mem : Memory → SProp 𝓤) (run : Routine → Fun 𝓤) (𝓣 : Tables 𝓤 H)
-    (known-new : Triple 𝓤 (𝓣 .C #reader·new) (New 𝓤 H A mem run)) (known-moved : Triple 𝓤 (𝓣 .C #reader·moved) (Move 𝓤 H A mem run))
-    (known-find : Triple 𝓤 (𝓣 .C #reader·component) (Find 𝓤 H A mem run)) where
+    (known-new : Triple 𝓤 (𝓣 .C #new) (New 𝓤 H A mem run)) (known-moved : Triple 𝓤 (𝓣 .C #moved) (Move 𝓤 H A mem run))
+    (known-find : Triple 𝓤 (𝓣 .C #component) (Find 𝓤 H A mem run)) where
   walks : Walks 𝓤 H A within.ended stayed (WpFn 𝓤 H (𝓣 .C) (𝓣 .Λ) code.function) (within.clauses 𝓤 H A mem run)
   walks = walked 𝓤 H A within.ended stayed (within.clauses 𝓤 H A mem run) (WpFn 𝓤 H (𝓣 .C) (𝓣 .Λ) code.function)
       (λ κs. (slice-vals, (LL.vals I.the-type I′.the-laws, (EL.vals O.the-type O′.the-laws, tt))))
@@ -228,8 +228,8 @@ pub component-in-spec : {M : Type 1} → stated.statement M
 unfolding code.routine tablesOf
 component-in-spec 𝓤 H 𝓜 𝓖 𝓡 =
     entered 𝓤 H (tripleOf 𝓤 H (𝓖 .A) within.signature (within.spec 𝓤 H (𝓖 .A) (𝓜 .mem) (𝓡 .run)))
-    (tables 𝓤 H 𝓜 𝓡 code.env .C) (tables 𝓤 H 𝓜 𝓡 code.env .Λ) #reader·component-in code.function (code.unfolded 𝓤 H 𝓜 𝓡)
+    (tables 𝓤 H 𝓜 𝓡 code.env .C) (tables 𝓤 H 𝓜 𝓡 code.env .Λ) #component-in code.function (code.unfolded 𝓤 H 𝓜 𝓡)
     (meets 𝓤 H (𝓖 .A) (givenOf 𝓤 H 𝓜 𝓖) (𝓜 .mem) (𝓡 .run) (tablesOf 𝓤 H 𝓜 (tables 𝓤 H 𝓜 𝓡 code.env))
-    (cited 𝓤 H (New 𝓤 H (𝓖 .A) (𝓜 .mem) (𝓡 .run)) 𝓜 𝓡 code.env #reader·new new-def.routine code.calls-profile-reader·new (new-thm.met 𝓤 H 𝓜 𝓖 𝓡))
-    (cited 𝓤 H (Move 𝓤 H (𝓖 .A) (𝓜 .mem) (𝓡 .run)) 𝓜 𝓡 code.env #reader·moved moved-def.routine code.calls-profile-reader·moved (moved-thm.met 𝓤 H 𝓜 𝓖 𝓡))
-    (cited 𝓤 H (Find 𝓤 H (𝓖 .A) (𝓜 .mem) (𝓡 .run)) 𝓜 𝓡 code.env #reader·component component-def.routine code.calls-profile-reader·component (component-thm.met 𝓤 H 𝓜 𝓖 𝓡)))
+    (cited 𝓤 H (New 𝓤 H (𝓖 .A) (𝓜 .mem) (𝓡 .run)) 𝓜 𝓡 code.env #new new-def.routine code.calls-profile-reader·new (new-thm.met 𝓤 H 𝓜 𝓖 𝓡))
+    (cited 𝓤 H (Move 𝓤 H (𝓖 .A) (𝓜 .mem) (𝓡 .run)) 𝓜 𝓡 code.env #moved moved-def.routine code.calls-profile-reader·moved (moved-thm.met 𝓤 H 𝓜 𝓖 𝓡))
+    (cited 𝓤 H (Find 𝓤 H (𝓖 .A) (𝓜 .mem) (𝓡 .run)) 𝓜 𝓡 code.env #component component-def.routine code.calls-profile-reader·component (component-thm.met 𝓤 H 𝓜 𝓖 𝓡)))

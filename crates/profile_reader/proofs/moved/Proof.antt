@@ -1,4 +1,4 @@
--- `reader::moved` meets its contract: a walk of its MIR, by hand. A struct is made anew of the slice that the one passed holds, another index and an order.
+-- `profile_reader::moved` meets its contract: a walk of its MIR, by hand. A struct is made anew of the slice that the one passed holds, another index and an order.
 -- The struct is Copy: what it owns is had twice, one copy is kept whole for the exit, and of the other what octets owns, with the facts of the index and of the order,
 -- is what the result owns.
 -- Assumes nothing.
@@ -38,8 +38,8 @@ use Rattle.cdr.proofs.Order as O
 use Rattle.cdr.proofs.Order.Laws as O′
 use Rattle.profile_reader.specs.declared.Reader.{Reader}
 use Rattle.profile_reader.proofs.Reader.Laws as T′
-use Rattle.profile_reader.proofs.Held.{B, D, L, index, ordered, mach, Own, slice-typed, index-typed, order-typed, reader-typed, builds}
-use Rattle.profile_reader.proofs.moved.Key.{name as #reader·moved}
+use Rattle.profile_reader.proofs.ReaderOwns.{B, D, L, index, ordered, mach, Own, slice-typed, index-typed, order-typed, reader-typed, builds}
+use Rattle.profile_reader.proofs.moved.Key.{name as #moved}
 use Rattle.profile_reader.proofs.moved as moved
 use Rattle.profile_reader.proofs.moved.Statement as stated
 use Rattle.profile_reader.proofs.moved.Code as code
@@ -112,5 +112,5 @@ pub moved-spec : {M : Type 1} → stated.statement M
 unfolding code.routine tablesOf
 moved-spec 𝓤 H 𝓜 𝓖 𝓡 =
     entered 𝓤 H (tripleOf 𝓤 H (𝓖 .A) moved.signature (moved.spec 𝓤 H (𝓖 .A) (𝓜 .mem) (𝓡 .run)))
-    (tables 𝓤 H 𝓜 𝓡 code.env .C) (tables 𝓤 H 𝓜 𝓡 code.env .Λ) #reader·moved code.function (code.unfolded 𝓤 H 𝓜 𝓡)
+    (tables 𝓤 H 𝓜 𝓡 code.env .C) (tables 𝓤 H 𝓜 𝓡 code.env .Λ) #moved code.function (code.unfolded 𝓤 H 𝓜 𝓡)
     (moved-meets 𝓤 H (𝓖 .A) (givenOf 𝓤 H 𝓜 𝓖) (𝓜 .mem) (𝓡 .run) (tablesOf 𝓤 H 𝓜 (tables 𝓤 H 𝓜 𝓡 code.env)))

@@ -1,4 +1,4 @@
--- `reader::new` meets its contract: a walk of its MIR, by hand. A `Reader` is made in the result's local of the slice passed, of the index 0 and of the order `Big`,
+-- `profile_reader::new` meets its contract: a walk of its MIR, by hand. A `Reader` is made in the result's local of the slice passed, of the index 0 and of the order `Big`,
 -- which are made in locals first.
 -- A `&[u8]` is Copy, so what it owns is had twice: once for octets at exit, and once inside the result, beside the facts of the index and of the order.
 -- Assumes nothing.
@@ -41,8 +41,8 @@ use Rattle.cdr.proofs.Index.Laws as I′
 use Rattle.cdr.proofs.Order as O
 use Rattle.cdr.proofs.Order.Laws as O′
 use Rattle.profile_reader.specs.declared.Reader.{Reader}
-use Rattle.profile_reader.proofs.Held.{D, L, slice, index, ordered, mach, slice-typed, index-typed, order-typed, reader-typed, builds}
-use Rattle.profile_reader.proofs.new.Key.{name as #reader·new}
+use Rattle.profile_reader.proofs.ReaderOwns.{D, L, slice, index, ordered, mach, slice-typed, index-typed, order-typed, reader-typed, builds}
+use Rattle.profile_reader.proofs.new.Key.{name as #new}
 use Rattle.profile_reader.proofs.new as new
 use Rattle.profile_reader.proofs.new.Statement as stated
 use Rattle.profile_reader.proofs.new.Code as code
@@ -109,5 +109,5 @@ pub new-spec : {M : Type 1} → stated.statement M
 unfolding code.routine tablesOf
 new-spec 𝓤 H 𝓜 𝓖 𝓡 =
     entered 𝓤 H (tripleOf 𝓤 H (𝓖 .A) new.signature (new.spec 𝓤 H (𝓖 .A) (𝓜 .mem) (𝓡 .run)))
-    (tables 𝓤 H 𝓜 𝓡 code.env .C) (tables 𝓤 H 𝓜 𝓡 code.env .Λ) #reader·new code.function (code.unfolded 𝓤 H 𝓜 𝓡)
+    (tables 𝓤 H 𝓜 𝓡 code.env .C) (tables 𝓤 H 𝓜 𝓡 code.env .Λ) #new code.function (code.unfolded 𝓤 H 𝓜 𝓡)
     (new-meets 𝓤 H (𝓖 .A) (givenOf 𝓤 H 𝓜 𝓖) (𝓜 .mem) (𝓡 .run) (tablesOf 𝓤 H 𝓜 (tables 𝓤 H 𝓜 𝓡 code.env)))

@@ -3,15 +3,15 @@ use mathlib.Core.Path.{ap}
 use Prim.Native.Nat.{ℕ, _-_}
 use native.Mathlib.Omega.{arith}
 use lib.ListN.{length}
-use Rattle.questions.specs.Blocks.{workOf}
+use Rattle.questions.specs.Blocks.{askWork}
 use Rattle.questions.proofs.Blocks.{Going, going-start, going-turn}
-use Rattle.questions.proofs.Turns.{block-answered}
+use Rattle.questions.proofs.TurnsAnswer.{block-answered}
 use borrow.Author.Needs.{needs}
 use Rattle.questions.proofs.answer_block.Statement.{statement}
 use Rattle.questions.proofs.answer_block.Tie as tie
 
 abbrev Inv-loop : tie.InvT-loop
-Inv-loop block from line₀ out₀ table₀ kept at₀ line out table at = Going block (workOf at₀ line₀ out₀ table₀) (workOf at line out table)
+Inv-loop block from line₀ out₀ table₀ kept at₀ line out table at = Going block (askWork at₀ line₀ out₀ table₀) (askWork at line out table)
 
 abbrev μ-loop : tie.MeasureT-loop
 μ-loop block from line₀ out₀ table₀ kept at₀ line out table at = length block - at .next

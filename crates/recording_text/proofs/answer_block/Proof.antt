@@ -3,7 +3,7 @@ use mathlib.Core.Path.{ap, _∙_}
 use Prim.Native.Nat.{ℕ}
 use lib.ListN.{length}
 use Rattle.recording_text.specs.Blocks.{workOf, blockFrom}
-use Rattle.recording_text.proofs.Listings.{block-answered}
+use Rattle.recording_text.proofs.BlockListed.{block-answered}
 use borrow.Author.Needs.{needs}
 use Rattle.recording_text.proofs.answer_block.Statement.{statement}
 use Rattle.recording_text.proofs.answer_block.Tie as tie

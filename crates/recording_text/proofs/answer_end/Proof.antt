@@ -1,7 +1,7 @@
 -- A line that was begun is listed, then the closing line is put.
 use mathlib.Core.Path.{sym}
 use lib.Seq.{length-take-le}
-use Rattle.recording_text.proofs.Ends.{kept-fits, end-full, end-none, end-fits, end-one}
+use Rattle.recording_text.proofs.EndListed.{kept-fits, end-full, end-none, end-fits, end-one}
 use borrow.Author.Needs.{needs}
 use Rattle.recording_text.proofs.answer_end.Statement.{statement}
 use Rattle.recording_text.proofs.answer_end.Tie as tie

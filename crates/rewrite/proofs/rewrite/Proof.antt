@@ -4,7 +4,7 @@ use Rattle.rewrite.proofs.rewrite.Statement.{statement}
 use Rattle.rewrite.proofs.rewrite.Tie as tie
 use Rattle.value_meaning.specs.Sinks.{source}
 use Rattle.rewrite_meaning.specs.Written.{target}
-use Rattle.rewrite.proofs.Answers as answers
+use Rattle.rewrite.proofs.RewriteCases as answers
 use Rattle.value.specs.Typed.{typedBy}
 
 check-requires : tie.Need-check-requires
@@ -17,7 +17,8 @@ rewrite-read-requires : tie.Need-rewrite-read-requires
 rewrite-read-requires c κs =
     let a = c .before .before .before .before .before .before .before .before .args in
     let check = c .before .before .before .before .check in
-    answers.readable (a .t .now) (a .torder) (source (a .v .now) (a .order) (a .start)) (typedBy (check .result)) (check .ensures) (c .before .enum-told .given .1)
+    answers.readable (a .types .now) (a .torder) (source (a .value .now) (a .order) (a .start)) (typedBy (check .result)) (check .ensures)
+    (c .before .enum-told .given .1)
 
 enum-known-judged : tie.Need-enum-known-judged
 enum-known-judged c = search needs
@@ -30,13 +31,15 @@ returns c =
     let a = c .before .before .before .before .before .before .before .before .before .before .before .args in
     let check = c .before .before .before .before .before .before .before .check in
     let enum-told = c .before .before .before .before .enum-told in
-    answers.read-under (a .t .now) (a .torder) (source (a .v .now) (a .order) (a .start)) (typedBy (check .result)) (check .ensures) (target (a .chosen) (a .index)) (a .out .now) (enum-told .given .1) _ _ (c .before .before .rewrite-read .ensures)
+    answers.read-under (a .types .now) (a .torder) (source (a .value .now) (a .order) (a .start)) (typedBy (check .result)) (check .ensures)
+    (target (a .chosen) (a .index)) (a .out .now) (enum-told .given .1) _ _ (c .before .before .rewrite-read .ensures)
 
 returns-2 : tie.Need-returns-2
 returns-2 c =
     let a = c .before .before .before .before .before .before .before .before .args in
     let check = c .before .before .before .before .check in
-    answers.refused-before (a .t .now) (a .torder) (source (a .v .now) (a .order) (a .start)) (typedBy (check .result)) (check .ensures) (target (a .chosen) (a .index)) (a .out .now) _ (c .before .judged .given .1)
+    answers.refused-before (a .types .now) (a .torder) (source (a .value .now) (a .order) (a .start)) (typedBy (check .result))
+    (check .ensures) (target (a .chosen) (a .index)) (a .out .now) _ (c .before .judged .given .1)
 
 pub rewrite-spec : {M : Type 1} → statement M
 rewrite-spec =

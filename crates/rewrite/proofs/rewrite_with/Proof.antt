@@ -8,7 +8,7 @@ use native.Mathlib.Omega.{arith}
 use Rattle.value_meaning.specs.Sinks.{source}
 use Rattle.value_meaning.specs.Visit.{checked}
 use Rattle.rewrite_meaning.specs.Written.{target}
-use Rattle.rewrite.proofs.Done as walks
+use Rattle.rewrite.proofs.WalkIsWritten as walks
 use Rattle.type_list.specs.Arrays.{kindsMet}
 
 walk-requires : tie.Need-walk-requires
@@ -23,7 +23,9 @@ returns c =
     let shared-slice-known2 = c .before .before .before .before .before .before .before .before .shared-slice-known2 in
     let pre = c .before .before .before .before .before .before .before .before .before .before .pre in
     let walk = c .before .before .before .before .walk in
-    walks.walk-refused (checked (a .t .now) (kindsMet (a .met))) (source (a .v .now) (a .order) (a .start)) (target (a .chosen) (a .index)) (λ k. omega (arith, shared-slice-known2 .given k)) (pre .0) (a .table .now) (pre .1) (walk .result) _ (walk .ensures) (a .out .now) (c .if1 .taken)
+    walks.walk-refused (checked (a .types .now) (kindsMet (a .met))) (source (a .value .now) (a .order) (a .start))
+    (target (a .chosen) (a .index)) (λ k. omega (arith, shared-slice-known2 .given k)) (pre .0) (a .table .now) (pre .1) (walk .result) _
+    (walk .ensures) (a .out .now) (c .if1 .taken)
 
 count-requires : tie.Need-count-requires
 count-requires c κs =
@@ -31,7 +33,9 @@ count-requires c κs =
     let shared-slice-known2 = c .before .before .before .before .before .before .before .before .before .shared-slice-known2 in
     let pre = c .before .before .before .before .before .before .before .before .before .before .before .pre in
     let walk = c .before .before .before .before .before .walk in
-    walks.walk-rows (checked (a .t .now) (kindsMet (a .met))) (source (a .v .now) (a .order) (a .start)) (target (a .chosen) (a .index)) (λ k. omega (arith, shared-slice-known2 .given k)) (pre .0) (a .table .now) (pre .1) (walk .result) _ (walk .ensures) (a .out .now) (c .before .if1 .left) .sized
+    walks.walk-rows (checked (a .types .now) (kindsMet (a .met))) (source (a .value .now) (a .order) (a .start))
+    (target (a .chosen) (a .index)) (λ k. omega (arith, shared-slice-known2 .given k)) (pre .0) (a .table .now) (pre .1) (walk .result) _
+    (walk .ensures) (a .out .now) (c .before .if1 .left) .sized
 
 same-length-2 : tie.Need-same-length-2
 same-length-2 c = search needs
@@ -43,7 +47,9 @@ returns-2 c =
     let pre = c .before .before .before .before .before .before .before .before .before .before .before .before .before .pre in
     let walk = c .before .before .before .before .before .before .before .walk in
     let count = c .before .count in
-    walks.walk-short (checked (a .t .now) (kindsMet (a .met))) (source (a .v .now) (a .order) (a .start)) (target (a .chosen) (a .index)) (λ k. omega (arith, shared-slice-known2 .given k)) (pre .0) (a .table .now) (pre .1) (walk .result) _ (walk .ensures) (a .out .now) (c .before .before .before .if1 .left) (count .result) (count .ensures) (c .if2 .taken)
+    walks.walk-short (checked (a .types .now) (kindsMet (a .met))) (source (a .value .now) (a .order) (a .start))
+    (target (a .chosen) (a .index)) (λ k. omega (arith, shared-slice-known2 .given k)) (pre .0) (a .table .now) (pre .1) (walk .result) _
+    (walk .ensures) (a .out .now) (c .before .before .before .if1 .left) (count .result) (count .ensures) (c .if2 .taken)
 
 write-requires : tie.Need-write-requires
 write-requires c κs =
@@ -51,8 +57,12 @@ write-requires c κs =
     let shared-slice-known2 = c .before .before .before .before .before .before .before .before .before .before .before .before .before .shared-slice-known2 in
     let pre = c .before .before .before .before .before .before .before .before .before .before .before .before .before .before .before .pre in
     let walk = c .before .before .before .before .before .before .before .before .before .walk in
-    let if1 = c .before .before .before .before .before .if1 in
-    (walks.walk-rows (checked (a .t .now) (kindsMet (a .met))) (source (a .v .now) (a .order) (a .start)) (target (a .chosen) (a .index)) (λ k. omega (arith, shared-slice-known2 .given k)) (pre .0) (a .table .now) (pre .1) (walk .result) _ (walk .ensures) (a .out .now) (if1 .left), omega (arith, c .before .before .before .count .ensures, c .before .before .if2 .left))
+    let if1 = c .before .before .before .before .before .if1 in (
+      walks.walk-rows (checked (a .types .now) (kindsMet (a .met))) (source (a .value .now) (a .order) (a .start))
+          (target (a .chosen) (a .index)) (λ k. omega (arith, shared-slice-known2 .given k)) (pre .0) (a .table .now) (pre .1) (walk .result) _
+          (walk .ensures) (a .out .now) (if1 .left),
+      omega (arith, c .before .before .before .count .ensures, c .before .before .if2 .left),
+    )
 
 same-length-3 : tie.Need-same-length-3
 same-length-3 c = search needs
@@ -62,14 +72,19 @@ same-length-4 c = search needs
 
 returns-3 : tie.Need-returns-3
 returns-3 c =
-    let a = c .before .before .before .before .before .before .before .before .before .before .before .before .before .before .before .before .before .before .args in
-    let shared-slice-known2 = c .before .before .before .before .before .before .before .before .before .before .before .before .before .before .before .before .shared-slice-known2 in
-    let pre = c .before .before .before .before .before .before .before .before .before .before .before .before .before .before .before .before .before .before .pre in
+    let a = c .before .before .before .before .before .before .before .before .before .before .before .before .before .before .before
+    .before .before .before .args in
+    let shared-slice-known2 = c .before .before .before .before .before .before .before .before .before .before .before .before .before
+    .before .before .before .shared-slice-known2 in
+    let pre = c .before .before .before .before .before .before .before .before .before .before .before .before .before .before .before
+    .before .before .before .pre in
     let walk = c .before .before .before .before .before .before .before .before .before .before .before .before .walk in
     let if1 = c .before .before .before .before .before .before .before .before .if1 in
     let count = c .before .before .before .before .before .before .count in
     let if2 = c .before .before .before .before .before .if2 in
-    walks.walk-written (checked (a .t .now) (kindsMet (a .met))) (source (a .v .now) (a .order) (a .start)) (target (a .chosen) (a .index)) (λ k. omega (arith, shared-slice-known2 .given k)) (pre .0) (a .table .now) (pre .1) (walk .result) _ (walk .ensures) (a .out .now) (if1 .left) (count .result) (count .ensures) (if2 .left) _ (c .before .before .write .ensures)
+    walks.walk-written (checked (a .types .now) (kindsMet (a .met))) (source (a .value .now) (a .order) (a .start))
+    (target (a .chosen) (a .index)) (λ k. omega (arith, shared-slice-known2 .given k)) (pre .0) (a .table .now) (pre .1) (walk .result) _
+    (walk .ensures) (a .out .now) (if1 .left) (count .result) (count .ensures) (if2 .left) _ (c .before .before .write .ensures)
 
 pub rewrite-with-spec : {M : Type 1} → statement M
 rewrite-with-spec =

@@ -2,9 +2,6 @@
 use borrow.Author.Needs.{needs}
 use Rattle.type_fields.proofs.label_before.Statement.{statement}
 use Rattle.type_fields.proofs.label_before.Tie as tie
-use Rattle.type_fields.proofs.label_before.Reads as reads
-use Rattle.type_fields.proofs.label_before.Lts as lts
-use Rattle.type_list.proofs.case_of.Reads as case-of-reads
 use mathlib.Core.Path.{sym, _∙_}
 use Rattle.type_fields.specs.Fields.{labelBefore}
 

@@ -2,12 +2,6 @@
 use borrow.Author.Needs.{needs}
 use Rattle.type_fields.proofs.label_step.Statement.{statement}
 use Rattle.type_fields.proofs.label_step.Tie as tie
-use Rattle.type_fields.proofs.label_step.Reads as reads
-use Rattle.type_fields.proofs.label_step.Lts as lts
-use Rattle.cdr_fields.proofs.read_field.Reads as read-field-reads
-use Rattle.type_fields.proofs.label_before.Reads as label-before-reads
-use Rattle.type_list.proofs.counts.Reads as counts-reads
-use Rattle.type_list.proofs.out_of_kind.Reads as out-of-kind-reads
 use mathlib.Core.Path.{sym, _∙_}
 
 enum-known-labels : tie.Need-enum-known-labels
@@ -38,16 +32,27 @@ out-of-kind-requires : tie.Need-out-of-kind-requires
 out-of-kind-requires c κs = search needs
 
 returns-3 : tie.Need-returns-3
-returns-3 c = rw (c .before .before .before .before .before .before .before .before .before .labels .given .1, sym (c .before .before .before .before .before .before .before .read-field .ensures) ∙ c .before .before .before .before .before .label .given .1, sym (c .before .out-of-kind .ensures) ∙ c .if2 .taken)
+returns-3 c =
+    let of = c .before .before .before .before .before .before .before .before .before .labels .given .1 in
+    let read = sym (c .before .before .before .before .before .before .before .read-field .ensures) ∙ c .before .before .before .before .before .label .given .1 in
+    rw (of, read, sym (c .before .out-of-kind .ensures) ∙ c .if2 .taken)
 
 label-before-requires : tie.Need-label-before-requires
 label-before-requires c κs = search needs
 
 returns-4 : tie.Need-returns-4
-returns-4 c = rw (c .before .before .before .before .before .before .before .before .before .before .before .labels .given .1, sym (c .before .before .before .before .before .before .before .before .before .read-field .ensures) ∙ c .before .before .before .before .before .before .before .label .given .1, sym (c .before .before .before .out-of-kind .ensures) ∙ c .before .before .if2 .left, sym (c .before .label-before .ensures) ∙ c .if3 .taken)
+returns-4 c =
+    let of = c .before .before .before .before .before .before .before .before .before .before .before .labels .given .1 in
+    let read = sym (c .before .before .before .before .before .before .before .before .before .read-field .ensures) ∙ c .before .before .before .before .before .before .before .label .given .1 in
+    let low = sym (c .before .before .before .out-of-kind .ensures) ∙ c .before .before .if2 .left in
+    rw (of, read, low, sym (c .before .label-before .ensures) ∙ c .if3 .taken)
 
 returns-5 : tie.Need-returns-5
-returns-5 c = rw (c .before .before .before .before .before .before .before .before .before .before .before .labels .given .1, sym (c .before .before .before .before .before .before .before .before .before .read-field .ensures) ∙ c .before .before .before .before .before .before .before .label .given .1, sym (c .before .before .before .out-of-kind .ensures) ∙ c .before .before .if2 .left, sym (c .before .label-before .ensures) ∙ c .if3 .left)
+returns-5 c =
+    let of = c .before .before .before .before .before .before .before .before .before .before .before .labels .given .1 in
+    let read = sym (c .before .before .before .before .before .before .before .before .before .read-field .ensures) ∙ c .before .before .before .before .before .before .before .label .given .1 in
+    let low = sym (c .before .before .before .out-of-kind .ensures) ∙ c .before .before .if2 .left in
+    rw (of, read, low, sym (c .before .label-before .ensures) ∙ c .if3 .left)
 
 returns-6 : tie.Need-returns-6
 returns-6 c = search needs

@@ -6,7 +6,7 @@ use mathlib.Core.Path.{sym, _∙_}
 use native.Mathlib.Omega.{arith}
 use borrow.Author.Tests.{lt-ltb, le-ltb, eq-eqb, ne-eqb}
 use Rattle.type_fields.specs.Fields.{partOf}
-use Rattle.cdr_fields.proofs.Fields.{field-facts}
+use Rattle.cdr_fields.proofs.FieldsRead.{field-facts}
 use Rattle.cdr.specs.declared.Size.the-variants.{Four}
 
 read-field-requires : tie.Need-read-field-requires

@@ -5,7 +5,7 @@ use Rattle.type_fields.proofs.text_step.Tie as tie
 use mathlib.Core.Path.{sym, _∙_}
 use native.Mathlib.Omega.{arith}
 use Rattle.type_fields.specs.Fields.{textStep}
-use Rattle.cdr_fields.proofs.Found.{string-facts}
+use Rattle.cdr_fields.proofs.FieldsWithin.{string-facts}
 
 read-string-requires : tie.Need-read-string-requires
 read-string-requires c κs = search needs

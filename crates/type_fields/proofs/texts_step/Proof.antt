@@ -7,7 +7,7 @@ use native.Mathlib.Omega.{arith}
 use Prim.Native.Nat.{ℕ, _-_, _≤_}
 use native.Mathlib.Nat.{sub-zero}
 use Rattle.type_fields.specs.Fields.{textsStep}
-use Rattle.type_fields.proofs.Turns.{texts-refused, texts-next, texts-end}
+use Rattle.type_fields.proofs.NextName.{texts-refused, texts-next, texts-end}
 
 abbrev Inv-loop : tie.InvT-loop
 Inv-loop s order count next₀ k₀ next k = (k ≤ count) × (textsStep s order (count - k) next ≡ textsStep s order count next₀)

@@ -4,7 +4,7 @@ use Rattle.type_kinds.proofs.field_in.Statement.{statement}
 use Rattle.type_kinds.proofs.field_in.Tie as tie
 use mathlib.Core.Path.{sym}
 use Rattle.type_kinds.specs.Parts.{fieldIn}
-use Rattle.type_kinds.proofs.Reading.{rest, field-beyond}
+use Rattle.type_kinds.proofs.FieldInside.{rest, field-beyond}
 
 returns : tie.Need-returns
 unfolding fieldIn

@@ -6,7 +6,7 @@ use mathlib.Core.Path.{sym, _∙_}
 use native.Mathlib.Omega.{arith}
 use borrow.Author.Tests.{eq-eqb, ne-eqb}
 use Rattle.type_kinds.specs.Parts.{spotAt}
-use Rattle.type_kinds.proofs.Reading.{field-inside}
+use Rattle.type_kinds.proofs.FieldInside.{field-inside}
 use Rattle.cdr.specs.declared.Size.the-variants.{Four}
 
 field-in-requires : tie.Need-field-in-requires
@@ -40,8 +40,8 @@ skip-kind-requires c κs = search needs
 enum-known-over : tie.Need-enum-known-over
 enum-known-over c = search needs
 
-behind-requires : tie.Need-behind-requires
-behind-requires c κs =
+place-before-requires : tie.Need-place-before-requires
+place-before-requires c κs =
     let a = c .before .before .before .before .before .before .before .before .before .before .before .args in
     let f = field-inside (a .v .now) (a .start) (a .at) Four (a .order) _ _ (sym (c .before .before .before .before .before .before .before .before .before .field-in .ensures) ∙ c .before .before .before .before .before .before .before .kind .given .1) in
     (omega (arith, f .0), omega (arith, f .1))
@@ -54,7 +54,7 @@ unfolding spotAt
 returns-3 c =
     let given = sym (c .before .before .before .before .before .before .before .before .before .before .field-in .ensures) ∙ c .before .before .before .before .before .before .before .before .kind .given .1 in
     let passes = sym (c .before .before .before .before .skip-kind .ensures) ∙ c .before .before .over .given .1 in
-    rw (given, ne-eqb _ _ (c .before .before .before .before .before .before .if1 .left), ← c .before .before .before .before .before .form-of .ensures, passes, ← c .behind .ensures)
+    rw (given, ne-eqb _ _ (c .before .before .before .before .before .before .if1 .left), ← c .before .before .before .before .before .form-of .ensures, passes, ← c .place-before .ensures)
 
 returns-4 : tie.Need-returns-4
 unfolding spotAt
@@ -77,7 +77,7 @@ spot-at-spec =
     form-of-requires
     skip-kind-requires
     enum-known-over
-    behind-requires
+    place-before-requires
     enum-told-2
     returns-3
     returns-4)

@@ -4,7 +4,7 @@ use Rattle.type_kinds.proofs.target_of.Statement.{statement}
 use Rattle.type_kinds.proofs.target_of.Tie as tie
 use mathlib.Core.Path.{sym}
 use native.Mathlib.Omega.{arith}
-use Rattle.type_kinds.proofs.Reading.{target-forward, target-over, target-under, target-back}
+use Rattle.type_kinds.proofs.FieldInside.{target-forward, target-over, target-under, target-back}
 
 sub-if2 : tie.Need-sub-if2
 sub-if2 c = search needs

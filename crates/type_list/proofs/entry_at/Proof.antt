@@ -2,13 +2,13 @@
 use borrow.Author.Needs.{needs}
 use Rattle.type_list.proofs.entry_at.Statement.{statement}
 use Rattle.type_list.proofs.entry_at.Tie as tie
-use mathlib.Core.Path.{_≡_, refl, sym, ap, _∙_}
-use Prim.Native.Nat.{ℕ, _<_}
+use mathlib.Core.Path.{sym, ap, _∙_}
+use Prim.Native.Nat.{_<_}
 use native.Mathlib.Omega.{arith}
 use lib.ListN.{getD}
 use Rattle.cdr.specs.declared.Order.{Order}
 use Rattle.type_kinds.specs.Parts.{placeOf, writtenAt}
-use Rattle.type_list.proofs.Finding.{kind-entry, kind-past}
+use Rattle.type_list.proofs.KindsMet.{kind-entry, kind-past}
 
 held-in-requires : tie.Need-held-in-requires
 held-in-requires c κs = search needs

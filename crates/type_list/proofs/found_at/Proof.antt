@@ -2,23 +2,18 @@
 use borrow.Author.Needs.{needs}
 use Rattle.type_list.proofs.found_at.Statement.{statement}
 use Rattle.type_list.proofs.found_at.Tie as tie
-use Rattle.type_list.proofs.found_at.Reads as reads
-use Rattle.type_list.proofs.found_at.Lts as lts
-use Rattle.type_kinds.proofs.parameters_at.Reads as parameters-at-reads
-use Rattle.type_list.proofs.held_in.Reads as held-in-reads
-use Rattle.type_list.proofs.order_in.Reads as order-in-reads
-use mathlib.Core.Path.{_≡_, refl, sym, ap, _∙_, subst}
+use mathlib.Core.Path.{_≡_, sym, ap, _∙_}
 use Prim.Native.Nat.{ℕ, _-_, _<_}
 use native.Mathlib.Omega.{arith}
 use lib.ListN.{getD}
 use Rattle.choices.proofs.Turns.{Left, left-none, left-here, left-more, left-end}
 use Rattle.cdr.specs.declared.Order.{Order}
-use Rattle.type_kinds.specs.declared.Kind.{Kind}
 use Rattle.type_kinds.specs.Parts.{placeOf, writtenAt}
-use Rattle.type_kinds.specs.Parameters.{parametersAt}
+use Rattle.type_parameters.specs.Parameters.{parametersAt}
 use Rattle.type_list.specs.Met.{parametersOf, atPosition, foundAt}
-use Rattle.type_list.specs.Arrays.{orderIn, heldIn, kindsMet}
-use Rattle.type_list.proofs.Finding.{findIn, found-here, found-on, find-is, length-kinds, kind-entry, position-is, position-none}
+use Rattle.type_list.specs.Arrays.{orderIn, kindsHeld, kindsMet}
+use Rattle.type_list.proofs.KindsMet.{length-kinds, kind-entry}
+use Rattle.type_list.proofs.Positions.{findIn, found-here, found-on, find-is, position-is, position-none}
 
 abbrev Inv-loop : tie.InvT-loop
 Inv-loop v place met n i₀ i = Left (findIn (met .places) (place .0)) n 0 i i
@@ -64,16 +59,14 @@ parameters-at-requires c κs = search needs
 returns : tie.Need-returns Inv-loop μ-loop
 unfolding foundAt parametersOf
 returns c =
-    let a2 = c .before .before .before .before .before .before .before .before .before .before .before .args in
-    let loop2 = c .before .before .before .before .before .before .before .before .loop in
+    let a = c .before .before .before .before .before .before .before .before .before .before .before .args in
+    let loop = c .before .before .before .before .before .before .before .before .loop in
     let held-in = c .before .before .before .before .before .before .before .before .before .held-in in
     let loop-test = c .before .before .before .before .before .before .before .loop-test in
     let if1 = c .before .before .before .before .if1 in
-    let a = a2 in
-    let loop = loop2 in
     let here = left-here (findIn (a .t2 .places) (a .place .0)) (held-in .result) 0 (loop .inv) (loop-test .taken) (loop .i) (found-here (a .t2 .places) (a .place .0) (loop .i) (if1 .taken)) in
     let is : loop .i ≡ _ = here ∙ ap (λ (n : ℕ). findIn (a .t2 .places) (a .place .0) n 0) (held-in .ensures) ∙ find-is (a .t2) (a .place) in
-    let low : loop .i < heldIn (a .t2) = omega (arith, loop-test .taken, held-in .ensures) in
+    let low : loop .i < kindsHeld (a .t2) = omega (arith, loop-test .taken, held-in .ensures) in
     c .parameters-at .ensures
     ∙ ap (λ (o : Order). parametersAt (a .v .now) (writtenAt (a .place) (placeOf (getD (a .t2 .starts) (loop .i) 0)) o)) (c .before .order-in .ensures)
     ∙ ap (λ (p : ℕ). parametersAt (a .v .now) (writtenAt (placeOf p) (placeOf (getD (a .t2 .starts) (loop .i) 0)) (orderIn (getD (a .t2 .orders) (loop .i) 0)))) (sym (if1 .taken))
@@ -88,19 +81,16 @@ loop-less c = omega arith
 
 loop-again : tie.Need-loop-again Inv-loop μ-loop
 loop-again c =
-    let a2 = c .before .before .before .before .before .before .before .args in
-    let loop2 = c .before .before .before .before .loop in
+    let a = c .before .before .before .before .before .before .before .args in
+    let loop = c .before .before .before .before .loop in
     let held-in = c .before .before .before .before .before .held-in in
-    let a = a2 in
-    let loop = loop2 in
     left-more (findIn (a .t2 .places) (a .place .0)) (held-in .result) 0 (loop .inv) (c .before .before .before .loop-test .taken) _ (found-on (a .t2 .places) (a .place .0) (loop .i) (c .if1 .left))
 
 returns-2 : tie.Need-returns-2 Inv-loop μ-loop
 unfolding foundAt findIn
 returns-2 c =
-    let a2 = c .before .before .before .before .args in
+    let a = c .before .before .before .before .args in
     let held-in = c .before .before .held-in in
-    let a = a2 in
     let loop = c .before .loop in
     let is = left-end (findIn (a .t2 .places) (a .place .0)) (held-in .result) 0 (loop .inv) (c .loop-test .left) ∙ ap (λ (n : ℕ). findIn (a .t2 .places) (a .place .0) n 0) (held-in .ensures) ∙ find-is (a .t2) (a .place) in
     let few = loop .inv .few in

@@ -2,10 +2,6 @@
 use borrow.Author.Needs.{needs}
 use Rattle.type_list.proofs.inside_of.Statement.{statement}
 use Rattle.type_list.proofs.inside_of.Tie as tie
-use Rattle.type_list.proofs.inside_of.Reads as reads
-use Rattle.type_list.proofs.inside_of.Lts as lts
-use Rattle.type_kinds.proofs.parameters_at.Reads as parameters-at-reads
-use Rattle.type_list.proofs.found_at.Reads as found-at-reads
 use Rattle.type_list.specs.Met.{insideOf}
 
 enum-known-inner : tie.Need-enum-known-inner

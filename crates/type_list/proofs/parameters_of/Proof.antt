@@ -2,12 +2,8 @@
 use borrow.Author.Needs.{needs}
 use Rattle.type_list.proofs.parameters_of.Statement.{statement}
 use Rattle.type_list.proofs.parameters_of.Tie as tie
-use Rattle.type_list.proofs.parameters_of.Reads as reads
-use Rattle.type_list.proofs.parameters_of.Lts as lts
-use Rattle.type_kinds.proofs.parameters_at.Reads as parameters-at-reads
-use Rattle.type_list.proofs.entry_at.Reads as entry-at-reads
-use mathlib.Core.Path.{_≡_, sym, ap, _∙_}
-use Rattle.type_kinds.specs.Parameters.{parametersAt}
+use mathlib.Core.Path.{ap, _∙_}
+use Rattle.type_parameters.specs.Parameters.{parametersAt}
 use Rattle.type_list.specs.Met.{parametersOf}
 
 entry-at-requires : tie.Need-entry-at-requires

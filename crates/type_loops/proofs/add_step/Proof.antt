@@ -1,11 +1,11 @@
 -- The row of i with the bit of j.
 use mathlib.Core.Path.{sym, _∙_, ap}
-use Prim.Native.Nat.{ℕ}
 use lib.ListN.{set, length}
 use borrow.Author.Tests.{lt-ltb, le-ltb}
 use borrow.Author.Needs.{needs}
-use Rattle.type_loops.specs.Loops.{mostKinds, withStep}
-use Rattle.type_loops.proofs.Cells.{with-rows}
+use Rattle.type_loops.specs.Loops.{withStep}
+use Rattle.type_numbers.specs.{kindsLimit}
+use Rattle.type_loops.proofs.CellsAfter.{with-rows}
 use Rattle.type_loops.proofs.add_step.Statement.{statement}
 use Rattle.type_loops.proofs.add_step.Tie as tie
 
@@ -19,7 +19,7 @@ returns-2 : tie.Need-returns-2
 unfolding withStep
 returns-2 c =
     let a = c .before .before .before .args in
-    rw (lt-ltb (a .i) (length (a .rows .now)) (c .before .if1 .left), le-ltb (a .j) mostKinds (c .if2 .taken))
+    rw (lt-ltb (a .i) (length (a .rows .now)) (c .before .if1 .left), le-ltb (a .j) kindsLimit (c .if2 .taken))
 
 mul-with-bit : tie.Need-mul-with-bit
 mul-with-bit c = search needs

@@ -1,6 +1,6 @@
 -- Row by row, with the row of k as it was.
 use Prim.Native.Nat.{_-_}
-use Rattle.type_loops.proofs.Rounds.{RoundTo, round-none, round-more, round-all}
+use Rattle.type_loops.proofs.RoundsDone.{RoundTo, round-none, round-more, round-all}
 use borrow.Author.Needs.{needs}
 use Rattle.type_loops.proofs.close_round.Statement.{statement}
 use Rattle.type_loops.proofs.close_round.Tie as tie

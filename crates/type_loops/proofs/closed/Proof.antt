@@ -2,15 +2,15 @@
 use mathlib.Core.Path.{_≡_}
 use Prim.Native.Nat.{_-_, _≤_}
 use lib.ListN.{length}
-use Rattle.type_loops.specs.Loops.{mostKinds}
+use Rattle.type_numbers.specs.{kindsLimit}
 use Rattle.type_loops.specs.Inner.{Closed}
-use Rattle.type_loops.proofs.Rounds.{closed-none, closed-more, closed-all}
+use Rattle.type_loops.proofs.RoundsDone.{closed-none, closed-more, closed-all}
 use borrow.Author.Needs.{needs}
 use Rattle.type_loops.proofs.closed.Statement.{statement}
 use Rattle.type_loops.proofs.closed.Tie as tie
 
 abbrev Inv-loop : tie.InvT-loop
-Inv-loop n rows₀ k₀ rows k = (k ≤ n) × (length rows ≡ mostKinds) × Closed n k rows₀ rows
+Inv-loop n rows₀ k₀ rows k = (k ≤ n) × (length rows ≡ kindsLimit) × Closed n k rows₀ rows
 
 abbrev μ-loop : tie.MeasureT-loop
 μ-loop n rows₀ k₀ rows k = n - k

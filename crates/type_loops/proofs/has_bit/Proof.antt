@@ -1,5 +1,5 @@
 -- The bit shifted to the lowest place.
-use Rattle.type_loops.proofs.Bits.{bit-shifted}
+use Rattle.type_loops.proofs.RowBits.{bit-shifted}
 use borrow.Author.Needs.{needs}
 use Rattle.type_loops.proofs.has_bit.Statement.{statement}
 use Rattle.type_loops.proofs.has_bit.Tie as tie

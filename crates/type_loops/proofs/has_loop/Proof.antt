@@ -2,7 +2,7 @@
 use mathlib.Core.Path.{sym, _∙_}
 use native.Mathlib.Nat.{le-of-lt, min-eq-left, min-eq-right}
 use borrow.Author.Needs.{needs}
-use Rattle.type_loops.proofs.Rounds.{some-found}
+use Rattle.type_loops.proofs.RoundsDone.{some-found}
 use Rattle.type_loops.proofs.has_loop.Statement.{statement}
 use Rattle.type_loops.proofs.has_loop.Tie as tie
 

@@ -3,7 +3,7 @@ use mathlib.Core.Path.{_≡_, sym, _∙_}
 use mathlib.Core.Bool.{false}
 use Prim.Native.Nat.{_-_, _≤_}
 use Rattle.type_loops.specs.Inner.{someReturns}
-use Rattle.type_loops.proofs.Rounds.{none-yet, none-more, none-at-all, one-returns}
+use Rattle.type_loops.proofs.RoundsDone.{none-yet, none-more, none-at-all, one-returns}
 use borrow.Author.Needs.{needs}
 use Rattle.type_loops.proofs.some_returns.Statement.{statement}
 use Rattle.type_loops.proofs.some_returns.Tie as tie

@@ -2,7 +2,7 @@
 use mathlib.Core.Path.{sym, _∙_}
 use Prim.Native.Nat.{_-_}
 use borrow.Author.Needs.{needs}
-use Rattle.type_steps.proofs.Members.{Members, members-none, members-cut, members-more, members-all}
+use Rattle.type_steps.proofs.MemberSteps.{Members, members-none, members-cut, members-more, members-all}
 use Rattle.type_steps.proofs.member_steps.Statement.{statement}
 use Rattle.type_steps.proofs.member_steps.Tie as tie
 use Rattle.type_list.specs.Arrays.{kindsMet}

@@ -1,10 +1,10 @@
 -- The position that was found.
 use mathlib.Core.Path.{sym, _∙_}
 use borrow.Author.Needs.{needs}
-use Rattle.type_steps.proofs.Noting.{noted-nowhere, noted-at}
+use Rattle.type_steps.proofs.StepNoted.{noted-nowhere, noted-at}
 use Rattle.type_steps.proofs.note.Statement.{statement}
 use Rattle.type_steps.proofs.note.Tie as tie
-use Rattle.type_list.proofs.Finding.{kinds-few}
+use Rattle.type_list.proofs.KindsMet.{kinds-few}
 
 position-requires : tie.Need-position-requires
 position-requires c κs = search needs

@@ -4,16 +4,16 @@ use Prim.Native.Nat.{_-_, _≤_}
 use native.Mathlib.Omega.{arith}
 use lib.ListN.{length}
 use borrow.Author.Needs.{needs}
-use Rattle.type_loops.specs.Loops.{mostKinds}
+use Rattle.type_numbers.specs.{kindsLimit}
 use Rattle.type_list.specs.Arrays.{kindsMet}
-use Rattle.type_list.proofs.Finding.{length-kinds}
-use Rattle.type_steps.specs.Inner.{Filled}
-use Rattle.type_steps.proofs.Filling.{filled-none, filled-more, filled-all}
+use Rattle.type_list.proofs.KindsMet.{length-kinds}
+use Rattle.type_steps.specs.Inner.{RowsFilled}
+use Rattle.type_steps.proofs.TableFilled.{filled-none, filled-more, filled-all}
 use Rattle.type_steps.proofs.step_table.Statement.{statement}
 use Rattle.type_steps.proofs.step_table.Tie as tie
 
 abbrev Inv-loop : tie.InvT-loop
-Inv-loop v met n rows₀ i₀ rows i = (i ≤ n) × (length rows ≡ mostKinds) × Filled v (kindsMet met) i rows
+Inv-loop v met n rows₀ i₀ rows i = (i ≤ n) × (length rows ≡ kindsLimit) × RowsFilled v (kindsMet met) i rows
 
 abbrev μ-loop : tie.MeasureT-loop
 μ-loop v met n rows₀ i₀ rows i = n - i

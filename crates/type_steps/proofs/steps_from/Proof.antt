@@ -4,9 +4,9 @@ use Rattle.type_steps.proofs.steps_from.Statement.{statement}
 use Rattle.type_steps.proofs.steps_from.Tie as tie
 use mathlib.Core.Path.{refl, sym, _∙_}
 use Rattle.choices.specs.Lists.{anyOf}
-use Rattle.type_list.specs.Shapes.{shapeOf}
+use Rattle.type_unions.specs.Shapes.{shapeOf}
 use Rattle.type_steps.specs.Steps.{stepsOf}
-use Rattle.type_steps.proofs.Filling.{noted-leads, noted-no-leads, noted-one, noted-union}
+use Rattle.type_steps.proofs.TableFilled.{noted-leads, noted-no-leads, noted-one, noted-union}
 
 parameters-of-requires : tie.Need-parameters-of-requires
 parameters-of-requires c κs = search needs

@@ -5,7 +5,7 @@ use Rattle.type_walk.proofs.indirection.Tie as tie
 use mathlib.Core.Path.{sym, _∙_}
 use native.Mathlib.Omega.{arith}
 use Rattle.type_walk.specs.Types.{indirectionAt}
-use Rattle.cdr_fields.proofs.Fields.{field-facts}
+use Rattle.cdr_fields.proofs.FieldsRead.{field-facts}
 use Rattle.cdr.specs.declared.Size.the-variants.{Four}
 
 read-field-requires : tie.Need-read-field-requires
@@ -24,11 +24,10 @@ returns : tie.Need-returns
 unfolding indirectionAt
 returns c = rw (sym (c .before .before .before .read-field .ensures) ∙ c .before .enum-told .given .1) (c .refused .ensures)
 
-behind-requires : tie.Need-behind-requires
-behind-requires c κs =
-    let a2 = c .before .before .before .before .before .args in
+place-before-requires : tie.Need-place-before-requires
+place-before-requires c κs =
+    let a = c .before .before .before .before .before .args in
     let pre = c .before .before .before .before .before .pre in
-    let a = a2 in
     let f = field-facts (a .s .now) (a .at) Four (a .order) _ _ (sym (c .before .before .before .read-field .ensures) ∙ c .before .offset .given .1) in
     (omega (arith, f .ends), omega (arith, f .fits, f .ends, pre))
 
@@ -50,24 +49,19 @@ refused-requires-2 c κs = search needs
 returns-2 : tie.Need-returns-2
 unfolding indirectionAt
 returns-2 c =
-    let read-field2 = c .before .before .before .before .before .before .before .before .before .read-field in
-    let offset2 = c .before .before .before .before .before .before .before .offset in
-    let target-of2 = c .before .before .before .before .target-of in
-    let behind = c .before .before .before .before .before .behind in
-    let read-field = read-field2 in
-    let offset = offset2 in
-    let target-of = target-of2 in
-    rw (sym (read-field .ensures) ∙ offset .given .1, ← behind .ensures, sym (target-of .ensures) ∙ c .before .before .place .given .1) (c .target-step .ensures)
+    let read-field = c .before .before .before .before .before .before .before .before .before .read-field in
+    let offset = c .before .before .before .before .before .before .before .offset in
+    let target-of = c .before .before .before .before .target-of in
+    let place-before = c .before .before .before .before .before .place-before in
+    rw (sym (read-field .ensures) ∙ offset .given .1, ← place-before .ensures, sym (target-of .ensures) ∙ c .before .before .place .given .1) (c .target-step .ensures)
 
 returns-3 : tie.Need-returns-3
 unfolding indirectionAt
 returns-3 c =
-    let read-field2 = c .before .before .before .before .before .before .before .before .read-field in
-    let offset2 = c .before .before .before .before .before .before .offset in
-    let behind = c .before .before .before .before .behind in
-    let read-field = read-field2 in
-    let offset = offset2 in
-    rw (sym (read-field .ensures) ∙ offset .given .1, ← behind .ensures, sym (c .before .before .before .target-of .ensures) ∙ c .before .enum-told2 .given .1) (c .refused2 .ensures)
+    let read-field = c .before .before .before .before .before .before .before .before .read-field in
+    let offset = c .before .before .before .before .before .before .offset in
+    let place-before = c .before .before .before .before .place-before in
+    rw (sym (read-field .ensures) ∙ offset .given .1, ← place-before .ensures, sym (c .before .before .before .target-of .ensures) ∙ c .before .enum-told2 .given .1) (c .refused2 .ensures)
 
 pub indirection-spec : {M : Type 1} → statement M
 indirection-spec =
@@ -78,7 +72,7 @@ indirection-spec =
     enum-told
     refused-requires
     returns
-    behind-requires
+    place-before-requires
     target-of-requires
     enum-known-place
     target-step-requires

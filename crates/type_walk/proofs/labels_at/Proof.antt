@@ -23,8 +23,7 @@ enum-told c = search needs
 returns : tie.Need-returns
 unfolding labelsAt
 returns c =
-    let spot-at2 = c .before .before .before .before .before .spot-at in
-    let spot-at = spot-at2 in
+    let spot-at = c .before .before .before .before .before .spot-at in
     rw (sym (spot-at .ensures) ∙ c .before .before .before .inner .given .1, ← c .before .place-in .ensures) (c .labels-for .ensures)
 
 returns-2 : tie.Need-returns-2

@@ -4,7 +4,7 @@ use Rattle.typecode.proofs.loop_last.Statement.{statement}
 use Rattle.typecode.proofs.loop_last.Tie as tie
 use mathlib.Core.Path.{sym, _∙_}
 use Rattle.choices.specs.Branch.{choose}
-use Rattle.type_list.proofs.Finding.{length-kinds}
+use Rattle.type_list.proofs.KindsMet.{length-kinds}
 use Rattle.typecode.specs.TypeCode.{loopLast}
 
 loops-back-requires : tie.Need-loops-back-requires

@@ -2,7 +2,6 @@
 use borrow.Author.Needs.{needs}
 use Rattle.typecode.proofs.refused_with.Statement.{statement}
 use Rattle.typecode.proofs.refused_with.Tie as tie
-use mathlib.Core.Path.{_≡_}
 use Rattle.type_list.specs.Arrays.{kindsMet, kindsFrom}
 
 none-requires : tie.Need-none-requires

@@ -7,7 +7,7 @@ use Rattle.typecode.specs.TypeCode.{CheckedType}
 use Rattle.value.specs.declared.Judged.{Judged}
 use Rattle.value.specs.declared.Judged.the-variants.{Refused}
 use Rattle.value.specs.Typed.{typed, judgedBy}
-use Rattle.value.proofs.Answers as answers
+use Rattle.value.proofs.AnswerCases as answers
 use mathlib.Core.List.{[]}
 use mathlib.Core.Path.{_≡_, refl}
 use Rattle.type_list.specs.Arrays.{kindsFrom, kindsMet, noKinds}
@@ -25,7 +25,8 @@ no-kinds = refl
 returns : tie.Need-returns
 returns c =
     let a = c .before .before .before .before .args in
-    ap (typed (Refused 42)) (ap kindsMet (c .none .ensures) ∙ no-kinds) ∙ answers.typed-long (a .t .now) (a .torder) (a .octets) (sym (c .before .before .over-long .ensures) ∙ c .before .if1 .taken)
+    ap (typed (Refused 42)) (ap kindsMet (c .none .ensures) ∙ no-kinds)
+    ∙ answers.typed-long (a .types .now) (a .torder) (a .octets) (sym (c .before .before .over-long .ensures) ∙ c .before .if1 .taken)
 
 check-type-requires : tie.Need-check-type-requires
 check-type-requires c κs = search needs
@@ -38,7 +39,9 @@ returns-2 c =
     let check-type = c .before .before .check-type in
     let a = c .before .before .before .before .before .before .args in
     let over-long = c .before .before .before .before .over-long in
-    ap (λ (j : Judged). typed j (kindsMet (check-type .result .met))) (c .judge .ensures) ∙ ap (λ (y : CheckedType). typed (judgedBy (y .answer)) (y .kinds)) (check-type .ensures) ∙ answers.typed-short (a .t .now) (a .torder) (a .octets) (sym (over-long .ensures) ∙ c .before .before .before .if1 .left)
+    ap (λ (j : Judged). typed j (kindsMet (check-type .result .met))) (c .judge .ensures)
+    ∙ ap (λ (y : CheckedType). typed (judgedBy (y .answer)) (y .kinds)) (check-type .ensures)
+    ∙ answers.typed-short (a .types .now) (a .torder) (a .octets) (sym (over-long .ensures) ∙ c .before .before .before .if1 .left)
 
 pub check-spec : {M : Type 1} → statement M
 check-spec =

@@ -5,7 +5,7 @@ use Rattle.value.proofs.pick.Tie as tie
 use mathlib.Core.Path.{ap, _∙_}
 use Rattle.value_meaning.specs.Sinks.{source}
 use Rattle.value_meaning.specs.Visit.{checked}
-use Rattle.value.proofs.Walks as walks
+use Rattle.value.proofs.WalksLeaveReading as walks
 use Rattle.value.specs.declared.ItemAnswer.the-variants.{Given}
 use Rattle.type_list.specs.Arrays.{kindsMet}
 
@@ -19,14 +19,16 @@ returns : tie.Need-returns
 returns c =
     let a = c .before .before .before .before .before .before .before .args in
     let pre = c .before .before .before .before .before .before .before .pre in
-    walks.picked-refused (checked (a .t .now) (kindsMet (a .met))) (source (a .v .now) (a .order) (a .start)) pre (a .number) _ _ (c .before .before .before .walk .ensures) (c .if1 .taken)
+    walks.picked-refused (checked (a .types .now) (kindsMet (a .met))) (source (a .value .now) (a .order) (a .start)) pre (a .number) _ _
+    (c .before .before .before .walk .ensures) (c .if1 .taken)
 
 returns-2 : tie.Need-returns-2
 returns-2 c =
     let a = c .before .before .before .before .before .before .before .before .args in
     let pre = c .before .before .before .before .before .before .before .before .pre in
     let walk = c .before .before .before .before .walk in
-    walks.picked-none (checked (a .t .now) (kindsMet (a .met))) (source (a .v .now) (a .order) (a .start)) pre (a .number) _ _ (walk .ensures) (c .before .if1 .left) (c .if2 .taken)
+    walks.picked-none (checked (a .types .now) (kindsMet (a .met))) (source (a .value .now) (a .order) (a .start)) pre (a .number) _ _
+    (walk .ensures) (c .before .if1 .left) (c .if2 .taken)
 
 array-read-item-of : tie.Need-array-read-item-of
 array-read-item-of c = search needs
@@ -42,7 +44,9 @@ returns-3 c =
     let a = c .before .before .before .before .before .before .before .before .before .args in
     let pre = c .before .before .before .before .before .before .before .before .before .pre in
     let walk = c .before .before .before .before .before .walk in
-    ap Given (c .item-of .ensures) ∙ walks.picked-item (checked (a .t .now) (kindsMet (a .met))) (source (a .v .now) (a .order) (a .start)) pre (a .number) _ _ (walk .ensures) (c .before .before .if1 .left) (c .before .if2 .left)
+    ap Given (c .item-of .ensures)
+    ∙ walks.picked-item (checked (a .types .now) (kindsMet (a .met))) (source (a .value .now) (a .order) (a .start)) pre (a .number) _ _
+    (walk .ensures) (c .before .before .if1 .left) (c .before .if2 .left)
 
 pub pick-spec : {M : Type 1} → statement M
 pick-spec =

@@ -4,7 +4,7 @@ use Rattle.value.proofs.read_into.Statement.{statement}
 use Rattle.value.proofs.read_into.Tie as tie
 use Rattle.value_meaning.specs.Sinks.{source}
 use Rattle.value_meaning.specs.Visit.{checked}
-use Rattle.value.proofs.Walks as walks
+use Rattle.value.proofs.WalksLeaveReading as walks
 use Rattle.type_list.specs.Arrays.{kindsMet}
 
 walk-requires : tie.Need-walk-requires
@@ -18,7 +18,8 @@ returns c =
     let a = c .before .before .before .before .before .before .before .before .before .args in
     let pre = c .before .before .before .before .before .before .before .before .before .pre in
     let walk = c .before .before .before .before .walk in
-    walks.found-refusal (checked (a .t .now) (kindsMet (a .met))) (source (a .v .now) (a .order) (a .start)) pre (a .table .now) _ _ (walk .ensures) (c .if1 .taken)
+    walks.found-refusal (checked (a .types .now) (kindsMet (a .met))) (source (a .value .now) (a .order) (a .start)) pre (a .table .now) _ _
+    (walk .ensures) (c .if1 .taken)
 
 walk-requires-2 : tie.Need-walk-requires-2
 walk-requires-2 c κs = search needs
@@ -32,7 +33,8 @@ returns-2 c =
     let pre = c .before .before .before .before .before .before .before .before .before .before .before .before .before .pre in
     let walk = c .before .before .before .before .before .before .before .before .walk in
     let if1 = c .before .before .before .before .if1 in
-    walks.found-none (checked (a .t .now) (kindsMet (a .met))) (source (a .v .now) (a .order) (a .start)) pre (a .table .now) _ _ (walk .ensures) (if1 .left) _ _ (c .before .before .walk2 .ensures)
+    walks.found-none (checked (a .types .now) (kindsMet (a .met))) (source (a .value .now) (a .order) (a .start)) pre (a .table .now) _ _
+    (walk .ensures) (if1 .left) _ _ (c .before .before .walk2 .ensures)
 
 pub read-into-spec : {M : Type 1} → statement M
 read-into-spec =

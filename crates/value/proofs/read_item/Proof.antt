@@ -5,7 +5,7 @@ use Rattle.value.proofs.read_item.Tie as tie
 use mathlib.Core.Path.{_≡_, _∙_}
 use lib.ListN.{length}
 use Rattle.value_meaning.specs.Sinks.{source}
-use Rattle.value.proofs.Answers as answers
+use Rattle.value.proofs.AnswerCases as answers
 use Rattle.type_list.specs.Arrays.{kindsMet}
 use Rattle.value.specs.Typed.{typedBy}
 
@@ -19,7 +19,8 @@ pick-requires : tie.Need-pick-requires
 pick-requires c κs =
     let a = c .before .before .before .before .before .before .args in
     let check = c .before .before .before .check in
-    answers.bounded (a .t .now) (a .torder) (source (a .v .now) (a .order) (a .start)) (kindsMet (check .result .met)) (answers.under (a .t .now) (a .torder) (length (a .v .now)) (typedBy (check .result)) (check .ensures) (c .enum-told .given .1))
+    answers.bounded (a .types .now) (a .torder) (source (a .value .now) (a .order) (a .start)) (kindsMet (check .result .met))
+    (answers.under (a .types .now) (a .torder) (length (a .value .now)) (typedBy (check .result)) (check .ensures) (c .enum-told .given .1))
 
 enum-known-judged : tie.Need-enum-known-judged
 enum-known-judged c = search needs
@@ -28,13 +29,16 @@ returns : tie.Need-returns
 returns c =
     let a = c .before .before .before .before .before .before .before .args in
     let check = c .before .before .before .before .check in
-    c .pick .ensures ∙ answers.item-read (a .t .now) (a .torder) (source (a .v .now) (a .order) (a .start)) (typedBy (check .result)) (check .ensures) (a .number) (c .before .enum-told .given .1)
+    c .pick .ensures
+    ∙ answers.item-read (a .types .now) (a .torder) (source (a .value .now) (a .order) (a .start)) (typedBy (check .result))
+    (check .ensures) (a .number) (c .before .enum-told .given .1)
 
 returns-2 : tie.Need-returns-2
 returns-2 c =
     let a = c .before .before .before .before .before .before .before .args in
     let check = c .before .before .before .before .check in
-    answers.item-refused (a .t .now) (a .torder) (source (a .v .now) (a .order) (a .start)) (typedBy (check .result)) (check .ensures) (a .number) _ (c .before .judged .given .1)
+    answers.item-refused (a .types .now) (a .torder) (source (a .value .now) (a .order) (a .start)) (typedBy (check .result))
+    (check .ensures) (a .number) _ (c .before .judged .given .1)
 
 pub read-item-spec : {M : Type 1} → statement M
 read-item-spec =

@@ -9,7 +9,7 @@ use Rattle.cdr.specs.declared.Size.the-variants.{Four}
 use Rattle.cdr.proofs.Alignment.{read-facts}
 use Rattle.value_meaning.specs.Sinks.{item, failed, taken, done}
 use Rattle.value_meaning.specs.Visit.{countDone, countAt}
-use Rattle.value_meaning.proofs.Ways as way
+use Rattle.value_meaning.proofs.ReadingCases as way
 use Rattle.value_leaves.specs.Walk.{sinkOf, sourceOf, stateOf}
 
 number-at-requires : tie.Need-number-at-requires
@@ -25,7 +25,11 @@ add-took : tie.Need-add-took
 add-took c =
     let a = c .before .before .before .before .before .before .before .before .args in
     let number-at = c .before .before .before .before .before .number-at in
-    omega (arith, read-facts (a .v .now) (a .m .start) (a .c .at) Four (a .m .order) _ _ (sym (number-at .ensures) ∙ c .before .before .before .at .given .1) .fits)
+    omega (
+      arith,
+      read-facts (a .value .now) (a .mode .start) (a .cursor .at) Four (a .mode .order) _ _
+          (sym (number-at .ensures) ∙ c .before .before .before .at .given .1) .fits,
+    )
 
 took-requires : tie.Need-took-requires
 took-requires c κs = search needs
@@ -39,14 +43,21 @@ returns c =
     let a = c .before .before .before .before .before .before .before .before .before .before .args in
     let number-at = c .before .before .before .before .before .before .before .number-at in
     let at2 = c .before .before .before .before .before .at in
-    c .refused .ensures (a .table .now) ∙ ap (failed 54) (c .before .took .ensures (a .m) (a .table .now) _ _ 4) ∙ sym ((way.number-some (sinkOf (a .m)) (sourceOf (a .m) (a .v .now)) Four (countDone (sinkOf (a .m)) (sourceOf (a .m) (a .v .now)) (a .bound)) (stateOf (a .c) (a .table .now)) _ _ (sym (number-at .ensures) ∙ at2 .given .1)) ∙ way.count-over (sinkOf (a .m)) (sourceOf (a .m) (a .v .now)) (a .bound) _ _ _ (sym (c .before .before .before .over-bound .ensures) ∙ c .before .before .if1 .taken))
+    let sink = sinkOf (a .mode) in
+    let src = sourceOf (a .mode) (a .value .now) in
+    c .refused .ensures (a .table .now)
+    ∙ ap (failed 54) (c .before .took .ensures (a .mode) (a .table .now) _ _ 4)
+    ∙ sym
+    ((way.number-some sink src Four (countDone sink src (a .bound)) (stateOf (a .cursor) (a .table .now)) _ _
+    (sym (number-at .ensures) ∙ at2 .given .1))
+    ∙ way.count-over sink src (a .bound) _ _ _ (sym (c .before .before .before .over-bound .ensures) ∙ c .before .before .if1 .taken))
 
 add-took-2 : tie.Need-add-took-2
 add-took-2 c =
     let a = c .before .before .before .before .before .before .before .before .before .args in
     let number-at = c .before .before .before .before .before .before .number-at in
     let at2 = c .before .before .before .before .at in
-    omega (arith, read-facts (a .v .now) (a .m .start) (a .c .at) Four (a .m .order) _ _ (sym (number-at .ensures) ∙ at2 .given .1) .fits)
+    omega (arith, read-facts (a .value .now) (a .mode .start) (a .cursor .at) Four (a .mode .order) _ _ (sym (number-at .ensures) ∙ at2 .given .1) .fits)
 
 took-requires-2 : tie.Need-took-requires-2
 took-requires-2 c κs = search needs
@@ -71,13 +82,25 @@ returns-2 c =
     let at2 = c .before .before .before .before .before .before .before .before .at in
     let over-bound = c .before .before .before .before .before .before .over-bound in
     let if1 = c .before .before .before .before .before .if1 in
-    c .before .before .put .ensures ∙ ap (done (sinkOf (a .m)) (item 19 _ _)) (c .before .before .before .took2 .ensures (a .m) (a .table .now) _ _ 4) ∙ sym ((way.number-some (sinkOf (a .m)) (sourceOf (a .m) (a .v .now)) Four (countDone (sinkOf (a .m)) (sourceOf (a .m) (a .v .now)) (a .bound)) (stateOf (a .c) (a .table .now)) _ _ (sym (number-at .ensures) ∙ at2 .given .1)) ∙ way.count-under (sinkOf (a .m)) (sourceOf (a .m) (a .v .now)) (a .bound) _ _ _ (sym (over-bound .ensures) ∙ if1 .left))
+    let sink = sinkOf (a .mode) in
+    let src = sourceOf (a .mode) (a .value .now) in
+    c .before .before .put .ensures
+    ∙ ap (done sink (item 19 _ _)) (c .before .before .before .took2 .ensures (a .mode) (a .table .now) _ _ 4)
+    ∙ sym
+    ((way.number-some sink src Four (countDone sink src (a .bound)) (stateOf (a .cursor) (a .table .now)) _ _
+    (sym (number-at .ensures) ∙ at2 .given .1))
+    ∙ way.count-under sink src (a .bound) _ _ _ (sym (over-bound .ensures) ∙ if1 .left))
 
 returns-3 : tie.Need-returns-3
 unfolding countAt
 returns-3 c =
     let a = c .before .before .before .before .before .before .args in
-    c .refused2 .ensures (a .table .now) ∙ sym (way.number-none (sinkOf (a .m)) (sourceOf (a .m) (a .v .now)) Four (countDone (sinkOf (a .m)) (sourceOf (a .m) (a .v .now)) (a .bound)) (stateOf (a .c) (a .table .now)) (sym (c .before .before .before .number-at .ensures) ∙ c .before .enum-told .given .1))
+    let sink = sinkOf (a .mode) in
+    let src = sourceOf (a .mode) (a .value .now) in
+    c .refused2 .ensures (a .table .now)
+    ∙ sym
+    (way.number-none sink src Four (countDone sink src (a .bound)) (stateOf (a .cursor) (a .table .now))
+    (sym (c .before .before .before .number-at .ensures) ∙ c .before .enum-told .given .1))
 
 pub count-spec : {M : Type 1} → statement M
 count-spec =

@@ -8,14 +8,14 @@ use native.Mathlib.Omega.{arith}
 use Rattle.cdr.proofs.Alignment.{read-facts}
 use Rattle.value_meaning.specs.Sinks.{taken}
 use Rattle.value_meaning.specs.Visit.{leafDone}
-use Rattle.value_meaning.proofs.Ways as way
+use Rattle.value_meaning.proofs.ReadingCases as way
 use Rattle.value_leaves.specs.Walk.{sinkOf, sourceOf, stateOf}
 use Rattle.cdr.specs.Align.{octets}
 
 returns : tie.Need-returns
 returns c =
     let a = c .before .before .before .args in
-    sym (way.leaf-nothing (sinkOf (a .m)) (sourceOf (a .m) (a .v .now)) (a .kind) (stateOf (a .c) (a .table .now)) (c .if1 .taken))
+    sym (way.leaf-nothing (sinkOf (a .mode)) (sourceOf (a .mode) (a .value .now)) (a .kind) (stateOf (a .cursor) (a .table .now)) (c .if1 .taken))
 
 size-of-requires : tie.Need-size-of-requires
 size-of-requires c κs = search needs
@@ -34,7 +34,12 @@ add-next c =
     let a = c .before .before .before .before .before .before .before .before .before .args in
     let size-of = c .before .before .before .before .before .size-of in
     let number-at = c .before .before .before .before .number-at in
-    omega (arith, read-facts (a .v .now) (a .m .start) (a .c .at) (size-of .result) (a .m .order) _ _ (sym (number-at .ensures) ∙ c .before .before .at .given .1) .fits, c .octets .ensures)
+    omega (
+      arith,
+      read-facts (a .value .now) (a .mode .start) (a .cursor .at) (size-of .result) (a .mode .order) _ _
+          (sym (number-at .ensures) ∙ c .before .before .at .given .1) .fits,
+      c .octets .ensures,
+    )
 
 took-requires : tie.Need-took-requires
 took-requires c κs = search needs
@@ -59,14 +64,23 @@ returns-2 c =
     let if1 = c .before .before .before .before .before .before .before .before .before .before .before .if1 in
     let number-at = c .before .before .before .before .before .before .before .before .before .number-at in
     let at2 = c .before .before .before .before .before .before .before .at in
-    c .before .before .leaf-done .ensures (a .v .now) ∙ ap (leafDone (sinkOf (a .m)) (sourceOf (a .m) (a .v .now)) (a .kind) _ _) (c .before .before .before .took .ensures (a .m) (a .table .now) _ _ _) ∙ sym (way.leaf-read (sinkOf (a .m)) (sourceOf (a .m) (a .v .now)) (a .kind) (size-of .result) _ _ (octets .result) (stateOf (a .c) (a .table .now)) (if1 .left) (size-of .ensures) (octets .ensures) (sym (number-at .ensures) ∙ at2 .given .1))
+    let sink = sinkOf (a .mode) in
+    let src = sourceOf (a .mode) (a .value .now) in
+    c .before .before .leaf-done .ensures (a .value .now)
+    ∙ ap (leafDone sink src (a .kind) _ _) (c .before .before .before .took .ensures (a .mode) (a .table .now) _ _ _)
+    ∙ sym
+    (way.leaf-read sink src (a .kind) (size-of .result) _ _ (octets .result) (stateOf (a .cursor) (a .table .now)) (if1 .left) (size-of .ensures)
+    (octets .ensures) (sym (number-at .ensures) ∙ at2 .given .1))
 
 returns-3 : tie.Need-returns-3
 returns-3 c =
     let a = c .before .before .before .before .before .before .before .before .args in
     let size-of = c .before .before .before .before .size-of in
     let if1 = c .before .before .before .before .before .if1 in
-    c .refused .ensures (a .table .now) ∙ sym (way.leaf-ends (sinkOf (a .m)) (sourceOf (a .m) (a .v .now)) (a .kind) (size-of .result) (stateOf (a .c) (a .table .now)) (if1 .left) (size-of .ensures) (sym (c .before .before .before .number-at .ensures) ∙ c .before .enum-told .given .1))
+    c .refused .ensures (a .table .now)
+    ∙ sym
+    (way.leaf-ends (sinkOf (a .mode)) (sourceOf (a .mode) (a .value .now)) (a .kind) (size-of .result) (stateOf (a .cursor) (a .table .now)) (if1 .left)
+    (size-of .ensures) (sym (c .before .before .before .number-at .ensures) ∙ c .before .enum-told .given .1))
 
 pub leaf-spec : {M : Type 1} → statement M
 leaf-spec =

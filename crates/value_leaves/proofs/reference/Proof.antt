@@ -6,7 +6,7 @@ use mathlib.Core.Path.{sym, _∙_}
 use Prim.Native.Nat.{_-_}
 use Rattle.value_meaning.specs.Sinks.{taken}
 use Rattle.value_meaning.specs.Visit.{profilesAt, objrefAt}
-use Rattle.value_meaning.proofs.Ways as way
+use Rattle.value_meaning.proofs.ReadingCases as way
 use Rattle.value_leaves.specs.Walk.{sinkOf, sourceOf}
 
 text-requires : tie.Need-text-requires
@@ -20,7 +20,7 @@ unfolding objrefAt
 returns c =
     let a = c .before .before .before .before .before .before .before .before .args in
     let text = c .before .before .before .before .text in
-    sym (way.stops (profilesAt (sinkOf (a .m)) (sourceOf (a .m) (a .v .now))) _ _ (text .ensures) (c .if1 .taken))
+    sym (way.stops (profilesAt (sinkOf (a .mode)) (sourceOf (a .mode) (a .value .now))) _ _ (text .ensures) (c .if1 .taken))
 
 profiles-requires : tie.Need-profiles-requires
 profiles-requires c κs = search needs
@@ -34,7 +34,8 @@ returns-2 c =
     let a = c .before .before .before .before .before .before .before .before .before .before .before .before .args in
     let text = c .before .before .before .before .before .before .before .before .text in
     let if1 = c .before .before .before .before .if1 in
-    c .before .before .profiles .ensures ∙ sym (way.goes-on (profilesAt (sinkOf (a .m)) (sourceOf (a .m) (a .v .now))) _ _ (text .ensures) (if1 .left))
+    c .before .before .profiles .ensures
+    ∙ sym (way.goes-on (profilesAt (sinkOf (a .mode)) (sourceOf (a .mode) (a .value .now))) _ _ (text .ensures) (if1 .left))
 
 pub reference-spec : {M : Type 1} → statement M
 reference-spec =

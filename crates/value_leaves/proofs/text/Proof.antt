@@ -8,7 +8,7 @@ use native.Mathlib.Omega.{arith}
 use Rattle.cdr.specs.declared.Size.the-variants.{Four}
 use Rattle.cdr.proofs.Alignment.{read-facts}
 use Rattle.value_meaning.specs.Visit.{textGot, textAt}
-use Rattle.value_meaning.proofs.Ways as way
+use Rattle.value_meaning.proofs.ReadingCases as way
 use Rattle.value_leaves.specs.Walk.{sinkOf, sourceOf, stateOf}
 
 number-at-requires : tie.Need-number-at-requires
@@ -21,7 +21,11 @@ add-took : tie.Need-add-took
 add-took c =
     let a = c .before .before .before .before .before .before .before .args in
     let number-at = c .before .before .before .before .number-at in
-    omega (arith, read-facts (a .v .now) (a .m .start) (a .c .at) Four (a .m .order) _ _ (sym (number-at .ensures) ∙ c .before .before .at .given .1) .fits)
+    omega (
+      arith,
+      read-facts (a .value .now) (a .mode .start) (a .cursor .at) Four (a .mode .order) _ _
+          (sym (number-at .ensures) ∙ c .before .before .at .given .1) .fits,
+    )
 
 took-requires : tie.Need-took-requires
 took-requires c κs = search needs
@@ -44,13 +48,24 @@ returns c =
     let a = c .before .before .before .before .before .before .before .before .before .before .before .args in
     let number-at = c .before .before .before .before .before .before .before .before .number-at in
     let at2 = c .before .before .before .before .before .before .at in
-    c .before .before .text-got .ensures _ ∙ ap (textGot (sinkOf (a .m)) (sourceOf (a .m) (a .v .now)) (a .bound) _ _) (c .before .before .before .took .ensures (a .m) (a .table .now) _ _ 4) ∙ sym (way.number-some (sinkOf (a .m)) (sourceOf (a .m) (a .v .now)) Four (textGot (sinkOf (a .m)) (sourceOf (a .m) (a .v .now)) (a .bound)) (stateOf (a .c) (a .table .now)) _ _ (sym (number-at .ensures) ∙ at2 .given .1))
+    let sink = sinkOf (a .mode) in
+    let src = sourceOf (a .mode) (a .value .now) in
+    c .before .before .text-got .ensures _
+    ∙ ap (textGot sink src (a .bound) _ _) (c .before .before .before .took .ensures (a .mode) (a .table .now) _ _ 4)
+    ∙ sym
+    (way.number-some sink src Four (textGot sink src (a .bound)) (stateOf (a .cursor) (a .table .now)) _ _
+    (sym (number-at .ensures) ∙ at2 .given .1))
 
 returns-2 : tie.Need-returns-2
 unfolding textAt
 returns-2 c =
     let a = c .before .before .before .before .before .before .args in
-    c .refused .ensures (a .table .now) ∙ sym (way.number-none (sinkOf (a .m)) (sourceOf (a .m) (a .v .now)) Four (textGot (sinkOf (a .m)) (sourceOf (a .m) (a .v .now)) (a .bound)) (stateOf (a .c) (a .table .now)) (sym (c .before .before .before .number-at .ensures) ∙ c .before .enum-told .given .1))
+    let sink = sinkOf (a .mode) in
+    let src = sourceOf (a .mode) (a .value .now) in
+    c .refused .ensures (a .table .now)
+    ∙ sym
+    (way.number-none sink src Four (textGot sink src (a .bound)) (stateOf (a .cursor) (a .table .now))
+    (sym (c .before .before .before .number-at .ensures) ∙ c .before .enum-told .given .1))
 
 pub text-spec : {M : Type 1} → statement M
 text-spec =

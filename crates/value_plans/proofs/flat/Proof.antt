@@ -4,10 +4,10 @@ use Rattle.value_plans.proofs.flat.Statement.{statement}
 use Rattle.value_plans.proofs.flat.Tie as tie
 use mathlib.Core.Path.{sym, ap, _∙_}
 use Prim.Native.Nat.{ℕ}
-use Rattle.type_list.specs.Shapes.Shape.{flat}
+use Rattle.type_unions.specs.Shapes.Shape.{flat}
 use Rattle.value_meaning.specs.Visit.{inertAt}
 use Rattle.value_meaning.specs.Reading.{reads}
-use Rattle.value_meaning.proofs.Ways.{reads-none, reads-flat}
+use Rattle.value_meaning.proofs.ReadingCases.{reads-none, reads-flat}
 use Rattle.value_leaves.specs.Walk.{sinkOf, sourceOf, stateOf}
 
 refused-requires : tie.Need-refused-requires
@@ -16,9 +16,12 @@ refused-requires c κs = search needs
 returns : tie.Need-returns
 returns c =
     let a = c .before .before .before .before .args in
+    let sink = sinkOf (a .mode) in
+    let src = sourceOf (a .mode) (a .value .now) in
+    let state = stateOf (a .cursor) (a .table .now) in
     λ t. c .refused .ensures (a .table .now)
-    ∙ sym (ap (λ (l : ℕ). reads (sinkOf (a .m)) (sourceOf (a .m) (a .v .now)) t l (flat (a .inert)) (stateOf (a .c) (a .table .now))) (c .before .if1 .taken)
-    ∙ reads-none (sinkOf (a .m)) (sourceOf (a .m) (a .v .now)) t (flat (a .inert)) (stateOf (a .c) (a .table .now)))
+    ∙ sym (ap (λ (l : ℕ). reads sink src t l (flat (a .inert)) state) (c .before .if1 .taken)
+    ∙ reads-none sink src t (flat (a .inert)) state)
 
 visit-requires : tie.Need-visit-requires
 visit-requires c κs = search needs
@@ -35,8 +38,10 @@ returns-2 c =
     let visit = c .before .before .before .visit in
     let if1 = c .before .before .before .before .before .if1 in
     let a = c .before .before .before .before .before .before .before .before .args in
-    λ t. inert .ensures ∙ ap (inertAt (sinkOf (a .m)) (sourceOf (a .m) (a .v .now)) (a .inert)) (visit .ensures (a .m) (a .table .now))
-    ∙ sym (reads-flat (sinkOf (a .m)) (sourceOf (a .m) (a .v .now)) t (a .left) (a .inert) (stateOf (a .c) (a .table .now)) (if1 .left))
+    let sink = sinkOf (a .mode) in
+    let src = sourceOf (a .mode) (a .value .now) in
+    λ t. inert .ensures ∙ ap (inertAt sink src (a .inert)) (visit .ensures (a .mode) (a .table .now))
+    ∙ sym (reads-flat sink src t (a .left) (a .inert) (stateOf (a .cursor) (a .table .now)) (if1 .left))
 
 pub flat-spec : {M : Type 1} → statement M
 flat-spec =

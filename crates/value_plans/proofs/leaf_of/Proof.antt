@@ -2,9 +2,9 @@
 use borrow.Author.Needs.{needs}
 use Rattle.value_plans.proofs.leaf_of.Statement.{statement}
 use Rattle.value_plans.proofs.leaf_of.Tie as tie
-use Rattle.type_list.specs.Shapes.{shapeOf}
+use Rattle.type_unions.specs.Shapes.{shapeOf}
 use Rattle.value_plans.specs.Plans.{leafKind}
-use Rattle.value_plans.proofs.Steps.{other-none}
+use Rattle.value_plans.proofs.PlanReadsStruct.{other-none}
 
 enum-known-e : tie.Need-enum-known-e
 enum-known-e c = search needs

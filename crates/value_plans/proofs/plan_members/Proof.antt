@@ -8,7 +8,7 @@ use native.Mathlib.Omega.{arith}
 use Rattle.value_meaning.specs.Visit.{leafAt}
 use Rattle.value_meaning.specs.Sinks.{begun}
 use Rattle.value_leaves.specs.Walk.{sinkOf, sourceOf, stateOf}
-use Rattle.value_plans.proofs.Steps.{Stepping, stepping-none, stepping-all, stepping-stop, stepping-more}
+use Rattle.value_plans.proofs.PlanReadsStruct.{Stepping, stepping-none, stepping-all, stepping-stop, stepping-more}
 
 abbrev Inv-loop : tie.InvT-loop
 Inv-loop v m table₀ kinds count d₀ k₀ table d k = Stepping (sinkOf m) (sourceOf m v) kinds count k (stateOf d₀ table₀) (stateOf d table)
@@ -19,7 +19,7 @@ abbrev μ-loop : tie.MeasureT-loop
 loop-holds : tie.Need-loop-holds Inv-loop μ-loop
 loop-holds c =
     let a = c .before .before .before .args in
-    stepping-none (sinkOf (a .m)) (sourceOf (a .m) (a .v .now)) (a .plan .kinds)
+    stepping-none (sinkOf (a .mode)) (sourceOf (a .mode) (a .value .now)) (a .plan .kinds)
 
 kind-at-requires : tie.Need-kind-at-requires Inv-loop μ-loop
 kind-at-requires c κs = search needs
@@ -44,9 +44,9 @@ returns c =
     let leaf = c .before .before .before .before .leaf in
     let kind-at = c .before .before .before .before .before .before .kind-at in
     let visit = c .before .before .before .before .before .visit in
-    let k = sinkOf (a .m) in
-    let x = sourceOf (a .m) (a .v .now) in
-    let step = leaf .ensures ∙ ap (leafAt k x (kind-at .result)) (visit .ensures (a .m) (loop .table))
+    let k = sinkOf (a .mode) in
+    let x = sourceOf (a .mode) (a .value .now) in
+    let step = leaf .ensures ∙ ap (leafAt k x (kind-at .result)) (visit .ensures (a .mode) (loop .table))
     ∙ ap (λ (i : ℕ). leafAt k x i (begun k (stateOf (loop .d) (loop .table)))) (kind-at .ensures) in
     stepping-stop k x (a .plan .kinds) (loop .inv) (loop-test .taken) step (c .if1 .taken)
 
@@ -64,9 +64,9 @@ loop-again c =
     let leaf = c .before .before .before .before .leaf in
     let kind-at = c .before .before .before .before .before .before .kind-at in
     let visit = c .before .before .before .before .before .visit in
-    let k = sinkOf (a .m) in
-    let x = sourceOf (a .m) (a .v .now) in
-    let step = leaf .ensures ∙ ap (leafAt k x (kind-at .result)) (visit .ensures (a .m) (loop .table))
+    let k = sinkOf (a .mode) in
+    let x = sourceOf (a .mode) (a .value .now) in
+    let step = leaf .ensures ∙ ap (leafAt k x (kind-at .result)) (visit .ensures (a .mode) (loop .table))
     ∙ ap (λ (i : ℕ). leafAt k x i (begun k (stateOf (loop .d) (loop .table)))) (kind-at .ensures) in
     stepping-more k x (a .plan .kinds) (loop .inv) (loop-test .taken) step (leaf .kept .1 .1 .0) (c .if1 .left)
 
@@ -76,7 +76,7 @@ same-length-2 c = c .before .loop .inv .same
 returns-2 : tie.Need-returns-2 Inv-loop μ-loop
 returns-2 c =
     let a = c .before .before .before .before .before .args in
-    stepping-all (sinkOf (a .m)) (sourceOf (a .m) (a .v .now)) (a .plan .kinds) (c .before .loop .inv) (c .loop-test .left)
+    stepping-all (sinkOf (a .mode)) (sourceOf (a .mode) (a .value .now)) (a .plan .kinds) (c .before .loop .inv) (c .loop-test .left)
 
 pub plan-members-spec : {M : Type 1} → statement M
 plan-members-spec =

@@ -9,12 +9,12 @@ use native.Mathlib.Omega.{arith}
 use lib.ListN.{set, replicate}
 use Rattle.choices.proofs.Turns.{Left, left-none, left-here, left-more, left-end}
 use Rattle.type_kinds.specs.declared.Labels.the-variants.{NoLabels}
-use Rattle.type_kinds.specs.declared.Parameters.{Parameters}
+use Rattle.type_parameters.specs.declared.Parameters.{Parameters}
 use Rattle.type_kinds.specs.Members.{membersOf, typesOf}
-use Rattle.type_list.specs.Shapes.{shapeOf, look}
+use Rattle.type_unions.specs.Shapes.{shapeOf, look}
 use Rattle.value_meaning.specs.Visit.{checked}
 use Rattle.value_plans.specs.Plans.{mostMembers, leafKind, noPlan}
-use Rattle.value_plans.proofs.Steps.{makes, make-end, make-cut, make-none, make-more, plan-is, plan-many, plan-deep, plan-made}
+use Rattle.value_plans.proofs.PlanReadsStruct.{makes, make-end, make-cut, make-none, make-more, plan-is, plan-many, plan-deep, plan-made}
 use mathlib.Core.List.{List}
 use Rattle.cdr.specs.declared.Index.{Index}
 use Rattle.type_list.specs.Arrays.{kindsMet}
@@ -33,9 +33,9 @@ no-plan-requires c κs = search needs
 returns : tie.Need-returns Inv-loop μ-loop
 returns c =
     let a = c .before .before .before .before .args in
-    let u = checked (a .t .now) (kindsMet (a .met)) in
+    let u = checked (a .types .now) (kindsMet (a .met)) in
     let g = a .fields in
-    let ys = typesOf (membersOf NoLabels (a .t .now) g) in
+    let ys = typesOf (membersOf NoLabels (a .types .now) g) in
     c .no-plan .ensures ∙ plan-many u (a .left) (g .count) ys (c .before .if1 .taken)
 
 no-plan-requires-2 : tie.Need-no-plan-requires-2 Inv-loop μ-loop
@@ -44,17 +44,17 @@ no-plan-requires-2 c κs = search needs
 returns-2 : tie.Need-returns-2 Inv-loop μ-loop
 returns-2 c =
     let a = c .before .before .before .before .before .args in
-    let u = checked (a .t .now) (kindsMet (a .met)) in
+    let u = checked (a .types .now) (kindsMet (a .met)) in
     let g = a .fields in
-    let ys = typesOf (membersOf NoLabels (a .t .now) g) in
+    let ys = typesOf (membersOf NoLabels (a .types .now) g) in
     c .no-plan2 .ensures ∙ plan-deep u (a .left) (g .count) ys (c .before .if2 .taken)
 
 loop-holds : tie.Need-loop-holds Inv-loop μ-loop
 loop-holds c =
     let a = c .before .before .before .before .before .args in
-    let u = checked (a .t .now) (kindsMet (a .met)) in
+    let u = checked (a .types .now) (kindsMet (a .met)) in
     let g = a .fields in
-    let makes-all = makes u (a .t .now) (g .start) (g .order) (g .count) in
+    let makes-all = makes u (a .types .now) (g .start) (g .order) (g .count) in
     let first : ℕ × Index × List ℕ = (0, g .first, replicate mostMembers 0) in
     (refl, refl, left-none makes-all (g .count) first)
 
@@ -73,10 +73,10 @@ no-plan-requires-3 c κs = search needs
 returns-3 : tie.Need-returns-3 Inv-loop μ-loop
 returns-3 c =
     let a = c .before .before .before .before .before .before .before .before .before .before .before .args in
-    let u = checked (a .t .now) (kindsMet (a .met)) in
+    let u = checked (a .types .now) (kindsMet (a .met)) in
     let g = a .fields in
-    let ys = typesOf (membersOf NoLabels (a .t .now) g) in
-    let makes-all = makes u (a .t .now) (g .start) (g .order) (g .count) in
+    let ys = typesOf (membersOf NoLabels (a .types .now) g) in
+    let makes-all = makes u (a .types .now) (g .start) (g .order) (g .count) in
     let first : ℕ × Index × List ℕ = (0, g .first, replicate mostMembers 0) in
     let loop = c .before .before .before .before .before .loop in
     let few = c .before .before .before .before .before .before .before .before .if1 .left in
@@ -84,7 +84,7 @@ returns-3 c =
     let at = sym (c .before .before .before .member-at .ensures) ∙ c .before .enum-told .given .1 in
     c .no-plan3 .ensures
     ∙ left-here makes-all (g .count) first (loop .inv .2) (c .before .before .before .before .loop-test .taken) noPlan
-    (make-cut u (a .t .now) (g .start) (g .order) (g .count) (loop .k) (loop .at) (loop .plan .kinds) at)
+    (make-cut u (a .types .now) (g .start) (g .order) (g .count) (loop .k) (loop .at) (loop .plan .kinds) at)
     ∙ plan-made u (a .left) (g .count) ys (omega (arith, few)) (omega (arith, levels))
 
 inside-of-requires : tie.Need-inside-of-requires Inv-loop μ-loop
@@ -100,20 +100,21 @@ returns-4 : tie.Need-returns-4 Inv-loop μ-loop
 unfolding look
 returns-4 c =
     let a = c .before .before .before .before .before .before .before .before .before .before .before .before .before .before .before .args in
-    let u = checked (a .t .now) (kindsMet (a .met)) in
+    let u = checked (a .types .now) (kindsMet (a .met)) in
     let g = a .fields in
-    let ys = typesOf (membersOf NoLabels (a .t .now) g) in
-    let makes-all = makes u (a .t .now) (g .start) (g .order) (g .count) in
+    let ys = typesOf (membersOf NoLabels (a .types .now) g) in
+    let makes-all = makes u (a .types .now) (g .start) (g .order) (g .count) in
     let first : ℕ × Index × List ℕ = (0, g .first, replicate mostMembers 0) in
     let loop = c .before .before .before .before .before .before .before .before .before .loop in
     let few = c .before .before .before .before .before .before .before .before .before .before .before .before .if1 .left in
     let levels = c .before .before .before .before .before .before .before .before .before .before .before .if2 .left in
     let at = sym (c .before .before .before .before .before .before .before .member-at .ensures) ∙ c .before .before .before .before .before .inner .given .1 in
     let inside = c .before .before .before .inside-of .ensures in
-    let kind = c .before .before .leaf-of .ensures (a .t .now) (kindsMet (a .met)) ∙ ap (λ (p : Parameters). leafKind (shapeOf (a .t .now) (kindsMet (a .met)) p)) inside in
+    let kind = c .before .before .leaf-of .ensures (a .types .now) (kindsMet (a .met)) ∙ ap
+    (λ (p : Parameters). leafKind (shapeOf (a .types .now) (kindsMet (a .met)) p)) inside in
     c .no-plan4 .ensures
     ∙ left-here makes-all (g .count) first (loop .inv .2) (c .before .before .before .before .before .before .before .before .loop-test .taken) noPlan
-    (make-none u (a .t .now) (g .start) (g .order) (g .count) (loop .k) (loop .at) (loop .plan .kinds) _ _ at _ kind (c .before .if3 .taken))
+    (make-none u (a .types .now) (g .start) (g .order) (g .count) (loop .k) (loop .at) (loop .plan .kinds) _ _ at _ kind (c .before .if3 .taken))
     ∙ plan-made u (a .left) (g .count) ys (omega (arith, few)) (omega (arith, levels))
 
 element-write-plan : tie.Need-element-write-plan Inv-loop μ-loop
@@ -135,33 +136,34 @@ loop-again c =
     let loop-test = c .before .before .before .before .before .before .before .loop-test in
     let if3 = c .if3 in
     let a = c .before .before .before .before .before .before .before .before .before .before .before .before .before .before .args in
-    let u = checked (a .t .now) (kindsMet (a .met)) in
+    let u = checked (a .types .now) (kindsMet (a .met)) in
     let g = a .fields in
-    let makes-all = makes u (a .t .now) (g .start) (g .order) (g .count) in
+    let makes-all = makes u (a .types .now) (g .start) (g .order) (g .count) in
     let first : ℕ × Index × List ℕ = (0, g .first, replicate mostMembers 0) in
     let loop = c .before .before .before .before .before .before .before .before .loop in
     let at = sym (member-at .ensures) ∙ inner .given .1 in
     let inside = inside-of .ensures in
-    let kind = leaf-of .ensures (a .t .now) (kindsMet (a .met)) ∙ ap (λ (p : Parameters). leafKind (shapeOf (a .t .now) (kindsMet (a .met)) p)) inside in (
+    let kind = leaf-of .ensures (a .types .now) (kindsMet (a .met))
+    ∙ ap (λ (p : Parameters). leafKind (shapeOf (a .types .now) (kindsMet (a .met)) p)) inside in (
       loop .inv .0,
       loop .inv .1,
       left-more makes-all (g .count) first (loop .inv .2) (loop-test .taken) _
-          (make-more u (a .t .now) (g .start) (g .order) (g .count) (loop .k) (loop .at) (loop .plan .kinds) _ _ at _ kind (if3 .left)),
+          (make-more u (a .types .now) (g .start) (g .order) (g .count) (loop .k) (loop .at) (loop .plan .kinds) _ _ at _ kind (if3 .left)),
     )
 
 returns-5 : tie.Need-returns-5 Inv-loop μ-loop
 returns-5 c =
     let a = c .before .before .before .before .before .before .before .args in
-    let u = checked (a .t .now) (kindsMet (a .met)) in
+    let u = checked (a .types .now) (kindsMet (a .met)) in
     let g = a .fields in
-    let ys = typesOf (membersOf NoLabels (a .t .now) g) in
-    let makes-all = makes u (a .t .now) (g .start) (g .order) (g .count) in
+    let ys = typesOf (membersOf NoLabels (a .types .now) g) in
+    let makes-all = makes u (a .types .now) (g .start) (g .order) (g .count) in
     let first : ℕ × Index × List ℕ = (0, g .first, replicate mostMembers 0) in
     let loop = c .before .loop in
     let few = c .before .before .before .before .if1 .left in
     let levels = c .before .before .before .if2 .left in
     plan-is (loop .plan) (g .count) (loop .inv .0) (loop .inv .1)
-    ∙ sym (make-end u (a .t .now) (g .start) (g .order) (g .count) (loop .k) (loop .at) (loop .plan .kinds))
+    ∙ sym (make-end u (a .types .now) (g .start) (g .order) (g .count) (loop .k) (loop .at) (loop .plan .kinds))
     ∙ left-end makes-all (g .count) first (loop .inv .2) (c .loop-test .left)
     ∙ plan-made u (a .left) (g .count) ys (omega (arith, few)) (omega (arith, levels))
 

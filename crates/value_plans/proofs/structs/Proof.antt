@@ -6,7 +6,7 @@ use mathlib.Core.Path.{ap, _∙_}
 use Prim.Native.Nat.{_-_}
 use native.Mathlib.Omega.{arith}
 use Rattle.value_leaves.specs.Walk.{sinkOf, sourceOf, stateOf}
-use Rattle.value_leaves.proofs.Loops.{Going, going-none, going-all, going-stop, going-more}
+use Rattle.value_leaves.proofs.RepeatsLoop.{Going, going-none, going-all, going-stop, going-more}
 use Rattle.value_plans.specs.Plans.{planSteps, planVisit}
 
 abbrev Inv-loop : tie.InvT-loop
@@ -37,7 +37,11 @@ returns c =
     let plan-members = c .before .before .before .before .plan-members in
     let a = c .before .before .before .before .before .before .before .before .before .before .before .args in
     let visit = c .before .before .before .before .before .visit in
-    going-stop (loop .inv) (loop-test .taken) (plan-members .ensures ∙ ap (planSteps (sinkOf (a .m)) (sourceOf (a .m) (a .v .now)) (a .plan .kinds) 0 (a .plan .count)) (visit .ensures (a .m) (loop .table))) (c .if1 .taken)
+    going-stop (loop .inv) (loop-test .taken)
+    (plan-members .ensures
+    ∙ ap (planSteps (sinkOf (a .mode)) (sourceOf (a .mode) (a .value .now)) (a .plan .kinds) 0 (a .plan .count))
+    (visit .ensures (a .mode) (loop .table)))
+    (c .if1 .taken)
 
 add-k : tie.Need-add-k Inv-loop μ-loop
 add-k c = search needs
@@ -52,7 +56,11 @@ loop-again c =
     let plan-members = c .before .before .before .before .plan-members in
     let a = c .before .before .before .before .before .before .before .before .before .before .before .args in
     let visit = c .before .before .before .before .before .visit in
-    going-more (loop .inv) (loop-test .taken) (plan-members .ensures ∙ ap (planSteps (sinkOf (a .m)) (sourceOf (a .m) (a .v .now)) (a .plan .kinds) 0 (a .plan .count)) (visit .ensures (a .m) (loop .table))) (plan-members .kept .1 .1 .0) (c .if1 .left)
+    going-more (loop .inv) (loop-test .taken)
+    (plan-members .ensures
+    ∙ ap (planSteps (sinkOf (a .mode)) (sourceOf (a .mode) (a .value .now)) (a .plan .kinds) 0 (a .plan .count))
+    (visit .ensures (a .mode) (loop .table)))
+    (plan-members .kept .1 .1 .0) (c .if1 .left)
 
 same-length-2 : tie.Need-same-length-2 Inv-loop μ-loop
 same-length-2 c = c .before .loop .inv .same

@@ -4,11 +4,11 @@ use mathlib.Core.List.{[]}
 use Prim.Native.Nat.{_-_}
 use borrow.Author.Needs.{needs}
 use native.Mathlib.Omega.{arith}
-use Rattle.type_list.specs.Shapes.Shape.{flat}
+use Rattle.type_unions.specs.Shapes.Shape.{flat}
 use Rattle.value_meaning.specs.Visit.{Checked, checked}
 use Rattle.value_meaning.specs.Reading.{reads}
 use Rattle.value_leaves.specs.Walk.{sinkOf, sourceOf, stateOf}
-use Rattle.value_leaves.proofs.Loops.{Going, going-none, going-all, going-stop, going-more}
+use Rattle.value_leaves.proofs.RepeatsLoop.{Going, going-none, going-all, going-stop, going-more}
 use Rattle.value_walk.proofs.flat_elements.Statement.{statement}
 use Rattle.value_walk.proofs.flat_elements.Tie as tie
 

@@ -6,14 +6,14 @@ use mathlib.Core.Path.{sym, _∙_}
 use native.Mathlib.Omega.{arith}
 use Rattle.value_meaning.specs.Reading.{reads}
 use Rattle.value_leaves.specs.Walk.{sinkOf, sourceOf, stateOf}
-use Rattle.value_walk.proofs.Nested as way
+use Rattle.value_walk.proofs.VisitIsNested as way
 
 returns : tie.Need-returns
 returns c =
     let a = c .before .before .before .args in
-    let k = sinkOf (a .m) in
-    let x = sourceOf (a .m) (a .v .now) in
-    let s = stateOf (a .c) (a .table .now) in
+    let k = sinkOf (a .mode) in
+    let x = sourceOf (a .mode) (a .value .now) in
+    let s = stateOf (a .cursor) (a .table .now) in
     λ t. sym (way.elements-none k x (reads k x t (a .left)) _ (a .count) s (c .if1 .taken))
 
 refused-requires : tie.Need-refused-requires
@@ -22,9 +22,9 @@ refused-requires c κs = search needs
 returns-2 : tie.Need-returns-2
 returns-2 c =
     let a = c .before .before .before .before .before .args in
-    let k = sinkOf (a .m) in
-    let x = sourceOf (a .m) (a .v .now) in
-    let s = stateOf (a .c) (a .table .now) in
+    let k = sinkOf (a .mode) in
+    let x = sourceOf (a .mode) (a .value .now) in
+    let s = stateOf (a .cursor) (a .table .now) in
     λ t. c .refused .ensures (a .table .now) ∙ sym (way.elements-refused k x t (a .left) _ (a .count) s (c .before .if2 .taken) (c .before .before .if1 .left))
 
 leaves-requires : tie.Need-leaves-requires
@@ -38,9 +38,9 @@ returns-3 c =
     let a = c .before .before .before .before .before .before .before .before .args in
     let leaves = c .before .before .leaves in
     let if2 = c .before .before .before .before .if2 in
-    let k = sinkOf (a .m) in
-    let x = sourceOf (a .m) (a .v .now) in
-    let s = stateOf (a .c) (a .table .now) in
+    let k = sinkOf (a .mode) in
+    let x = sourceOf (a .mode) (a .value .now) in
+    let s = stateOf (a .cursor) (a .table .now) in
     λ t. leaves .ensures ∙ sym (way.elements-leaves k x t (a .left) (a .kind) (a .count) s (omega (arith, if2 .left)))
 
 pub leaf-elements-spec : {M : Type 1} → statement M

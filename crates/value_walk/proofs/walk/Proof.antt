@@ -3,8 +3,8 @@ use borrow.Author.Needs.{needs}
 use Rattle.value_walk.proofs.walk.Statement.{statement}
 use Rattle.value_walk.proofs.walk.Tie as tie
 use mathlib.Core.Path.{ap, _∙_}
-use Rattle.type_kinds.specs.declared.Parameters.{Parameters}
-use Rattle.type_list.specs.Shapes.{shapeOf, look}
+use Rattle.type_parameters.specs.declared.Parameters.{Parameters}
+use Rattle.type_unions.specs.Shapes.{shapeOf, look}
 use Rattle.value_meaning.specs.Visit.{checked}
 use Rattle.value_meaning.specs.Reading.{reads, topOf}
 use Rattle.value_leaves.specs.Walk.{sinkOf, sourceOf, stateOf}
@@ -30,11 +30,11 @@ returns c =
     let visit = c .before .before .visit in
     let start = c .before .before .before .start in
     let inside-of = c .before .before .before .before .before .inside-of in
-    let k = sinkOf (a .m) in
-    let x = sourceOf (a .m) (a .v .now) in
-    let u = checked (a .t .now) (kindsMet (a .met)) in
+    let k = sinkOf (a .mode) in
+    let x = sourceOf (a .mode) (a .value .now) in
+    let u = checked (a .types .now) (kindsMet (a .met)) in
     visit .ensures
-    ∙ ap (λ (p : Parameters). reads k x u 64 (shapeOf (a .t .now) (kindsMet (a .met)) p) (stateOf (start .result) (a .table .now))) (inside-of .ensures)
+    ∙ ap (λ (p : Parameters). reads k x u 64 (shapeOf (a .types .now) (kindsMet (a .met)) p) (stateOf (start .result) (a .table .now))) (inside-of .ensures)
     ∙ ap (λ (w : Cursor). reads k x u 64 (topOf u) (stateOf w (a .table .now))) (start .ensures)
 
 pub walk-spec : {M : Type 1} → statement M

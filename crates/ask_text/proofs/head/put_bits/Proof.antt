@@ -2,7 +2,7 @@
 use mathlib.Core.Path.{sym}
 use native.Mathlib.Omega.{arith}
 use lib.Seq.{length-take-le}
-use Rattle.ask_text.proofs.Heads.{octets-most, bits-digits, bits-end, put-counted}
+use Rattle.ask_text.proofs.TextsFit.{octets-most, bits-digits, bits-end, put-counted}
 use borrow.Author.Needs.{needs}
 use Rattle.ask_text.proofs.head.put_bits.Statement.{statement}
 use Rattle.ask_text.proofs.head.put_bits.Tie as tie

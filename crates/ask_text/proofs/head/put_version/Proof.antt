@@ -3,7 +3,7 @@ use mathlib.Core.List.{[], _∷_, append-assoc}
 use native.Mathlib.Omega.{arith}
 use Rattle.decimals.proofs.Puts.{put-then}
 use Rattle.ask_text.specs.Replies.{orderText, space}
-use Rattle.ask_text.proofs.Heads.{order-end}
+use Rattle.ask_text.proofs.TextsFit.{order-end}
 use borrow.Author.Needs.{needs}
 use Rattle.ask_text.proofs.head.put_version.Statement.{statement}
 use Rattle.ask_text.proofs.head.put_version.Tie as tie

@@ -1,5 +1,5 @@
 -- No items, and some.
-use Rattle.ask_text.proofs.Joined.{text-none, text-some}
+use Rattle.ask_text.proofs.ItemsJoined.{text-none, text-some}
 use borrow.Author.Needs.{needs}
 use Rattle.ask_text.proofs.items.fit.Statement.{statement}
 use Rattle.ask_text.proofs.items.fit.Tie as tie

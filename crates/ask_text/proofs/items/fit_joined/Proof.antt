@@ -5,7 +5,7 @@ use native.Mathlib.Omega.{arith}
 use lib.ListN.{length}
 use borrow.Author.Tests.{le-leb, lt-leb}
 use Rattle.ask_text.specs.Items.{itemsOf, joined}
-use Rattle.ask_text.proofs.Joined.{leftOf, left-last, left-length}
+use Rattle.ask_text.proofs.ItemsJoined.{leftOf, left-last, left-length}
 use Rattle.ask_text.proofs.items.fit_joined.Statement.{statement}
 use Rattle.ask_text.proofs.items.fit_joined.Tie as tie
 

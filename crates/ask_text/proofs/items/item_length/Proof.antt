@@ -3,8 +3,8 @@ use Prim.Native.Nat.{_+_}
 use native.Mathlib.Omega.{arith}
 use lib.ListN.{getD}
 use Rattle.decimals.proofs.Decimal.{decimal-most}
-use Rattle.ask_text.specs.Items.{itemNumbers}
-use Rattle.ask_text.proofs.Joined.{item-length as item-characters}
+use Rattle.ask_text.specs.Items.{itemFrom}
+use Rattle.ask_text.proofs.ItemsJoined.{item-length as item-characters}
 use borrow.Author.Needs.{needs}
 use Rattle.ask_text.proofs.items.item_length.Statement.{statement}
 use Rattle.ask_text.proofs.items.item_length.Tie as tie
@@ -64,7 +64,7 @@ returns : tie.Need-returns
 returns c =
     let a = c .before .before .before .before .before .before .before .args in
     let count-digits = c .before .before .before .before .count-digits in
-    omega (arith, item-characters (itemNumbers (a .items .now) (a .j)), count-digits .ensures, c .before .before .count-digits2 .ensures, c .count-digits3 .ensures)
+    omega (arith, item-characters (itemFrom (a .items .now) (a .j)), count-digits .ensures, c .before .before .count-digits2 .ensures, c .count-digits3 .ensures)
 
 pub item-length-spec : {M : Type 1} → statement M
 item-length-spec =

@@ -6,8 +6,8 @@ use native.Mathlib.Omega.{arith}
 use lib.ListN.{getD}
 use Rattle.decimals.specs.Puts.{Put}
 use Rattle.decimals.proofs.Puts.{put-then}
-use Rattle.ask_text.specs.Items.{itemNumbers}
-use Rattle.ask_text.proofs.Joined.{item-length as item-characters, item-text, number-length}
+use Rattle.ask_text.specs.Items.{itemFrom}
+use Rattle.ask_text.proofs.ItemsJoined.{item-length as item-characters, item-text, number-length}
 use borrow.Author.Needs.{needs}
 use Rattle.ask_text.proofs.items.put_item.Statement.{statement}
 use Rattle.ask_text.proofs.items.put_item.Tie as tie
@@ -22,7 +22,7 @@ put-number-requires : tie.Need-put-number-requires
 put-number-requires c κs =
     let a = c .before .before .before .before .args in
     let pre = c .before .before .before .before .pre in
-    omega (arith, item-characters (itemNumbers (a .items .now) (a .j)), number-length (getD (a .items .now) (a .j) 0) 58, number-length (getD (a .items .now) (a .j + 1) 0) 58, number-length (getD (a .items .now) (a .j + 2) 0) (a .behind), pre .1)
+    omega (arith, item-characters (itemFrom (a .items .now) (a .j)), number-length (getD (a .items .now) (a .j) 0) 58, number-length (getD (a .items .now) (a .j + 1) 0) 58, number-length (getD (a .items .now) (a .j + 2) 0) (a .behind), pre .1)
 
 add-put-number : tie.Need-add-put-number
 add-put-number c = search needs
@@ -38,7 +38,7 @@ put-number-requires-2 c κs =
     let a = c .before .before .before .before .before .before .before .before .before .args in
     let pre = c .before .before .before .before .before .before .before .before .before .pre in
     let put-number = c .before .before .before .before .put-number in
-    omega (arith, item-characters (itemNumbers (a .items .now) (a .j)), number-length (getD (a .items .now) (a .j) 0) 58, number-length (getD (a .items .now) (a .j + 1) 0) 58, number-length (getD (a .items .now) (a .j + 2) 0) (a .behind), pre .1, put-number .ensures .end, put-number .kept .0)
+    omega (arith, item-characters (itemFrom (a .items .now) (a .j)), number-length (getD (a .items .now) (a .j) 0) 58, number-length (getD (a .items .now) (a .j + 1) 0) 58, number-length (getD (a .items .now) (a .j + 2) 0) (a .behind), pre .1, put-number .ensures .end, put-number .kept .0)
 
 add-put-number-2 : tie.Need-add-put-number-2
 add-put-number-2 c = search needs
@@ -55,7 +55,7 @@ put-number-requires-3 c κs =
     let pre = c .before .before .before .before .before .before .before .before .before .before .before .before .before .before .pre in
     let put-number = c .before .before .before .before .before .before .before .before .before .put-number in
     let put-number2 = c .before .before .before .before .put-number2 in
-    omega (arith, item-characters (itemNumbers (a .items .now) (a .j)), number-length (getD (a .items .now) (a .j) 0) 58, number-length (getD (a .items .now) (a .j + 1) 0) 58, number-length (getD (a .items .now) (a .j + 2) 0) (a .behind), pre .1, put-number .ensures .end, put-number2 .ensures .end, put-number .kept .0, put-number2 .kept .0)
+    omega (arith, item-characters (itemFrom (a .items .now) (a .j)), number-length (getD (a .items .now) (a .j) 0) 58, number-length (getD (a .items .now) (a .j + 1) 0) 58, number-length (getD (a .items .now) (a .j + 2) 0) (a .behind), pre .1, put-number .ensures .end, put-number2 .ensures .end, put-number .kept .0, put-number2 .kept .0)
 
 same-length : tie.Need-same-length
 same-length c = search needs
@@ -67,7 +67,7 @@ returns c =
     let put-number = c .before .before .before .before .before .before .before .before .before .before .before .before .put-number in
     let put-number2 = c .before .before .before .before .before .before .before .put-number2 in
     subst (λ (xs : List ℕ). Put (a .out .now) (a .at) xs (put-number3 .result) (put-number3 .last .0))
-    (item-text (itemNumbers (a .items .now) (a .j)) (a .behind))
+    (item-text (itemFrom (a .items .now) (a .j)) (a .behind))
     (put-then (put-number .ensures) (put-then (put-number2 .ensures) (put-number3 .ensures)))
 
 pub put-item-spec : {M : Type 1} → statement M

@@ -5,7 +5,7 @@ use native.Mathlib.Omega.{arith}
 use lib.ListN.{length}
 use lib.Seq.{sets}
 use Rattle.ask_text.specs.Items.{itemsOf, joined}
-use Rattle.ask_text.proofs.Joined.{leftOf, left-last, left-length, left-put}
+use Rattle.ask_text.proofs.ItemsJoined.{leftOf, left-last, left-length, left-put}
 use borrow.Author.Needs.{needs}
 use Rattle.ask_text.proofs.items.put_joined.Statement.{statement}
 use Rattle.ask_text.proofs.items.put_joined.Tie as tie

@@ -9,7 +9,7 @@ use Rattle.decimals.proofs.Puts.{put-taken, number-most}
 use Rattle.cdr_write.specs.Write.{Stored}
 use Rattle.ask_text.specs.Items.{lf}
 use Rattle.ask_text.specs.Replies.{space}
-use Rattle.ask_text.proofs.Heads.{said-parts}
+use Rattle.ask_text.proofs.TextsFit.{said-parts}
 use borrow.Author.Needs.{needs}
 use Rattle.ask_text.proofs.profiles.write.Statement.{statement}
 use Rattle.ask_text.proofs.profiles.write.Tie as tie
@@ -70,8 +70,13 @@ returns c =
     let octets-in2 = c .before .before .before .before .before .before .octets-in2 in
     let put-number = c .before .before .before .before .before .before .before .before .before .before .before .before .put-number in
     let put-two = c .before .before .before .before .before .before .before .before .before .put-two in
+    let port-most = number-most (a .said .port) (space ∷ []) in
+    let components-most = number-most (a .said .components) (space ∷ (decimal (a .said .extra) ++ (lf ∷ []))) in
+    let extra-most = number-most (a .said .extra) (lf ∷ []) in
     subst (λ (xs : List ℕ). Stored (a .out .now) (a .at) xs (write-parts .result) (write-parts .last .0))
-    (said-parts (a .head .now) (a .said) (a .body .now) (octets-in .ensures) (octets-in2 .ensures) (put-taken (put-number .ensures) (omega (arith, put-number .kept .0, put-number .ensures .end, number-most (a .said .port) (space ∷ [])))) (put-taken (put-two .ensures) (omega (arith, put-two .kept .0, put-two .ensures .end, number-most (a .said .components) (space ∷ (decimal (a .said .extra) ++ (lf ∷ []))), number-most (a .said .extra) (lf ∷ [])))))
+    (said-parts (a .head .now) (a .said) (a .body .now) (octets-in .ensures .octets) (octets-in2 .ensures .octets)
+    (put-taken (put-number .ensures) (omega (arith, put-number .kept .0, put-number .ensures .end, port-most)))
+    (put-taken (put-two .ensures) (omega (arith, put-two .kept .0, put-two .ensures .end, components-most, extra-most))))
     (write-parts .ensures)
 
 pub write-spec : {M : Type 1} → statement M

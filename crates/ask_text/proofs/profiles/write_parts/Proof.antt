@@ -1,68 +1,100 @@
 -- All of it fits, or nothing is written.
-use mathlib.Core.Path.{sym, _∙_}
+use mathlib.Core.Path.{_≡_, sym, _∙_}
 use mathlib.Core.List.{_++_}
+use Prim.Native.Nat.{_+_, _≤_}
+use native.Mathlib.Omega.{arith}
+use lib.ListN.{length, length-append}
+use borrow.Author.Tests.{not-true, not-false}
+use Rattle.cdr.proofs.RoomFits.{fits-room}
 use Rattle.ask_text.specs.Replies.{space, octetsText}
-use Rattle.ask_text.proofs.Together.{past-first, past-second, past-third, all-stored}
+use Rattle.ask_text.proofs.StoredTogether.{lacks-first, lacks-second, lacks-third, all-stored}
 use borrow.Author.Needs.{needs}
 use Rattle.ask_text.proofs.profiles.write_parts.Statement.{statement}
 use Rattle.ask_text.proofs.profiles.write_parts.Tie as tie
 
-end-of-requires : tie.Need-end-of-requires
-end-of-requires c κs = search needs
+-- the host with what stands before it fits, and where it ends;
+host-fits : (c : tie.Else1) →
+    let a = c .before .before .before .before .before .before .before .before .args in
+    a .at + length (a .head .now) + length (octetsText (a .host .now) space) ≤ length (a .out .now)
+host-fits c =
+    let a = c .before .before .before .before .before .before .before .before .args in
+    let room = fits-room (length (a .out .now)) (a .at) _ (sym (c .before .has-room .ensures space) ∙ not-false _ (c .if1 .left)) in
+    omega (arith, room, length-append (a .head .now) (octetsText (a .host .now) space))
 
-enum-known-next : tie.Need-enum-known-next
-enum-known-next c = search needs
+host-end : (c : tie.After-text-length) →
+    let a = c .before .before .before .before .before .before .before .before .before .args in
+    a .at + length (a .head .now) + c .text-length .result ≡ a .at + length (a .head .now ++ octetsText (a .host .now) space)
+host-end c =
+    let a = c .before .before .before .before .before .before .before .before .before .args in
+    omega (arith, c .text-length .ensures space, length-append (a .head .now) (octetsText (a .host .now) space))
 
-enum-told : tie.Need-enum-told
-enum-told c = search needs
+-- and so the key
+key-fits : (c : tie.Else2) →
+    let a = c .before .before .before .before .before .before .before .before .before .before .before .args in
+    a .at + length (a .head .now) + c .before .before .text-length .result + length (a .port .now) + length (octetsText (a .key .now) space) ≤ length (a .out .now)
+key-fits c =
+    let a = c .before .before .before .before .before .before .before .before .before .before .before .args in
+    let room = fits-room (length (a .out .now)) _ _ (sym (c .before .has-room2 .ensures space) ∙ not-false _ (c .if2 .left)) in
+    omega (arith, room, length-append (a .port .now) (octetsText (a .key .now) space))
 
-same-length : tie.Need-same-length
-same-length c = search needs
+key-end : (c : tie.After-text-length2) →
+    let a = c .before .before .before .before .before .before .before .before .before .before .before .before .args in
+    let next = a .at + length (a .head .now) + c .before .before .before .text-length .result in
+    next + length (a .port .now) + c .text-length2 .result ≡ next + length (a .port .now ++ octetsText (a .key .now) space)
+key-end c =
+    let a = c .before .before .before .before .before .before .before .before .before .before .before .before .args in
+    omega (arith, c .text-length2 .ensures space, length-append (a .port .now) (octetsText (a .key .now) space))
+
+has-room-requires : tie.Need-has-room-requires
+has-room-requires c κs = search needs
 
 returns : tie.Need-returns
 returns c =
-    let a = c .before .before .before .before .before .before .before .before .before .before .args in
-    past-first (a .out .now) (a .at) (a .head .now ++ octetsText (a .host .now) space) (a .port .now ++ octetsText (a .key .now) space) (a .counts .now) (sym (c .enum-told .given .1) ∙ c .before .before .end-of .ensures space)
+    let a = c .before .before .before .before .before .before .before .before .args in
+    let first = a .head .now ++ octetsText (a .host .now) space in
+    let second = a .port .now ++ octetsText (a .key .now) space in
+    lacks-first (a .out .now) (a .at) first second (a .counts .now) (sym (c .before .has-room .ensures space) ∙ not-true _ (c .if1 .taken))
 
-end-of-requires-2 : tie.Need-end-of-requires-2
-end-of-requires-2 c κs = search needs
+add-next : tie.Need-add-next
+add-next c = omega (arith, host-fits (c))
 
-enum-known-last : tie.Need-enum-known-last
-enum-known-last c = search needs
+text-length-requires : tie.Need-text-length-requires
+text-length-requires c κs = search needs
 
-enum-told-2 : tie.Need-enum-told-2
-enum-told-2 c = search needs
+add-next-2 : tie.Need-add-next-2
+add-next-2 c = omega (arith, host-fits (c .before), c .text-length .ensures space)
 
-same-length-2 : tie.Need-same-length-2
-same-length-2 c = search needs
+has-room-requires-2 : tie.Need-has-room-requires-2
+has-room-requires-2 c κs = search needs
 
 returns-2 : tie.Need-returns-2
 returns-2 c =
-    let a = c .before .before .before .before .before .before .before .before .before .before .before .before .before .before .before .args in
-    let next = c .before .before .before .before .before .next in
-    let end-of = c .before .before .before .before .before .before .before .end-of in
-    past-second (a .out .now) (a .at) (a .head .now ++ octetsText (a .host .now) space) (a .port .now ++ octetsText (a .key .now) space) (a .counts .now) _ (sym (next .given .1) ∙ end-of .ensures space) (sym (c .enum-told2 .given .1) ∙ c .before .before .end-of2 .ensures space)
+    let a = c .before .before .before .before .before .before .before .before .before .before .before .args in
+    let first = a .head .now ++ octetsText (a .host .now) space in
+    let second = a .port .now ++ octetsText (a .key .now) space in
+    let lacks = sym (c .before .has-room2 .ensures space) ∙ not-true _ (c .if2 .taken) in
+    lacks-second (a .out .now) (a .at) first second (a .counts .now) _ (host-end (c .before .before)) lacks
 
-read-run-requires : tie.Need-read-run-requires
-read-run-requires c κs = search needs
+add-last : tie.Need-add-last
+add-last c = omega (arith, key-fits (c))
 
-enum-told-3 : tie.Need-enum-told-3
-enum-told-3 c = search needs
+text-length-requires-2 : tie.Need-text-length-requires-2
+text-length-requires-2 c κs = search needs
 
-enum-told-4 : tie.Need-enum-told-4
-enum-told-4 c = search needs
+add-last-2 : tie.Need-add-last-2
+add-last-2 c = omega (arith, key-fits (c .before), c .text-length2 .ensures space)
 
-same-length-3 : tie.Need-same-length-3
-same-length-3 c = search needs
+fits-requires : tie.Need-fits-requires
+fits-requires c κs = search needs
 
 returns-3 : tie.Need-returns-3
 returns-3 c =
-    let a = c .before .before .before .before .before .before .before .before .before .before .before .before .before .before .before .before .before .before .before .before .args in
-    let next = c .before .before .before .before .before .before .before .before .before .before .next in
-    let end-of = c .before .before .before .before .before .before .before .before .before .before .before .before .end-of in
-    let last = c .before .before .before .before .before .last in
-    let end-of2 = c .before .before .before .before .before .before .before .end-of2 in
-    past-third (a .out .now) (a .at) (a .head .now ++ octetsText (a .host .now) space) (a .port .now ++ octetsText (a .key .now) space) (a .counts .now) _ (sym (next .given .1) ∙ end-of .ensures space) _ (sym (last .given .1) ∙ end-of2 .ensures space) (sym (c .enum-told4 .given .1) ∙ c .before .before .read-run .ensures)
+    let a = c .before .before .before .before .before .before .before .before .before .before .before .before .before .before .args in
+    let first = a .head .now ++ octetsText (a .host .now) space in
+    let second = a .port .now ++ octetsText (a .key .now) space in
+    let next = host-end (c .before .before .before .before .before) in
+    let last = key-end (c .before .before) in
+    lacks-third (a .out .now) (a .at) first second (a .counts .now) _ next _ last (sym (c .before .fits2 .ensures) ∙ not-true _ (c .if3 .taken))
 
 write-requires : tie.Need-write-requires
 write-requires c κs = search needs
@@ -73,43 +105,38 @@ write-requires-2 c κs = search needs
 write-octets-requires : tie.Need-write-octets-requires
 write-octets-requires c κs = search needs
 
-same-length-4 : tie.Need-same-length-4
-same-length-4 c = search needs
+same-length : tie.Need-same-length
+same-length c = search needs
 
 returns-4 : tie.Need-returns-4
 returns-4 c =
-    let a = c .before .before .before .before .before .before .before .before .before .before .before .before .before .before .before .before .before .before .before .before .before .before .before .before .before .before .before .before .before .before .before .before .args in
-    let next = c .before .before .before .before .before .before .before .before .before .before .before .before .before .before .before .before .before .before .before .before .before .before .next in
-    let end-of = c .before .before .before .before .before .before .before .before .before .before .before .before .before .before .before .before .before .before .before .before .before .before .before .before .end-of in
-    let last = c .before .before .before .before .before .before .before .before .before .before .before .before .before .before .before .before .before .last in
-    let end-of2 = c .before .before .before .before .before .before .before .before .before .before .before .before .before .before .before .before .before .before .before .end-of2 in
-    let enum-told3 = c .before .before .before .before .before .before .before .before .before .before .before .before .enum-told3 in
-    let read-run = c .before .before .before .before .before .before .before .before .before .before .before .before .before .before .read-run in
-    let write = c .before .before .before .before .before .before .before .before .before .before .write in
-    let write2 = c .before .before .before .before .before .before .write2 in
-    all-stored (a .out .now) (a .at) (a .head .now ++ octetsText (a .host .now) space) (a .port .now ++ octetsText (a .key .now) space) (a .counts .now) _ (sym (next .given .1) ∙ end-of .ensures space) _ (sym (last .given .1) ∙ end-of2 .ensures space) _ (sym (enum-told3 .given .1) ∙ read-run .ensures) _ _ (write .ensures) _ _ (write2 .ensures) _ _ (c .before .before .write-octets .ensures)
+    let a = c .before .before .before .before .before .before .before .before .before .before .before .before .before .before .before .before .before .before .before .before .before .before .before .before .before .before .args in
+    let first = a .head .now ++ octetsText (a .host .now) space in
+    let second = a .port .now ++ octetsText (a .key .now) space in
+    let next = host-end (c .before .before .before .before .before .before .before .before .before .before .before .before .before .before .before .before .before) in
+    let last = key-end (c .before .before .before .before .before .before .before .before .before .before .before .before .before .before) in
+    let room = sym (c .before .before .before .before .before .before .before .before .before .before .before .before .before .fits2 .ensures) ∙ not-false _ (c .before .before .before .before .before .before .before .before .before .before .before .before .if3 .left) in
+    all-stored (a .out .now) (a .at) first second (a .counts .now) _ next _ last room
+    _ _ (c .before .before .before .before .before .before .before .before .before .before .write .ensures) _ _ (c .before .before .before .before .before .before .write2 .ensures) _ _ (c .before .before .write-octets .ensures)
 
 pub write-parts-spec : {M : Type 1} → statement M
 write-parts-spec =
     tie.close
     (tie.spec
-    end-of-requires
-    enum-known-next
-    enum-told
-    same-length
+    has-room-requires
     returns
-    end-of-requires-2
-    enum-known-last
-    enum-told-2
-    same-length-2
+    add-next
+    text-length-requires
+    add-next-2
+    has-room-requires-2
     returns-2
-    read-run-requires
-    enum-told-3
-    enum-told-4
-    same-length-3
+    add-last
+    text-length-requires-2
+    add-last-2
+    fits-requires
     returns-3
     write-requires
     write-requires-2
     write-octets-requires
-    same-length-4
+    same-length
     returns-4)

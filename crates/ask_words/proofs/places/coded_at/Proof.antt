@@ -1,5 +1,5 @@
 -- An order, and a word behind it.
-use Rattle.ask_words.proofs.Left.{coded-none, coded-alone, coded-is}
+use Rattle.ask_words.proofs.WordsLeft.{coded-none, coded-alone, coded-is}
 use borrow.Author.Needs.{needs}
 use Rattle.ask_words.proofs.places.coded_at.Statement.{statement}
 use Rattle.ask_words.proofs.places.coded_at.Tie as tie

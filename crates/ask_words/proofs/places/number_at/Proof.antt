@@ -1,7 +1,7 @@
 -- A word, and its digits read.
 use mathlib.Core.Path.{sym, _∙_}
 use native.Mathlib.Omega.{arith}
-use Rattle.ask_words.proofs.Left.{word-within, number-none, number-other, number-is}
+use Rattle.ask_words.proofs.WordsLeft.{word-within, number-none, number-other, number-is}
 use borrow.Author.Needs.{needs}
 use Rattle.ask_words.proofs.places.number_at.Statement.{statement}
 use Rattle.ask_words.proofs.places.number_at.Tie as tie

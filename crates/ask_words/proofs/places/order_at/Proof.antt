@@ -1,7 +1,7 @@
 -- A word, and the order that it names.
 use mathlib.Core.Path.{sym, _∙_}
 use native.Mathlib.Omega.{arith}
-use Rattle.ask_words.proofs.Left.{word-within, order-none, order-other, order-is}
+use Rattle.ask_words.proofs.WordsLeft.{word-within, order-none, order-other, order-is}
 use borrow.Author.Needs.{needs}
 use Rattle.ask_words.proofs.places.order_at.Statement.{statement}
 use Rattle.ask_words.proofs.places.order_at.Tie as tie

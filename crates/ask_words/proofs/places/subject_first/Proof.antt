@@ -1,7 +1,7 @@
 -- One after the other.
 use native.Mathlib.Omega.{arith}
-use Rattle.ask_words.proofs.Left.{coded-within}
-use Rattle.ask_words.proofs.Subjects.{no-type, no-value, no-start, subject-is}
+use Rattle.ask_words.proofs.WordsLeft.{coded-within}
+use Rattle.ask_words.proofs.FieldsFound.{no-type, no-value, no-start, subject-is}
 use borrow.Author.Needs.{needs}
 use Rattle.ask_words.proofs.places.subject_first.Statement.{statement}
 use Rattle.ask_words.proofs.places.subject_first.Tie as tie

@@ -1,5 +1,5 @@
 -- Past the line there is no word, and in it the first of what is left.
-use Rattle.ask_words.proofs.Left.{word-none, word-there}
+use Rattle.ask_words.proofs.WordsLeft.{word-none, word-there}
 use borrow.Author.Needs.{needs}
 use Rattle.ask_words.proofs.places.word_at.Statement.{statement}
 use Rattle.ask_words.proofs.places.word_at.Tie as tie

@@ -7,7 +7,7 @@ use lib.ListN.{length, drop, length-set}
 use lib.Seq.{sets}
 use Rattle.cdr_write.proofs.store.copy.Statement.{statement}
 use Rattle.cdr_write.proofs.store.copy.Tie as tie
-use Rattle.cdr_write.proofs.Stores.{stored, stored-first, stored-last}
+use Rattle.cdr_write.proofs.BufferHolds.{stored, stored-first, stored-last}
 
 abbrev Inv-loop : tie.InvT-loop
 Inv-loop out₀ at octets k₀ out k = (k ≤ length octets) × (length out ≡ length out₀) × (sets out (at + k) (drop k octets) ≡ sets out₀ at octets)

@@ -2,7 +2,7 @@
 use borrow.Author.Needs.{needs}
 use Rattle.cdr_write.proofs.store.number1.Statement.{statement}
 use Rattle.cdr_write.proofs.store.number1.Tie as tie
-use Rattle.cdr_write.proofs.Stores.{one-octet}
+use Rattle.cdr_write.proofs.BufferHolds.{one-octet}
 
 cast-out : tie.Need-cast-out
 cast-out c = search needs

@@ -2,7 +2,7 @@
 use borrow.Author.Needs.{needs}
 use Rattle.cdr_write.proofs.store.number2.Statement.{statement}
 use Rattle.cdr_write.proofs.store.number2.Tie as tie
-use Rattle.cdr_write.proofs.Stores.{stored-halves}
+use Rattle.cdr_write.proofs.BufferHolds.{stored-halves}
 
 first-half-requires : tie.Need-first-half-requires
 first-half-requires c κs = search needs

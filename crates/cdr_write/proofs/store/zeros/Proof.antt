@@ -7,7 +7,7 @@ use lib.ListN.{length, drop, replicate, length-set, length-replicate}
 use lib.Seq.{sets}
 use Rattle.cdr_write.proofs.store.zeros.Statement.{statement}
 use Rattle.cdr_write.proofs.store.zeros.Tie as tie
-use Rattle.cdr_write.proofs.Stores.{stored-first, stored-last, zero-stored}
+use Rattle.cdr_write.proofs.BufferHolds.{stored-first, stored-last, zero-stored}
 
 abbrev Inv-loop : tie.InvT-loop
 Inv-loop out₀ at count k₀ out k = (k ≤ count) × (length out ≡ length out₀) × (sets out (at + k) (drop k (replicate count 0)) ≡ sets out₀ at (replicate count 0))

@@ -6,7 +6,7 @@ use Rattle.frame.proofs.fields.word.Statement.{statement}
 use Rattle.frame.proofs.fields.word.Tie as tie
 use Rattle.cdr.specs.Number.{numberAt}
 use Rattle.cdr.proofs.Numbers.{number-small}
-use Rattle.frame.proofs.Word.{word-value, word-there}
+use Rattle.frame.proofs.WordRead.{word-value, word-there}
 
 -- the number that was read is the word
 value-is : (c : tie.After-known-told) →

@@ -1,40 +1,40 @@
--- The index behind the others, then the component that stands there.
+-- The index behind the others, then the component that stands there, by the reader.
 use borrow.Author.Needs.{needs}
 use Rattle.profile.proofs.list.component_from.Statement.{statement}
 use Rattle.profile.proofs.list.component_from.Tie as tie
 use mathlib.Core.Path.{sym, _∙_}
-use Rattle.profile.proofs.Stages.{component-from-is}
+use Rattle.profile.proofs.StageAnswers.{component-behind, component-missing}
 
-skip-from-requires : tie.Need-skip-from-requires
-skip-from-requires c κs = search needs
+skip-tagged-requires : tie.Need-skip-tagged-requires
+skip-tagged-requires c κs = search needs
 
 enum-known-at : tie.Need-enum-known-at
 enum-known-at c = search needs
 
-component-at-requires : tie.Need-component-at-requires
-component-at-requires c κs = search needs
+component-in-requires : tie.Need-component-in-requires
+component-in-requires c κs = search needs
 
-enum-known-refusal : tie.Need-enum-known-refusal
-enum-known-refusal c = search needs
+enum-told : tie.Need-enum-told
+enum-told c = search needs
 
 returns : tie.Need-returns
 returns c =
     let a = c .before .before .before .before .before .before .args in
-    let skip-from = c .before .before .before .before .skip-from in
-    c .component-at .ensures ∙ sym (component-from-is (a .s .now) (a .order) (a .first) (a .number) _ (sym (skip-from .ensures) ∙ c .before .before .at .given .1))
+    let skip-tagged = c .before .before .before .before .skip-tagged in
+    c .component-in .ensures ∙ sym (component-behind (a .s .now) (a .order) (a .first) (a .number) _ (sym (skip-tagged .ensures) ∙ c .before .before .at .given .1))
 
 returns-2 : tie.Need-returns-2
 returns-2 c =
-    let a = c .before .before .before .before .before .args in
-    sym (component-from-is (a .s .now) (a .order) (a .first) (a .number) _ (sym (c .before .before .before .skip-from .ensures) ∙ c .before .refusal .given .1))
+    let a = c .before .before .before .before .args in
+    sym (component-missing (a .s .now) (a .order) (a .first) (a .number) (sym (c .before .before .skip-tagged .ensures) ∙ c .enum-told .given .1))
 
 pub component-from-spec : {M : Type 1} → statement M
 component-from-spec =
     tie.close
     (tie.spec
-    skip-from-requires
+    skip-tagged-requires
     enum-known-at
-    component-at-requires
-    enum-known-refusal
+    component-in-requires
+    enum-told
     returns
     returns-2)

@@ -3,9 +3,9 @@ use borrow.Author.Needs.{needs}
 use Rattle.profile.proofs.list.counted.Statement.{statement}
 use Rattle.profile.proofs.list.counted.Tie as tie
 use mathlib.Core.Path.{sym, _∙_}
-use Rattle.profile.proofs.Stages.{counted-is}
+use Rattle.profile.proofs.StageAnswers.{counted-is}
 use Rattle.cdr.specs.declared.Size.the-variants.{Four}
-use Rattle.profile_parts.proofs.Parts.{number-inside}
+use Rattle.profile_parts.proofs.PartsWithin.{number-inside}
 
 count-at-requires : tie.Need-count-at-requires
 count-at-requires c κs = search needs

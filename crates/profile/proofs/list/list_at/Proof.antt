@@ -3,7 +3,7 @@ use borrow.Author.Needs.{needs}
 use Rattle.profile.proofs.list.list_at.Statement.{statement}
 use Rattle.profile.proofs.list.list_at.Tie as tie
 use mathlib.Core.Path.{sym, _∙_}
-use Rattle.profile.proofs.Stages.{list-from-1, list-after-key, list-none}
+use Rattle.profile.proofs.StageAnswers.{list-from-1, list-after-key, list-none}
 
 has-components-requires : tie.Need-has-components-requires
 has-components-requires c κs = search needs

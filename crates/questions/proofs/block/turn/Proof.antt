@@ -2,7 +2,7 @@
 use mathlib.Core.Path.{sym}
 use borrow.Author.Tests.{not-true, not-false}
 use lib.Seq.{length-take-le}
-use Rattle.questions.proofs.Turns.{taken-within, turn-begun, turn-ended, turn-always}
+use Rattle.questions.proofs.TurnsAnswer.{taken-within, turn-begun, turn-ended, turn-always}
 use borrow.Author.Needs.{needs}
 use Rattle.questions.proofs.block.turn.Statement.{statement}
 use Rattle.questions.proofs.block.turn.Tie as tie
@@ -60,7 +60,7 @@ returns-2 c =
     let if1 = c .before .before .before .before .before .before .before .before .before .before .if1 in
     let answer-line = c .before .before .before .before .before .before .answer-line in
     turn-always (a .block .now) (a .at) (a .line .now) (a .out .now) (a .table .now) pre _ _ (take-line .ensures) (not-false _ (if1 .left))
-    _ _ (answer-line .ensures .0) (c .enum-told .given .1)
+    _ _ _ (answer-line .ensures) (c .enum-told .given .1)
 
 same-length-5 : tie.Need-same-length-5
 same-length-5 c = search needs
@@ -79,7 +79,7 @@ returns-3 c =
     let if1 = c .before .before .before .before .before .before .before .before .before .before .before .if1 in
     let answer-line = c .before .before .before .before .before .before .before .answer-line in
     turn-ended (a .block .now) (a .at) (a .line .now) (a .out .now) (a .table .now) pre _ _ (take-line .ensures) (not-false _ (if1 .left))
-    _ _ (answer-line .ensures .0) _ (c .before .end .given .1) _ (answer-line .ensures .1)
+    _ _ _ (answer-line .ensures) _ (c .before .end .given .1)
 
 pub turn-spec : {M : Type 1} → statement M
 turn-spec =

@@ -6,7 +6,7 @@ use native.Mathlib.Omega.{arith}
 use lib.ListN.{length}
 use Rattle.recording_text.specs.Listing.{octetsMost, messageMost}
 use Rattle.recording_text.specs.Blocks.{Work, workOf, blockFrom, goesOn}
-use Rattle.recording_text.proofs.Blocks.{goes, turn-goes, block-turn, block-stops}
+use Rattle.recording_text.proofs.TurnEquations.{goes, turn-goes, block-turn, block-stops}
 use Rattle.recording_text.proofs.block.answer_lines.Statement.{statement}
 use Rattle.recording_text.proofs.block.answer_lines.Tie as tie
 

@@ -1,6 +1,6 @@
 -- Test by test.
 use mathlib.Core.Path.{_∙_}
-use Rattle.recording_text.proofs.Blocks.{at-end, short-line, by-room}
+use Rattle.recording_text.proofs.TurnEquations.{at-end, short-line, by-room}
 use borrow.Author.Needs.{needs}
 use Rattle.recording_text.proofs.block.goes_on.Statement.{statement}
 use Rattle.recording_text.proofs.block.goes_on.Tie as tie

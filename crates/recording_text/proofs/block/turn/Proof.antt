@@ -6,9 +6,9 @@ use borrow.Author.Tests.{not-true, not-false}
 use lib.ListN.{length}
 use lib.Seq.{length-take-le}
 use Rattle.lines.specs.declared.Taken.{Taken}
-use Rattle.lines.proofs.Laws.{kept-most}
+use Rattle.lines.proofs.LinesOfBlocks.{kept-most}
 use Rattle.recording_text.specs.Blocks.{workOf}
-use Rattle.recording_text.proofs.Blocks.{begun-is, answered-is}
+use Rattle.recording_text.proofs.TurnEquations.{begun-is, answered-is}
 use borrow.Author.Needs.{needs}
 use Rattle.recording_text.proofs.block.turn.Statement.{statement}
 use Rattle.recording_text.proofs.block.turn.Tie as tie

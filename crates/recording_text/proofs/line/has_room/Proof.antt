@@ -1,5 +1,5 @@
 -- The room is found without a sum that could wrap.
-use Rattle.recording_text.proofs.Entries.{no-room, room-by}
+use Rattle.recording_text.proofs.EntryListed.{no-room, room-by}
 use Rattle.recording_text.proofs.line.has_room.Statement.{statement}
 use Rattle.recording_text.proofs.line.has_room.Tie as tie
 

@@ -6,7 +6,7 @@ use lib.ListN.{length}
 use lib.Seq.{length-take-le}
 use Rattle.recording_text.specs.Listing.{octetsMost, Entry}
 use Rattle.recording_text.specs.Inner.{Lists}
-use Rattle.recording_text.proofs.Entries.{decoded-count, entry-accepted, entry-refused, lists-refused}
+use Rattle.recording_text.proofs.EntryListed.{decoded-count, entry-accepted, entry-refused, lists-refused}
 use borrow.Author.Needs.{needs}
 use Rattle.recording_text.proofs.line.list_line.Statement.{statement}
 use Rattle.recording_text.proofs.line.list_line.Tie as tie

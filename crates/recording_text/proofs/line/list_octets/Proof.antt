@@ -5,7 +5,7 @@ use native.Mathlib.Omega.{arith}
 use lib.ListN.{length, length-take}
 use lib.Seq.{length-take-le}
 use Rattle.recording_text.specs.Listing.{messageMost}
-use Rattle.recording_text.proofs.Entries.{count-most, lists-shown, lists-unshown}
+use Rattle.recording_text.proofs.EntryListed.{count-most, lists-shown, lists-unshown}
 use borrow.Author.Needs.{needs}
 use Rattle.recording_text.proofs.line.list_octets.Statement.{statement}
 use Rattle.recording_text.proofs.line.list_octets.Tie as tie

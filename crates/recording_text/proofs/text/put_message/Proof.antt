@@ -1,7 +1,7 @@
 -- The digits fit, and the LF behind them.
 use native.Mathlib.Omega.{arith}
 use Rattle.decimals.proofs.Puts.{put-then, put-one}
-use Rattle.recording_text.proofs.Puts.{message-put}
+use Rattle.recording_text.proofs.MessagePut.{message-put}
 use borrow.Author.Needs.{needs}
 use Rattle.recording_text.proofs.text.put_message.Statement.{statement}
 use Rattle.recording_text.proofs.text.put_message.Tie as tie

@@ -2,7 +2,7 @@
 use Rattle.hexline.specs.Encoding.{octetDigits}
 use native.Mathlib.Omega.{arith}
 use Rattle.decimals.proofs.Puts.{put-then}
-use Rattle.recording_text.proofs.Entries.{line-text, numbers-most}
+use Rattle.recording_text.proofs.EntryListed.{line-text, numbers-most}
 use borrow.Author.Needs.{needs}
 use Rattle.recording_text.proofs.text.put_shown.Statement.{statement}
 use Rattle.recording_text.proofs.text.put_shown.Tie as tie

@@ -14,7 +14,9 @@ gap-requires : tie.Need-gap-requires
 gap-requires c κs = search needs
 
 add-result : tie.Need-add-result
-add-result c = let g = gap-small (c .before .before .args .size) (c .before .before .args .index .0 % 8 + c .before .before .args .at) in let o = octets-small (c .before .before .args .size) in let e = c .gap .ensures in omega (arith, c .before .before .pre)
+add-result c =
+    let g = gap-small (c .before .before .args .size) (c .before .before .args .index .0 % 8 + c .before .before .args .at) in
+    let o = octets-small (c .before .before .args .size) in let e = c .gap .ensures in omega (arith, c .before .before .pre)
 
 returns : tie.Need-returns
 returns c =

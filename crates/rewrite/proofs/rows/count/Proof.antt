@@ -5,8 +5,8 @@ use Rattle.rewrite.proofs.rows.count.Tie as tie
 use mathlib.Core.Path.{_≡_, sym, ap, _∙_}
 use Prim.Native.Nat.{ℕ, _+_, _-_, _*_, _<_, _≤_, _^_}
 use native.Mathlib.Omega.{arith}
-use Rattle.rewrite.specs.Inner.{endOf, reach, rowOf}
-use Rattle.rewrite.proofs.Items.{reach-none, reach-next, reach-small}
+use Rattle.rewrite.specs.Inner.{itemEnd, reach, rowOf}
+use Rattle.rewrite.proofs.ItemsWritten.{reach-none, reach-next, reach-small}
 
 abbrev Inv-loop : tie.InvT-loop
 Inv-loop rows n index at₀ k₀ at k = (k ≤ n) × (at ≡ reach index (rowOf rows) k)
@@ -45,7 +45,10 @@ item-end-requires c κs =
     let pre = c .before .before .before .before .before .pre in
     let loop = c .before .before .before .loop in
     let a = c .before .before .before .before .before .args in
-    let h = c .before .before .loop-test .taken in let s = pre in let e = loop .inv .1 in let b = reach-small (a .index) (a .rows .now) (a .n) s (loop .k) (omega arith) in (omega (arith, s .few), s .tails (loop .k) h)
+    let h = c .before .before .loop-test .taken in
+    let s = pre in
+    let e = loop .inv .1 in
+    let b = reach-small (a .index) (a .rows .now) (a .n) s (loop .k) (omega arith) in (omega (arith, s .few), s .tails (loop .k) h)
 
 add-k : tie.Need-add-k Inv-loop μ-loop
 add-k c = search needs
@@ -57,7 +60,12 @@ loop-again : tie.Need-loop-again Inv-loop μ-loop
 loop-again c =
     let a = c .before .before .before .before .before .before .args in
     let loop = c .before .before .before .before .loop in
-    let h = c .before .before .before .loop-test .taken in (omega arith, c .item-end .ensures ∙ ap (λ (j : ℕ). endOf (a .index) j (rowOf (a .rows .now) (loop .k) .kind) (rowOf (a .rows .now) (loop .k) .content)) (loop .inv .1) ∙ sym (reach-next (a .index) (rowOf (a .rows .now)) (loop .k)))
+    let h = c .before .before .before .loop-test .taken in (
+      omega arith,
+      c .item-end .ensures
+          ∙ ap (λ (j : ℕ). itemEnd (a .index) j (rowOf (a .rows .now) (loop .k) .kind) (rowOf (a .rows .now) (loop .k) .content)) (loop .inv .1)
+          ∙ sym (reach-next (a .index) (rowOf (a .rows .now)) (loop .k)),
+    )
 
 returns : tie.Need-returns Inv-loop μ-loop
 returns c =

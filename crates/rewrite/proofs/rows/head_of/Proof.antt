@@ -5,7 +5,7 @@ use mathlib.Core.Path.{_≡_}
 use Prim.Native.Nat.{_+_, _≤_}
 use native.Mathlib.Omega.{arith}
 use borrow.Author.Tests.{eq-eqb, ne-eqb}
-use Rattle.rewrite.proofs.Items.{tail-text}
+use Rattle.rewrite.proofs.ItemsWritten.{tail-text}
 use Rattle.rewrite.specs.Inner.{headOf}
 
 add-result : tie.Need-add-result

@@ -3,7 +3,7 @@ use Rattle.rewrite.proofs.rows.is_octet.Statement.{statement}
 use Rattle.rewrite.proofs.rows.is_octet.Tie as tie
 use mathlib.Core.Bool.{false≢true}
 use borrow.Author.Tests.{ltb-true}
-use Rattle.rewrite.proofs.Items.{octet-kind}
+use Rattle.rewrite.proofs.ItemsWritten.{octet-kind}
 
 returns : tie.Need-returns
 returns c = λ e. absurd (false≢true e)

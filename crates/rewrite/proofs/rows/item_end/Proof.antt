@@ -9,7 +9,7 @@ use Rattle.cdr.specs.declared.Size.{Size}
 use Rattle.cdr.specs.Align.{octets, behindGap}
 use Rattle.cdr.proofs.Alignment.{octets-small, gap-small}
 use Rattle.rewrite.specs.Inner.{widthOf}
-use Rattle.rewrite.proofs.Items.{octet-ends}
+use Rattle.rewrite.proofs.ItemsWritten.{octet-ends}
 
 is-octet-requires : tie.Need-is-octet-requires
 is-octet-requires c κs = search needs
@@ -36,7 +36,8 @@ add-result-2 c =
     let width-of = c .before .before .width-of in
     let a = c .before .before .before .before .before .args in
     let pre = c .before .before .before .before .before .pre in
-    let g = gap-small (width-of .result) (a .index .0 + a .at) in let o = octets-small (width-of .result) in let e = c .before .behind-gap .ensures in let f = c .octets .ensures in omega (arith, pre .0)
+    let g = gap-small (width-of .result) (a .index .0 + a .at) in
+    let o = octets-small (width-of .result) in let e = c .before .behind-gap .ensures in let f = c .octets .ensures in omega (arith, pre .0)
 
 tail-of-requires : tie.Need-tail-of-requires
 tail-of-requires c κs = search needs
@@ -46,14 +47,20 @@ add-result-3 c =
     let width-of = c .before .before .before .width-of in
     let a = c .before .before .before .before .before .before .args in
     let pre = c .before .before .before .before .before .before .pre in
-    let g = gap-small (width-of .result) (a .index .0 + a .at) in let o = octets-small (width-of .result) in let e = c .before .before .behind-gap .ensures in let f = c .before .octets .ensures in let t = c .tail-of .ensures in omega (arith, pre .0, pre .1)
+    let g = gap-small (width-of .result) (a .index .0 + a .at) in
+    let o = octets-small (width-of .result) in
+    let e = c .before .before .behind-gap .ensures in
+    let f = c .before .octets .ensures in let t = c .tail-of .ensures in omega (arith, pre .0, pre .1)
 
 returns-2 : tie.Need-returns-2
 returns-2 c =
     let octets2 = c .before .octets in
     let a = c .before .before .before .before .before .before .args in
     let width-of = c .before .before .before .width-of in
-    ap (λ (n : ℕ). n + octets2 .result + c .tail-of .result) (c .before .before .behind-gap .ensures) ∙ ap (λ (n : ℕ). behindGap (a .index) (a .at) (octets (width-of .result)) + n + c .tail-of .result) (octets2 .ensures) ∙ ap (λ (z : Size). behindGap (a .index) (a .at) (octets z) + octets z + c .tail-of .result) (width-of .ensures) ∙ ap (λ (n : ℕ). behindGap (a .index) (a .at) (octets (widthOf (a .kind))) + octets (widthOf (a .kind)) + n) (c .tail-of .ensures)
+    ap (λ (n : ℕ). n + octets2 .result + c .tail-of .result) (c .before .before .behind-gap .ensures)
+    ∙ ap (λ (n : ℕ). behindGap (a .index) (a .at) (octets (width-of .result)) + n + c .tail-of .result) (octets2 .ensures)
+    ∙ ap (λ (z : Size). behindGap (a .index) (a .at) (octets z) + octets z + c .tail-of .result) (width-of .ensures)
+    ∙ ap (λ (n : ℕ). behindGap (a .index) (a .at) (octets (widthOf (a .kind))) + octets (widthOf (a .kind)) + n) (c .tail-of .ensures)
 
 pub item-end-spec : {M : Type 1} → statement M
 item-end-spec =

@@ -23,7 +23,13 @@ returns-3 c = simp (ne-eqb _ _ (c .before .before .if1 .left), ne-eqb _ _ (c .be
 
 returns-4 : tie.Need-returns-4
 unfolding widthOf
-returns-4 c = simp (ne-eqb _ _ (c .before .before .before .if1 .left), ne-eqb _ _ (c .before .before .if2 .left), ne-eqb _ _ (c .before .if3 .left), eq-eqb _ _ (c .if4 .taken))
+returns-4 c =
+    simp (
+      ne-eqb _ _ (c .before .before .before .if1 .left),
+      ne-eqb _ _ (c .before .before .if2 .left),
+      ne-eqb _ _ (c .before .if3 .left),
+      eq-eqb _ _ (c .if4 .taken),
+    )
 
 size-of-requires : tie.Need-size-of-requires
 size-of-requires c κs = search needs
@@ -32,7 +38,13 @@ returns-5 : tie.Need-returns-5
 unfolding widthOf
 returns-5 c =
     let if1 = c .before .before .before .before .if1 in
-    c .size-of .ensures ∙ simp (ne-eqb _ _ (if1 .left), ne-eqb _ _ (c .before .before .before .if2 .left), ne-eqb _ _ (c .before .before .if3 .left), ne-eqb _ _ (c .before .if4 .left))
+    c .size-of .ensures
+    ∙ simp (
+      ne-eqb _ _ (if1 .left),
+      ne-eqb _ _ (c .before .before .before .if2 .left),
+      ne-eqb _ _ (c .before .before .if3 .left),
+      ne-eqb _ _ (c .before .if4 .left),
+    )
 
 pub width-of-spec : {M : Type 1} → statement M
 width-of-spec =

@@ -4,7 +4,7 @@ use Rattle.rewrite.proofs.rows.write_item.Statement.{statement}
 use Rattle.rewrite.proofs.rows.write_item.Tie as tie
 use native.Mathlib.Omega.{arith}
 use Rattle.rewrite_meaning.specs.Written.{target}
-use Rattle.rewrite.proofs.Items.{octet-ends, octet-octets}
+use Rattle.rewrite.proofs.ItemsWritten.{octet-ends, octet-octets}
 
 is-octet-requires : tie.Need-is-octet-requires
 is-octet-requires c κs = search needs
@@ -27,8 +27,11 @@ same-length c = search needs
 returns : tie.Need-returns
 returns c =
     let a = c .before .before .before .before .args in
-    let is-octet = c .before .is-octet in
-    (octet-ends (a .index) (a .at) (a .kind) (a .content) (is-octet .ensures (c .if1 .taken)), octet-octets (target (a .order) (a .index)) (a .v .now) (a .out .now) (a .at) (a .kind) (a .place) (a .content) (is-octet .ensures (c .if1 .taken)))
+    let is-octet = c .before .is-octet in (
+      octet-ends (a .index) (a .at) (a .kind) (a .content) (is-octet .ensures (c .if1 .taken)),
+      octet-octets (target (a .order) (a .index)) (a .value .now) (a .out .now) (a .at) (a .kind) (a .place) (a .content)
+          (is-octet .ensures (c .if1 .taken)),
+    )
 
 write-wide-requires : tie.Need-write-wide-requires
 write-wide-requires c κs = search needs

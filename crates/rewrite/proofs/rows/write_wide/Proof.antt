@@ -9,7 +9,7 @@ use native.Mathlib.Omega.{arith}
 use Rattle.cdr.specs.Align.{octets, gap}
 use Rattle.rewrite_meaning.specs.Written.{target}
 use Rattle.rewrite.specs.Inner.{headOf}
-use Rattle.rewrite.proofs.Items as items
+use Rattle.rewrite.proofs.ItemsWritten as items
 
 width-of-requires : tie.Need-width-of-requires
 width-of-requires c κs = search needs
@@ -26,7 +26,9 @@ add-end c =
     let width-of = c .before .before .width-of in
     let behind-gap = c .before .behind-gap in
     let pre = c .before .before .before .before .before .pre in
-    let f = items.item-fits (target (a .order) (a .index)) (a .v .now) (a .out .now) (a .at) (a .kind) (a .place) (a .content) (width-of .result) (behind-gap .result) (headOf (a .kind) (a .content)) (width-of .ensures) (behind-gap .ensures) refl _ (pre .2) in let e = c .octets .ensures in omega arith
+    let f = items.item-fits (target (a .order) (a .index)) (a .value .now) (a .out .now) (a .at) (a .kind) (a .place) (a .content)
+    (width-of .result) (behind-gap .result) (headOf (a .kind) (a .content)) (width-of .ensures) (behind-gap .ensures) refl _ (pre .2) in
+    let e = c .octets .ensures in omega arith
 
 sub-write-zeros : tie.Need-sub-write-zeros
 sub-write-zeros c = search needs
@@ -57,7 +59,16 @@ returns c =
     let pre = c .before .before .before .before .before .before .before .before .before .before .before .before .before .before .before .before .pre in
     let write-zeros = c .before .before .before .before .before .before .before .before .before .write-zeros in
     let write-number = c .before .before .before .before .write-number in
-    (let e : tail-of .result ≡ 0 = c .if1 .taken in let z = items.item-ends (target (a .order) (a .index)) (a .v .now) (a .out .now) (a .at) (a .kind) (a .place) (a .content) (width-of .result) (behind-gap .result) (head-of .result) (width-of .ensures) (behind-gap .ensures) (head-of .ensures) (octets .result) (tail-of .result) (octets .ensures) (tail-of .ensures) in omega arith, items.item-written (target (a .order) (a .index)) (a .v .now) (a .out .now) (a .at) (a .kind) (a .place) (a .content) (width-of .result) (behind-gap .result) (head-of .result) (width-of .ensures) (behind-gap .ensures) (head-of .ensures) (pre .2) (tail-of .result) (octets .result) (tail-of .ensures) (octets .ensures) _ _ _ _ _ (write-zeros .ensures) (write-number .ensures) (items.no-tail _ _ _ _ (c .if1 .taken)))
+    let to = target (a .order) (a .index) in (
+      let e : tail-of .result ≡ 0 = c .if1 .taken in
+          let z = items.item-ends to (a .value .now) (a .out .now) (a .at) (a .kind) (a .place) (a .content) (width-of .result)
+          (behind-gap .result) (head-of .result) (width-of .ensures) (behind-gap .ensures) (head-of .ensures) (octets .result) (tail-of .result)
+          (octets .ensures) (tail-of .ensures) in
+          omega arith,
+      items.item-written to (a .value .now) (a .out .now) (a .at) (a .kind) (a .place) (a .content) (width-of .result) (behind-gap .result)
+          (head-of .result) (width-of .ensures) (behind-gap .ensures) (head-of .ensures) (pre .2) (tail-of .result) (octets .result)
+          (tail-of .ensures) (octets .ensures) _ _ _ _ _ (write-zeros .ensures) (write-number .ensures) (items.no-tail _ _ _ _ (c .if1 .taken)),
+    )
 
 add-write-octets : tie.Need-add-write-octets
 add-write-octets c = search needs
@@ -75,23 +86,47 @@ write-octets-requires : tie.Need-write-octets-requires
 write-octets-requires c κs = search needs
 
 add-result : tie.Need-add-result
-add-result c = let f = items.item-fits (target (c .before .before .before .before .before .before .before .before .before .before .before .before .before .before .before .before .before .before .before .before .before .args .order) (c .before .before .before .before .before .before .before .before .before .before .before .before .before .before .before .before .before .before .before .before .before .args .index)) (c .before .before .before .before .before .before .before .before .before .before .before .before .before .before .before .before .before .before .before .before .before .args .v .now) (c .before .before .before .before .before .before .before .before .before .before .before .before .before .before .before .before .before .before .before .before .before .args .out .now) (c .before .before .before .before .before .before .before .before .before .before .before .before .before .before .before .before .before .before .before .before .before .args .at) (c .before .before .before .before .before .before .before .before .before .before .before .before .before .before .before .before .before .before .before .before .before .args .kind) (c .before .before .before .before .before .before .before .before .before .before .before .before .before .before .before .before .before .before .before .before .before .args .place) (c .before .before .before .before .before .before .before .before .before .before .before .before .before .before .before .before .before .before .before .before .before .args .content) (c .before .before .before .before .before .before .before .before .before .before .before .before .before .before .before .before .before .before .width-of .result) (c .before .before .before .before .before .before .before .before .before .before .before .before .before .before .before .before .before .behind-gap .result) (headOf (c .before .before .before .before .before .before .before .before .before .before .before .before .before .before .before .before .before .before .before .before .before .args .kind) (c .before .before .before .before .before .before .before .before .before .before .before .before .before .before .before .before .before .before .before .before .before .args .content)) (c .before .before .before .before .before .before .before .before .before .before .before .before .before .before .before .before .before .before .width-of .ensures) (c .before .before .before .before .before .before .before .before .before .before .before .before .before .before .before .before .before .behind-gap .ensures) refl _ (c .before .before .before .before .before .before .before .before .before .before .before .before .before .before .before .before .before .before .before .before .before .pre .2) in let e = c .before .before .before .before .before .before .before .before .before .before .before .before .before .before .before .before .octets .ensures in let t = c .before .before .before .before .before .before .tail-of .ensures in omega arith
+add-result c =
+    let f =
+    let a = c .before .before .before .before .before .before .before .before .before .before .before .before .before .before .before .before .before .before .before .before .before .args in
+    let pre = c .before .before .before .before .before .before .before .before .before .before .before .before .before .before .before .before .before .before .before .before .before .pre in
+    let width-of = c .before .before .before .before .before .before .before .before .before .before .before .before .before .before .before .before .before .before .width-of in
+    let behind-gap = c .before .before .before .before .before .before .before .before .before .before .before .before .before .before .before .before .before .behind-gap in
+    items.item-fits (target (a .order) (a .index)) (a .value .now) (a .out .now) (a .at) (a .kind) (a .place) (a .content)
+    (width-of .result) (behind-gap .result) (headOf (a .kind) (a .content)) (width-of .ensures) (behind-gap .ensures) refl _ (pre .2) in
+    let e = c .before .before .before .before .before .before .before .before .before .before .before .before .before .before .before .before .octets .ensures in
+    let t = c .before .before .before .before .before .before .tail-of .ensures in
+    omega arith
 
 same-length-2 : tie.Need-same-length-2
 same-length-2 c = search needs
 
 returns-2 : tie.Need-returns-2
 returns-2 c =
-    let a = c .before .before .before .before .before .before .before .before .before .before .before .before .before .before .before .before .before .before .before .before .before .args in
-    let width-of = c .before .before .before .before .before .before .before .before .before .before .before .before .before .before .before .before .before .before .width-of in
-    let behind-gap = c .before .before .before .before .before .before .before .before .before .before .before .before .before .before .before .before .before .behind-gap in
+    let a = c .before .before .before .before .before .before .before .before .before .before .before .before .before .before .before
+    .before .before .before .before .before .before .args in
+    let width-of = c .before .before .before .before .before .before .before .before .before .before .before .before .before .before .before
+    .before .before .before .width-of in
+    let behind-gap = c .before .before .before .before .before .before .before .before .before .before .before .before .before .before
+    .before .before .before .behind-gap in
     let head-of = c .before .before .before .before .before .before .before .before .before .before .head-of in
     let octets = c .before .before .before .before .before .before .before .before .before .before .before .before .before .before .before .before .octets in
     let tail-of = c .before .before .before .before .before .before .tail-of in
-    let pre = c .before .before .before .before .before .before .before .before .before .before .before .before .before .before .before .before .before .before .before .before .before .pre in
+    let pre = c .before .before .before .before .before .before .before .before .before .before .before .before .before .before .before
+    .before .before .before .before .before .before .pre in
     let write-zeros = c .before .before .before .before .before .before .before .before .before .before .before .before .before .before .write-zeros in
     let write-number = c .before .before .before .before .before .before .before .before .before .write-number in
-    (items.item-ends (target (a .order) (a .index)) (a .v .now) (a .out .now) (a .at) (a .kind) (a .place) (a .content) (width-of .result) (behind-gap .result) (head-of .result) (width-of .ensures) (behind-gap .ensures) (head-of .ensures) (octets .result) (tail-of .result) (octets .ensures) (tail-of .ensures), items.item-written (target (a .order) (a .index)) (a .v .now) (a .out .now) (a .at) (a .kind) (a .place) (a .content) (width-of .result) (behind-gap .result) (head-of .result) (width-of .ensures) (behind-gap .ensures) (head-of .ensures) (pre .2) (tail-of .result) (octets .result) (tail-of .ensures) (octets .ensures) _ _ _ _ _ (write-zeros .ensures) (write-number .ensures) (items.tail-written (target (a .order) (a .index)) (a .v .now) (a .out .now) (a .at) (a .kind) (a .place) (a .content) (width-of .result) (behind-gap .result) (head-of .result) (width-of .ensures) (behind-gap .ensures) (head-of .ensures) (pre .2) (pre .1) (tail-of .result) (octets .result) (tail-of .ensures) (octets .ensures) _ _ _ (write-number .kept .0 ∙ write-zeros .kept .0) (c .before .before .write-octets .ensures)))
+    let to = target (a .order) (a .index) in (
+      items.item-ends to (a .value .now) (a .out .now) (a .at) (a .kind) (a .place) (a .content) (width-of .result) (behind-gap .result)
+          (head-of .result) (width-of .ensures) (behind-gap .ensures) (head-of .ensures) (octets .result) (tail-of .result) (octets .ensures)
+          (tail-of .ensures),
+      items.item-written to (a .value .now) (a .out .now) (a .at) (a .kind) (a .place) (a .content) (width-of .result) (behind-gap .result)
+          (head-of .result) (width-of .ensures) (behind-gap .ensures) (head-of .ensures) (pre .2) (tail-of .result) (octets .result)
+          (tail-of .ensures) (octets .ensures) _ _ _ _ _ (write-zeros .ensures) (write-number .ensures)
+          (items.tail-written to (a .value .now) (a .out .now) (a .at) (a .kind) (a .place) (a .content) (width-of .result) (behind-gap .result)
+          (head-of .result) (width-of .ensures) (behind-gap .ensures) (head-of .ensures) (pre .2) (pre .1) (tail-of .result) (octets .result)
+          (tail-of .ensures) (octets .ensures) _ _ _ (write-number .kept .0 ∙ write-zeros .kept .0) (c .before .before .write-octets .ensures)),
+    )
 
 pub write-wide-spec : {M : Type 1} → statement M
 write-wide-spec =

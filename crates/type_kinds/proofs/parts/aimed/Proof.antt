@@ -5,7 +5,7 @@ use Rattle.type_kinds.proofs.parts.aimed.Tie as tie
 use mathlib.Core.Path.{sym, _∙_}
 use native.Mathlib.Omega.{arith}
 use Rattle.type_kinds.specs.Parts.{aimed}
-use Rattle.type_kinds.proofs.Reading.{field-inside}
+use Rattle.type_kinds.proofs.FieldInside.{field-inside}
 use Rattle.cdr.specs.declared.Size.the-variants.{Four}
 
 field-in-requires : tie.Need-field-in-requires
@@ -21,8 +21,8 @@ returns : tie.Need-returns
 unfolding aimed
 returns c = rw (sym (c .before .before .field-in .ensures) ∙ c .enum-told .given .1)
 
-behind-requires : tie.Need-behind-requires
-behind-requires c κs =
+place-before-requires : tie.Need-place-before-requires
+place-before-requires c κs =
     let a = c .before .before .before .before .before .args in
     let f = field-inside (a .v .now) (a .start) (a .at) Four (a .order) _ _ (sym (c .before .before .before .field-in .ensures) ∙ c .before .value .given .1) in
     (omega (arith, f .0), omega (arith, f .1))
@@ -40,13 +40,13 @@ returns-2 : tie.Need-returns-2
 unfolding aimed
 returns-2 c =
     let target-of = c .before .before .before .target-of in
-    rw (sym (c .before .before .before .before .before .before .before .before .field-in .ensures) ∙ c .before .before .before .before .before .before .value .given .1, ← c .before .before .before .before .behind .ensures, sym (target-of .ensures) ∙ c .before .place .given .1)
+    rw (sym (c .before .before .before .before .before .before .before .before .field-in .ensures) ∙ c .before .before .before .before .before .before .value .given .1, ← c .before .before .before .before .place-before .ensures, sym (target-of .ensures) ∙ c .before .place .given .1)
 
 returns-3 : tie.Need-returns-3
 unfolding aimed
 returns-3 c =
     let target-of = c .before .before .target-of in
-    rw (sym (c .before .before .before .before .before .before .before .field-in .ensures) ∙ c .before .before .before .before .before .value .given .1, ← c .before .before .before .behind .ensures, sym (target-of .ensures) ∙ c .enum-told2 .given .1)
+    rw (sym (c .before .before .before .before .before .before .before .field-in .ensures) ∙ c .before .before .before .before .before .value .given .1, ← c .before .before .before .place-before .ensures, sym (target-of .ensures) ∙ c .enum-told2 .given .1)
 
 pub aimed-spec : {M : Type 1} → statement M
 aimed-spec =
@@ -56,7 +56,7 @@ aimed-spec =
     enum-known-value
     enum-told
     returns
-    behind-requires
+    place-before-requires
     target-of-requires
     enum-known-place
     enum-told-2

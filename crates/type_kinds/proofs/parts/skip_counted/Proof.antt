@@ -5,9 +5,9 @@ use Rattle.type_kinds.proofs.parts.skip_counted.Tie as tie
 use mathlib.Core.Path.{_≡_, sym, _∙_, ap}
 use native.Mathlib.Omega.{arith}
 use lib.ListN.{drop, length-drop}
-use Rattle.type_kinds.specs.Parts.{skipCounted, skipFrom}
-use Rattle.type_kinds.proofs.Reading.{rest, counted-beyond}
-use Rattle.cdr_fields.proofs.Found.{counted-facts}
+use Rattle.type_kinds.specs.Parts.{skipCounted, skipOctets}
+use Rattle.type_kinds.proofs.FieldInside.{rest, counted-beyond}
+use Rattle.cdr_fields.proofs.FieldsWithin.{counted-facts}
 use mathlib.Core.Path.{subst}
 use mathlib.Core.List.{List}
 use Prim.Native.Nat.{ℕ}
@@ -18,7 +18,7 @@ returns : tie.Need-returns
 unfolding skipCounted
 returns c =
     let a = c .before .before .args in
-    sym (ap skipFrom (counted-beyond (a .v .now) (a .start) (a .at) (a .order) (c .if1 .taken)))
+    sym (ap skipOctets (counted-beyond (a .v .now) (a .start) (a .at) (a .order) (c .if1 .taken)))
 
 sub-read-counted : tie.Need-sub-read-counted
 sub-read-counted c = search needs
@@ -37,9 +37,8 @@ enum-known-from c = search needs
 
 add-t15 : tie.Need-add-t15
 add-t15 c =
-    let a = c .before .before .before .before .before .before .before .before .args in
+    let o = c .before .before .before .before .before .before .before .before .args in
     let read-counted = c .before .before .before .before .read-counted in
-    let o = a in
     let g = c .before .before .from .given in
     let e = subst (λ (s : List ℕ). countedOf s (o .at) (o .order) ≡ Octets (g .0 .0) (g .0 .1 .0)) (rest (o .v .now) (o .start .0)) (sym (read-counted .ensures) ∙ g .1) in
     let f = counted-facts (drop (o .start .0) (o .v .now)) (o .at) (o .order) (g .0 .0) (g .0 .1 .0) e in

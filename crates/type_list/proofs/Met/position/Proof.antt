@@ -2,12 +2,13 @@
 use borrow.Author.Needs.{needs}
 use Rattle.type_list.proofs.Met.position.Statement.{statement}
 use Rattle.type_list.proofs.Met.position.Tie as tie
-use mathlib.Core.Path.{_≡_, refl, sym, ap, _∙_}
-use Prim.Native.Nat.{ℕ, _-_, _<_}
+use mathlib.Core.Path.{_≡_, sym, ap, _∙_}
+use Prim.Native.Nat.{ℕ, _-_}
 use native.Mathlib.Omega.{arith}
 use Rattle.choices.proofs.Turns.{Left, left-none, left-here, left-more, left-end}
-use Rattle.type_list.specs.Arrays.{heldIn, kindsMet}
-use Rattle.type_list.proofs.Finding.{findIn, found-here, found-on, find-is, length-kinds, position-is, position-none}
+use Rattle.type_list.specs.Arrays.{kindsMet}
+use Rattle.type_list.proofs.KindsMet.{length-kinds}
+use Rattle.type_list.proofs.Positions.{findIn, found-here, found-on, find-is, position-is, position-none}
 
 abbrev Inv-loop : tie.InvT-loop
 Inv-loop place self n i₀ i = Left (findIn (self .places) (place .0)) n 0 i i

@@ -24,14 +24,12 @@ goes-on-requires c κs = search needs
 
 returns : tie.Need-returns
 returns c =
-    let number-step2 = c .before .before .before .before .number-step in
-    let number-step = number-step2 in
+    let number-step = c .before .before .before .before .number-step in
     rw (sym (number-step .ensures) ∙ c .before .before .refusal .given .1) (c .refused .ensures)
 
 returns-2 : tie.Need-returns-2
 returns-2 c =
-    let number-step2 = c .before .before .before .before .before .number-step in
-    let number-step = number-step2 in
+    let number-step = c .before .before .before .before .before .number-step in
     rw (sym (number-step .ensures) ∙ c .before .before .before .next .given .1, ← c .before .close .ensures) (c .goes-on .ensures)
 
 pub bounded-spec : {M : Type 1} → statement M

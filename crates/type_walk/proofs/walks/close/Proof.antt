@@ -3,7 +3,7 @@ use borrow.Author.Needs.{needs}
 use Rattle.type_walk.proofs.walks.close.Statement.{statement}
 use Rattle.type_walk.proofs.walks.close.Tie as tie
 use mathlib.Core.Path.{refl}
-use Rattle.type_walk.proofs.Seen.{seen-closed}
+use Rattle.type_walk.proofs.SeenAfter.{seen-closed}
 
 array-write-barred : tie.Need-array-write-barred
 array-write-barred c = search needs

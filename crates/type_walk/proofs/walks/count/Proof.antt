@@ -3,7 +3,7 @@ use borrow.Author.Needs.{needs}
 use mathlib.Core.Path.{sym, _∙_}
 use Rattle.type_walk.proofs.walks.count.Statement.{statement}
 use Rattle.type_walk.proofs.walks.count.Tie as tie
-use Rattle.type_list.proofs.Finding.{length-kinds}
+use Rattle.type_list.proofs.KindsMet.{length-kinds}
 
 held-in-requires : tie.Need-held-in-requires
 held-in-requires c κs = search needs

@@ -23,8 +23,7 @@ goes-on-requires c κs = search needs
 returns : tie.Need-returns
 unfolding endedAt
 returns c =
-    let step2-2 = c .before .before .before .before .before .step2 in
-    let step2 = step2-2 in
+    let step2 = c .before .before .before .before .before .step2 in
     rw (step2 .given .1, eq-eqb _ _ (c .before .before .if1 .taken), ← c .before .close .ensures) (c .goes-on .ensures)
 
 refused-requires-2 : tie.Need-refused-requires-2
@@ -37,8 +36,7 @@ returns-2 c = rw (c .before .before .step .given .1) (c .refused .ensures)
 returns-3 : tie.Need-returns-3
 unfolding endedAt
 returns-3 c =
-    let step2-2 = c .before .before .before .before .step2 in
-    let step2 = step2-2 in
+    let step2 = c .before .before .before .before .step2 in
     rw (step2 .given .1, ne-eqb _ _ (c .before .if1 .left)) (c .refused2 .ensures)
 
 pub ended-spec : {M : Type 1} → statement M

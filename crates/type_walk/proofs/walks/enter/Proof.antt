@@ -2,19 +2,14 @@
 use borrow.Author.Needs.{needs}
 use Rattle.type_walk.proofs.walks.enter.Statement.{statement}
 use Rattle.type_walk.proofs.walks.enter.Tie as tie
-use Rattle.type_walk.proofs.walks.enter.Reads as reads
-use Rattle.type_walk.proofs.walks.enter.Lts as lts
-use Rattle.type_walk.proofs.walks.is_barred.Reads as is-barred-reads
-use Rattle.type_list.proofs.Met.add.Reads as add-reads
-use mathlib.Core.Path.{_≡_, ap, sym, _∙_}
-use mathlib.Core.Bool.{Bool}
-use Prim.Native.Nat.{ℕ, _<_}
+use mathlib.Core.Path.{ap, sym, _∙_}
+use Prim.Native.Nat.{ℕ}
 use native.Mathlib.Omega.{arith}
 use lib.ListN.{set}
-use Rattle.type_walk.proofs.Seen.{seen-entered}
+use Rattle.type_walk.proofs.SeenAfter.{seen-entered}
 use lib.ListN.{length}
 use Rattle.type_list.specs.Arrays.{kindsMet}
-use Rattle.type_list.proofs.Finding.{length-kinds}
+use Rattle.type_list.proofs.KindsMet.{length-kinds}
 
 held-in-requires : tie.Need-held-in-requires
 held-in-requires c κs = search needs

@@ -24,8 +24,7 @@ returns c = rw (sym (c .before .before .before .label-step .ensures) ∙ c .befo
 returns-2 : tie.Need-returns-2
 unfolding nameStep
 returns-2 c =
-    let label-step2 = c .before .before .before .before .label-step in
-    let label-step = label-step2 in
+    let label-step = c .before .before .before .before .label-step in
     rw (sym (label-step .ensures) ∙ c .before .before .i .given .1) (c .text-step .ensures)
 
 pub name-after-spec : {M : Type 1} → statement M

@@ -2,7 +2,7 @@
 use borrow.Author.Needs.{needs}
 use Rattle.type_walk.proofs.walks.nothing_met.Statement.{statement}
 use Rattle.type_walk.proofs.walks.nothing_met.Tie as tie
-use Rattle.type_walk.proofs.Seen.{seen-none}
+use Rattle.type_walk.proofs.SeenAfter.{seen-none}
 
 none-requires : tie.Need-none-requires
 none-requires c κs = search needs

@@ -1,7 +1,7 @@
 -- The check goes on after a step, or ends.
 use Rattle.type_walk.proofs.walks.on.Statement.{statement}
 use Rattle.type_walk.proofs.walks.on.Tie as tie
-use Rattle.type_walk.proofs.Ways.{on-is}
+use Rattle.type_walk.proofs.TypeAtCases.{on-is}
 use Rattle.type_walk.specs.Walk.{seen}
 
 returns : tie.Need-returns

@@ -5,9 +5,9 @@ use Rattle.type_walk.proofs.walks.target_step.Tie as tie
 use mathlib.Core.Path.{sym, _∙_}
 use borrow.Author.Tests.{lt-ltb}
 use Rattle.type_walk.specs.Types.{targetStep}
-use Rattle.type_list.proofs.Finding.{position-facts, position-nowhere}
+use Rattle.type_list.proofs.Positions.{position-facts, position-nowhere}
 use Rattle.type_list.specs.Arrays.{kindsMet}
-use Rattle.type_walk.proofs.Seen.{seen-barred}
+use Rattle.type_walk.proofs.SeenAfter.{seen-barred}
 
 position-requires : tie.Need-position-requires
 position-requires c κs = search needs
@@ -24,8 +24,7 @@ refused-requires c κs = search needs
 returns : tie.Need-returns
 unfolding targetStep
 returns c =
-    let a2 = c .before .before .before .before .before .before .args in
-    let a = a2 in
+    let a = c .before .before .before .before .before .before .args in
     rw (position-nowhere (kindsMet (a .walk .met)) (a .place) (sym (c .before .before .before .position .ensures) ∙ c .before .enum-told .given .1)) (c .refused .ensures)
 
 barred-at-requires : tie.Need-barred-at-requires
@@ -37,10 +36,9 @@ refused-requires-2 c κs = search needs
 returns-2 : tie.Need-returns-2
 unfolding targetStep
 returns-2 c =
-    let a2 = c .before .before .before .before .before .before .before .before .before .args in
+    let a = c .before .before .before .before .before .before .before .before .before .args in
     let position = c .before .before .before .before .before .before .position in
     let i = c .before .before .before .before .i in
-    let a = a2 in
     let f = position-facts (kindsMet (a .walk .met)) (a .place) _ (sym (position .ensures) ∙ i .given .1) in
     rw (f .0, lt-ltb _ _ (f .1), seen-barred (a .walk) _ (f .1) ∙ sym (c .before .before .barred-at .ensures) ∙ c .before .if1 .taken) (c .refused2 .ensures)
 
@@ -50,10 +48,9 @@ goes-on-requires c κs = search needs
 returns-3 : tie.Need-returns-3
 unfolding targetStep
 returns-3 c =
-    let a2 = c .before .before .before .before .before .before .before .before .before .args in
+    let a = c .before .before .before .before .before .before .before .before .before .args in
     let position = c .before .before .before .before .before .before .position in
     let i = c .before .before .before .before .i in
-    let a = a2 in
     let f = position-facts (kindsMet (a .walk .met)) (a .place) _ (sym (position .ensures) ∙ i .given .1) in
     rw (f .0, lt-ltb _ _ (f .1), seen-barred (a .walk) _ (f .1) ∙ sym (c .before .before .barred-at .ensures) ∙ c .before .if1 .left) (c .goes-on .ensures)
 

@@ -12,7 +12,10 @@ wrapping-add-u64-requires c κs = search needs
 returns : tie.Need-returns
 returns c =
     let a = c .before .args in
-    λ m table. ap (λ (n : ℕ). stateOf (record { at = a .self .at; visits = n; items = a .self .items; fault = a .self .fault; last = a .self .last }) table) (c .wrapping-add-u64 .ensures)
+    λ m table. ap
+    (λ (n : ℕ). stateOf (record { at = a .self .at; visits = n; items = a .self .items; fault = a .self .fault; last = a .self .last })
+    table)
+    (c .wrapping-add-u64 .ensures)
 
 pub visit-spec : {M : Type 1} → statement M
 visit-spec = tie.close (tie.spec wrapping-add-u64-requires returns)

@@ -5,7 +5,7 @@ use Rattle.value_leaves.proofs.primitives.leaf_done.Tie as tie
 use mathlib.Core.Path.{sym, ap, _∙_}
 use Prim.Native.Nat.{ℕ, _-_}
 use Rattle.value_meaning.specs.Sinks.{item, taken, done}
-use Rattle.value_meaning.proofs.Ways as way
+use Rattle.value_meaning.proofs.ReadingCases as way
 use Rattle.value_leaves.specs.Walk.{sinkOf, sourceOf, stateOf}
 
 refused-requires : tie.Need-refused-requires
@@ -14,7 +14,10 @@ refused-requires c κs = search needs
 returns : tie.Need-returns
 returns c =
     let a = c .before .before .before .before .args in
-    λ v. c .refused .ensures _ ∙ sym (way.leaf-above (sinkOf (a .m)) (sourceOf (a .m) v) (a .kind) (a .place) (a .value) _ (c .before .before .if1 .taken) (c .before .if2 .taken))
+    λ v. c .refused .ensures _
+    ∙ sym
+    (way.leaf-above (sinkOf (a .mode)) (sourceOf (a .mode) v) (a .kind) (a .place) (a .value) _ (c .before .before .if1 .taken)
+    (c .before .if2 .taken))
 
 put-requires : tie.Need-put-requires
 put-requires c κs = search needs
@@ -27,7 +30,8 @@ returns-2 c =
     let a = c .before .before .before .before .before .before .before .args in
     let if1 = c .before .before .before .before .before .if1 in
     let if2 = c .before .before .before .before .if2 in
-    λ v. c .before .before .put .ensures ∙ sym (way.leaf-boolean (sinkOf (a .m)) (sourceOf (a .m) v) (a .kind) (a .place) (a .value) _ (if1 .taken) (if2 .left))
+    λ v. c .before .before .put .ensures
+    ∙ sym (way.leaf-boolean (sinkOf (a .mode)) (sourceOf (a .mode) v) (a .kind) (a .place) (a .value) _ (if1 .taken) (if2 .left))
 
 content-of-requires : tie.Need-content-of-requires
 content-of-requires c κs = search needs
@@ -42,7 +46,11 @@ returns-3 : tie.Need-returns-3
 returns-3 c =
     let a = c .before .before .before .before .before .before .before .args in
     let if1 = c .before .before .before .before .before .if1 in
-    λ v. c .before .before .put2 .ensures ∙ ap (λ (n : ℕ). done (sinkOf (a .m)) (item (a .kind) (a .place) n) (stateOf (a .c) (a .table .now))) (c .before .before .before .content-of .ensures) ∙ sym (way.leaf-other (sinkOf (a .m)) (sourceOf (a .m) v) (a .kind) (a .place) (a .value) _ (if1 .left))
+    let sink = sinkOf (a .mode) in
+    λ v. c .before .before .put2 .ensures
+    ∙ ap (λ (n : ℕ). done sink (item (a .kind) (a .place) n) (stateOf (a .cursor) (a .table .now)))
+    (c .before .before .before .content-of .ensures)
+    ∙ sym (way.leaf-other sink (sourceOf (a .mode) v) (a .kind) (a .place) (a .value) _ (if1 .left))
 
 pub leaf-done-spec : {M : Type 1} → statement M
 leaf-done-spec =

@@ -6,7 +6,7 @@ use mathlib.Core.Path.{sym, _∙_}
 use Prim.Native.Nat.{_-_}
 use Rattle.value_meaning.specs.Sinks.{taken}
 use Rattle.value_meaning.specs.Visit.{runAt, profileAt}
-use Rattle.value_meaning.proofs.Ways as way
+use Rattle.value_meaning.proofs.ReadingCases as way
 use Rattle.value_leaves.specs.Walk.{sinkOf, sourceOf}
 
 tag-requires : tie.Need-tag-requires
@@ -20,7 +20,7 @@ unfolding profileAt
 returns c =
     let a = c .before .before .before .before .before .before .before .before .args in
     let tag = c .before .before .before .before .tag in
-    sym (way.stops (runAt (sinkOf (a .m)) (sourceOf (a .m) (a .v .now))) _ _ (tag .ensures) (c .if1 .taken))
+    sym (way.stops (runAt (sinkOf (a .mode)) (sourceOf (a .mode) (a .value .now))) _ _ (tag .ensures) (c .if1 .taken))
 
 counted-run-requires : tie.Need-counted-run-requires
 counted-run-requires c κs = search needs
@@ -34,7 +34,7 @@ returns-2 c =
     let a = c .before .before .before .before .before .before .before .before .before .before .before .before .args in
     let tag = c .before .before .before .before .before .before .before .before .tag in
     let if1 = c .before .before .before .before .if1 in
-    c .before .before .counted-run .ensures ∙ sym (way.goes-on (runAt (sinkOf (a .m)) (sourceOf (a .m) (a .v .now))) _ _ (tag .ensures) (if1 .left))
+    c .before .before .counted-run .ensures ∙ sym (way.goes-on (runAt (sinkOf (a .mode)) (sourceOf (a .mode) (a .value .now))) _ _ (tag .ensures) (if1 .left))
 
 pub profile-spec : {M : Type 1} → statement M
 profile-spec =

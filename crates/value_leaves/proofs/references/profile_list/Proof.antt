@@ -8,7 +8,7 @@ use native.Mathlib.Omega.{arith}
 use Rattle.value_meaning.specs.Sinks.{taken}
 use Rattle.value_meaning.specs.Visit.{profileAt}
 use Rattle.value_leaves.specs.Walk.{sinkOf, sourceOf, stateOf}
-use Rattle.value_leaves.proofs.Loops.{Going, going-none, going-all, going-stop, going-more}
+use Rattle.value_leaves.proofs.RepeatsLoop.{Going, going-none, going-all, going-stop, going-more}
 
 abbrev Inv-loop : tie.InvT-loop
 Inv-loop v m table₀ count d₀ k₀ table d k = Going (profileAt (sinkOf m) (sourceOf m v)) count k (stateOf d₀ table₀) (stateOf d table)

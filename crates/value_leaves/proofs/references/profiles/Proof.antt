@@ -6,7 +6,7 @@ use mathlib.Core.Path.{sym, _∙_}
 use Prim.Native.Nat.{_-_}
 use Rattle.value_meaning.specs.Sinks.{St, repeats, taken}
 use Rattle.value_meaning.specs.Visit.{profileAt, profilesAt}
-use Rattle.value_meaning.proofs.Ways as way
+use Rattle.value_meaning.proofs.ReadingCases as way
 use Rattle.value_leaves.specs.Lent.{Lent}
 use Rattle.value_leaves.specs.Walk.{sinkOf, sourceOf}
 
@@ -21,7 +21,9 @@ unfolding profilesAt
 returns c =
     let a = c .before .before .before .before .before .before .before .before .args in
     let count = c .before .before .before .before .count in
-    sym (way.stops (λ (u : St Lent). repeats (profileAt (sinkOf (a .m)) (sourceOf (a .m) (a .v .now))) (u .last) u) _ _ (count .ensures) (c .if1 .taken))
+    sym
+    (way.stops (λ (u : St Lent). repeats (profileAt (sinkOf (a .mode)) (sourceOf (a .mode) (a .value .now))) (u .last) u) _ _
+    (count .ensures) (c .if1 .taken))
 
 profile-list-requires : tie.Need-profile-list-requires
 profile-list-requires c κs = search needs
@@ -35,7 +37,10 @@ returns-2 c =
     let a = c .before .before .before .before .before .before .before .before .before .before .before .before .args in
     let count = c .before .before .before .before .before .before .before .before .count in
     let if1 = c .before .before .before .before .if1 in
-    c .before .before .profile-list .ensures ∙ sym (way.goes-on (λ (u : St Lent). repeats (profileAt (sinkOf (a .m)) (sourceOf (a .m) (a .v .now))) (u .last) u) _ _ (count .ensures) (if1 .left))
+    c .before .before .profile-list .ensures
+    ∙ sym
+    (way.goes-on (λ (u : St Lent). repeats (profileAt (sinkOf (a .mode)) (sourceOf (a .mode) (a .value .now))) (u .last) u) _ _ (count .ensures)
+    (if1 .left))
 
 pub profiles-spec : {M : Type 1} → statement M
 profiles-spec =

@@ -5,7 +5,7 @@ use Rattle.value_leaves.proofs.references.run_got.Tie as tie
 use mathlib.Core.Path.{sym, ap, _∙_}
 use Prim.Native.Nat.{_-_}
 use Rattle.value_meaning.specs.Sinks.{item, done, octetsAt}
-use Rattle.value_meaning.proofs.Ways as way
+use Rattle.value_meaning.proofs.ReadingCases as way
 use Rattle.value_leaves.specs.Walk.{sinkOf, sourceOf, stateOf}
 
 read-run-requires : tie.Need-read-run-requires
@@ -34,12 +34,20 @@ returns c =
     let a = c .before .before .before .before .before .before .before .before .before .before .before .args in
     let read-run = c .before .before .before .before .before .before .before .before .read-run in
     let end = c .before .before .before .before .before .before .end in
-    λ p. c .before .before .put .ensures ∙ ap (done (sinkOf (a .m)) (item 256 (a .c .at) (a .count))) (c .before .before .before .passed .ensures (a .m) (a .table .now) (a .c .at) (octetsAt (sinkOf (a .m)) (sourceOf (a .m) (a .v .now)) (a .c .at) (a .count))) ∙ sym (way.run-some (sinkOf (a .m)) (sourceOf (a .m) (a .v .now)) p (a .count) (stateOf (a .c) (a .table .now)) _ (sym (read-run .ensures) ∙ end .given .1))
+    let sink = sinkOf (a .mode) in
+    let src = sourceOf (a .mode) (a .value .now) in
+    λ p. c .before .before .put .ensures
+    ∙ ap (done sink (item 256 (a .cursor .at) (a .count)))
+    (c .before .before .before .passed .ensures (a .mode) (a .table .now) (a .cursor .at) (octetsAt sink src (a .cursor .at) (a .count)))
+    ∙ sym (way.run-some sink src p (a .count) (stateOf (a .cursor) (a .table .now)) _ (sym (read-run .ensures) ∙ end .given .1))
 
 returns-2 : tie.Need-returns-2
 returns-2 c =
     let a = c .before .before .before .before .before .before .args in
-    λ p. c .refused .ensures (a .table .now) ∙ sym (way.run-none (sinkOf (a .m)) (sourceOf (a .m) (a .v .now)) p (a .count) (stateOf (a .c) (a .table .now)) (sym (c .before .before .before .read-run .ensures) ∙ c .before .enum-told .given .1))
+    λ p. c .refused .ensures (a .table .now)
+    ∙ sym
+    (way.run-none (sinkOf (a .mode)) (sourceOf (a .mode) (a .value .now)) p (a .count) (stateOf (a .cursor) (a .table .now))
+    (sym (c .before .before .before .read-run .ensures) ∙ c .before .enum-told .given .1))
 
 pub run-got-spec : {M : Type 1} → statement M
 run-got-spec =

@@ -6,7 +6,7 @@ use mathlib.Core.Path.{sym, ap, _∙_}
 use mathlib.Core.List.{List}
 use Prim.Native.Nat.{ℕ, _+_, _-_}
 use Rattle.value_meaning.specs.Sinks.{taken}
-use Rattle.value_meaning.proofs.Ways as way
+use Rattle.value_meaning.proofs.ReadingCases as way
 use Rattle.value_leaves.specs.Walk.{sinkOf, stateOf}
 use Prim.Native.Nat.{_%_, _^_}
 
@@ -19,7 +19,7 @@ refused-requires c κs = search needs
 returns : tie.Need-returns
 returns c =
     let a = c .before .before .before .before .args in
-    c .refused .ensures (a .table .now) ∙ sym (way.done-full (sinkOf (a .m)) _ _ (sym (c .before .before .is-full .ensures) ∙ c .before .if1 .taken))
+    c .refused .ensures (a .table .now) ∙ sym (way.done-full (sinkOf (a .mode)) _ _ (sym (c .before .before .is-full .ensures) ∙ c .before .if1 .taken))
 
 put-in-requires : tie.Need-put-in-requires
 put-in-requires c κs = search needs
@@ -36,7 +36,15 @@ returns-2 c =
     let put-in = c .before .before .before .put-in in
     let is-full = c .before .before .before .before .before .before .is-full in
     let if1 = c .before .before .before .before .before .if1 in
-    ap (λ (n : ℕ). stateOf (record { at = a .c .at; visits = a .c .visits; items = n; fault = a .c .fault; last = a .c .last }) (put-in .last .0)) (c .wrapping-add-usize .ensures) ∙ ap (λ (l : List ℕ). stateOf (record { at = a .c .at; visits = a .c .visits; items = ((a .c .items + 1) % 2 ^ 64); fault = a .c .fault; last = a .c .last }) l) (put-in .ensures) ∙ sym (way.done-room (sinkOf (a .m)) _ _ (sym (is-full .ensures) ∙ if1 .left))
+    ap
+    (λ (n : ℕ). stateOf (record { at = a .cursor .at; visits = a .cursor .visits; items = n; fault = a .cursor .fault; last = a .cursor .last })
+    (put-in .last .0))
+    (c .wrapping-add-usize .ensures)
+    ∙ ap
+    (λ (l : List ℕ). stateOf
+    (record { at = a .cursor .at; visits = a .cursor .visits; items = ((a .cursor .items + 1) % 2 ^ 64); fault = a .cursor .fault; last = a .cursor .last }) l)
+    (put-in .ensures)
+    ∙ sym (way.done-room (sinkOf (a .mode)) _ _ (sym (is-full .ensures) ∙ if1 .left))
 
 pub put-spec : {M : Type 1} → statement M
 put-spec =

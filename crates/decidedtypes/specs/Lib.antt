@@ -1,4 +1,0 @@
--- What the definitions of types decide.
-pub mod Kinds
-pub mod Met
-pub mod Fields

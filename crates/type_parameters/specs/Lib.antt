@@ -1,0 +1,2 @@
+-- The parameters of a kind.
+pub mod Parameters

@@ -1,0 +1,3 @@
+-- Laws of unions.
+pub mod LabelsThrough
+pub mod Chosen

@@ -1,0 +1,2 @@
+-- Laws of visits in a row.
+pub mod RowsAtOnce

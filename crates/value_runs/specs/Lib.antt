@@ -1,0 +1,2 @@
+-- Visits of one kind, one behind the other.
+pub mod Inner
