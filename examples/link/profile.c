@@ -6,16 +6,16 @@
 #include "haulspar.h"
 
 int main(int argc, char **argv) {
-    uint8_t octets[4096];
+    uint8_t octets[HAULSPAR_LINE_OCTETS];
     uint64_t count, numbers[10];
     if (argc != 2) {
         return 2;
     }
     uint32_t answer = haulspar_decode((const uint8_t *)argv[1], strlen(argv[1]), octets, sizeof octets, &count);
-    if (answer == 0) {
+    if (answer == HAULSPAR_OK) {
         answer = haulspar_profile(octets, count, numbers);
     }
-    if (answer != 0) {
+    if (answer != HAULSPAR_OK) {
         printf("refused: %" PRIu32 "\n", answer);
         return 1;
     }

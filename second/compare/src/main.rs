@@ -5,14 +5,22 @@
 
 use std::env;
 use std::io::{self, Write};
-use std::path::Path;
+use std::path::PathBuf;
 use std::process::ExitCode;
+use std::thread::Builder;
 
 use compare::judge::Judge;
+use compare::tally::Tally;
 use compare::{
     frames, joinings, lines, orb, orb_profiles, orb_rewrites, orb_values, paper, profiles,
     questions, recordings, rewrites, types, values,
 };
+
+/// The stack of each thread, in octets.
+const STACK: usize = 8 << 20;
+
+/// Judges a part of the inputs.
+type Part = Box<dyn FnOnce(&mut Judge) -> io::Result<()> + Send>;
 
 /// Judges all inputs and writes the tally; succeeds if nothing is wrong.
 fn main() -> ExitCode {
@@ -28,26 +36,55 @@ fn main() -> ExitCode {
 
 /// Judges all inputs and writes the tally; says how many things are wrong.
 fn run() -> io::Result<u64> {
-    let mut judge = Judge::default();
-    paper::judge(&mut judge);
-    lines::judge(&mut judge);
-    frames::judge(&mut judge);
-    joinings::judge(&mut judge);
-    types::judge(&mut judge);
-    orb::judge(&mut judge);
-    values::judge(&mut judge);
-    orb_values::judge(&mut judge);
-    rewrites::judge(&mut judge);
-    orb_rewrites::judge(&mut judge);
-    profiles::judge(&mut judge);
-    orb_profiles::judge(&mut judge);
-    if let Some(program) = env::args_os().nth(1) {
-        recordings::judge(&mut judge, Path::new(&program))?;
-    }
-    if let Some(program) = env::args_os().nth(2) {
-        questions::judge(&mut judge, Path::new(&program))?;
-    }
-    let tally = judge.tally;
+    let tally = judged(parts())?;
     io::stdout().write_all(tally.to_string().as_bytes())?;
     Ok(tally.failed())
+}
+
+/// All parts, those of the programs last.
+fn parts() -> Vec<Part> {
+    let mut parts = vec![
+        part(&[paper::judge, lines::judge, frames::judge, joinings::judge]),
+        part(&[types::judge, orb::judge]),
+        part(&[values::judge, orb_values::judge]),
+        part(&[rewrites::judge, orb_rewrites::judge]),
+        part(&[profiles::judge, orb_profiles::judge]),
+    ];
+    let mut programs = env::args_os().skip(1).map(PathBuf::from);
+    if let Some(program) = programs.next() {
+        parts.push(Box::new(move |judge| recordings::judge(judge, &program)));
+    }
+    if let Some(program) = programs.next() {
+        parts.push(Box::new(move |judge| questions::judge(judge, &program)));
+    }
+    parts
+}
+
+/// The part of some sections, judged one after the other.
+fn part(sections: &'static [fn(&mut Judge)]) -> Part {
+    Box::new(move |judge| {
+        for section in sections {
+            section(judge);
+        }
+        Ok(())
+    })
+}
+
+/// What all parts bring, added up in their order. Each is judged in a thread of
+/// its own, by a judge of its own.
+fn judged(parts: Vec<Part>) -> io::Result<Tally> {
+    let mut threads = Vec::new();
+    for (number, part) in parts.into_iter().enumerate() {
+        let judge = move || {
+            let mut judge = Judge::of_part(number);
+            part(&mut judge).map(|()| judge.tally)
+        };
+        threads.push(Builder::new().stack_size(STACK).spawn(judge)?);
+    }
+    let mut tally = Tally::default();
+    for thread in threads {
+        let panicked = |_| io::Error::other("a thread panicked");
+        tally.add(thread.join().map_err(panicked)??);
+    }
+    Ok(tally)
 }

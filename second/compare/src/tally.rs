@@ -235,6 +235,20 @@ impl Tally {
         }
     }
 
+    /// Adds what other inputs have brought.
+    pub fn add(&mut self, other: Tally) {
+        self.passed += other.passed;
+        self.different += other.different;
+        for (section, count) in other.judged {
+            *self.judged.entry(section).or_default() += count;
+        }
+        for (number, count) in other.given {
+            *self.given.entry(number).or_default() += count;
+        }
+        let room = SHOWN - self.shown.len();
+        self.shown.extend(other.shown.into_iter().take(room));
+    }
+
     /// How often a number was given by both programs.
     fn given(&self, section: Section, number: u32) -> u64 {
         self.given.get(&(section, number)).copied().unwrap_or(0)
