@@ -13,9 +13,9 @@ use Rattle.value_meaning.specs.Sinks.{Source, Item, St}
 use Rattle.value_meaning.specs.Visit.{Checked}
 use Rattle.value_meaning.specs.Reading.{Log, anyRoom, reads, levels, topOf, reading}
 use Rattle.value_meaning.specs.Value.{flat, itemNo}
-use Rattle.value_leaves.specs.declared.Cursor.{Cursor}
-use Rattle.value_leaves.specs.Lent.{lentSink}
-use Rattle.value_leaves.specs.Walk.{stateOf, cursorStart}
+use Rattle.value_cursor.specs.declared.Cursor.{Cursor}
+use Rattle.value_cursor.specs.Lent.{lentSink}
+use Rattle.value_cursor.specs.Walk.{stateOf, cursorStart}
 use Rattle.value_leaves.proofs.ItemsInTable.{filled}
 use Rattle.value.proofs.WalksLeaveReading.{After, after-walk}
 use Rattle.rewrite_meaning.specs.declared.RewriteAnswer.the-variants.{Accepted, Refused}

@@ -13,7 +13,7 @@ use cdr::Order;
 use rewrite_meaning::RewriteAnswer;
 use type_list::Met;
 use value::Judged;
-use value_leaves::Mode;
+use value_cursor::Mode;
 
 mod rows;
 

@@ -32,7 +32,7 @@ fn width_of(kind: u64) -> Size
     if kind == type_numbers::RUN {
         return Size::Four;
     }
-    value_leaves::size_of(kind)
+    value_cursor::size_of(kind)
 }
 
 // Whether an item is an octet by itself: a boolean, a char or an octet.

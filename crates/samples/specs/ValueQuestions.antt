@@ -18,9 +18,9 @@ use Rattle.value_meaning.specs.Visit.{tagDone, tagAt, runDone, runGot, runAt, p
 use Rattle.value_meaning.specs.Opens.{readsNode, enterNode, ownOf, opens, closes, shuts, next, entries}
 use Rattle.value_meaning.specs.Reading.{reads, reading}
 use Rattle.value_meaning.specs.Value.{roomIn, valueAnswerNumbers, readingOf, valueAnswer, flat, tableAfter, itemNo}
-use Rattle.value_leaves.specs.{declared.Mode.Mode, declared.Cursor.Cursor}
-use Rattle.value_leaves.specs.Lent.{Lent, rowPut}
-use Rattle.value_leaves.specs.Walk.{sinkOf, sourceOf, stateOf, cursorStart, leafVisit}
+use Rattle.value_cursor.specs.{declared.Mode.Mode, declared.Cursor.Cursor}
+use Rattle.value_cursor.specs.Lent.{Lent, rowPut}
+use Rattle.value_cursor.specs.Walk.{sinkOf, sourceOf, stateOf, cursorStart, leafVisit}
 use Rattle.value_plans.specs.declared.Plan.{Plan}
 use Rattle.value_plans.specs.Plans.{planSteps, planVisit, inertKind, leafKind, plannable, laid, planOf}
 use Rattle.value_items.specs.Items.{itemOf}

@@ -20,7 +20,7 @@ use Rattle.type_parameters.specs.Parameters.{memberFields}
 use Rattle.type_unions.specs.{flat}
 use Rattle.type_list.specs.Arrays.{kindsMet, noKinds, added}
 use Rattle.value_meaning.specs.Visit.{Checked, checked}
-use Rattle.value_leaves.specs.declared.Cursor.{Cursor}
+use Rattle.value_cursor.specs.declared.Cursor.{Cursor}
 use Rattle.value_plans.specs.declared.Plan.{Plan}
 use Rattle.samples.specs.Tables.{paper, Sample, sample, allAnswered}
 use Rattle.samples.specs.ValueQuestions.{ValueQuestion, valueAnswered, value, itemAsked, typeJudged, sizeOfKind, started, refused, visited, inertVisit}

@@ -15,9 +15,9 @@ use Rattle.value_meaning.specs.Visit.{Checked}
 use Rattle.value_meaning.specs.Reading.{Log, reads, levels, topOf, anyRoom, roomFor, reading}
 use Rattle.value_meaning.specs.Value.{roomIn, filledBy, itemNo}
 use Rattle.value_meaning.proofs.EnoughRoom.{room-kept}
-use Rattle.value_leaves.specs.declared.Cursor.{Cursor}
-use Rattle.value_leaves.specs.Lent.{Lent, lentSink}
-use Rattle.value_leaves.specs.Walk.{stateOf, cursorStart}
+use Rattle.value_cursor.specs.declared.Cursor.{Cursor}
+use Rattle.value_cursor.specs.Lent.{Lent, lentSink}
+use Rattle.value_cursor.specs.Walk.{stateOf, cursorStart}
 use Rattle.value_leaves.proofs.ItemsInTable.{fullAt, stored, Small, walked, filled, row, picked}
 use Rattle.value.specs.declared.ItemAnswer.the-variants.{Given, Refused as refusedItem}
 use Rattle.value.specs.Single.{givenBy}

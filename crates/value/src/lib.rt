@@ -16,8 +16,8 @@ use cdr::Index;
 use cdr::Order;
 use type_list::Met;
 use typecode::TypeAnswer;
+use value_cursor::Mode;
 use value_items::Item;
-use value_leaves::Mode;
 use value_meaning::ValueAnswer;
 
 // Whether a value may be read under a type, or 01's number of the refusal.

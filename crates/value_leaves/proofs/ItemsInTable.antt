@@ -15,7 +15,7 @@ use Rattle.value_meaning.specs.Visit.{Checked}
 use Rattle.value_meaning.specs.Reading.{Log, logging, reads, levels, atStart, topOf, reading}
 use Rattle.value_meaning.specs.Value.{roomIn, flat, itemNo}
 use Rattle.value_meaning.proofs.SideBySide.{Steps, reads-step}
-use Rattle.value_leaves.specs.Lent.{Lent, lentOf, set3, rowPut, lentSink}
+use Rattle.value_cursor.specs.Lent.{Lent, lentOf, set3, rowPut, lentSink}
 
 -- a table keeps its length
 

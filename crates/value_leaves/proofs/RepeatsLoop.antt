@@ -6,7 +6,7 @@ use native.Mathlib.Omega.{arith}
 use lib.ListN.{length}
 use Rattle.value_meaning.specs.Sinks.{St, repeats}
 use Rattle.value_meaning.proofs.ReadingCases.{repeats-end, repeats-go, repeats-stop}
-use Rattle.value_leaves.specs.Lent.{Lent}
+use Rattle.value_cursor.specs.Lent.{Lent}
 
 abbrev pub rows : St Lent → ℕ
 rows s = length (s .kept .table)

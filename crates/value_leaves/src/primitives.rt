@@ -1,12 +1,12 @@
 // Primitives: what is done with their numbers.
 ghost use mathlib.Core.Path.{_≡_};
 ghost use Rattle.value_meaning.specs.Visit.{leafDone};
-ghost use Rattle.value_leaves.specs.Walk.{sinkOf, sourceOf, stateOf};
+ghost use Rattle.value_cursor.specs.Walk.{sinkOf, sourceOf, stateOf};
 ghost use mathlib.Core.List.{List};
 ghost use Prim.Native.Nat.{ℕ};
-use crate::Cursor;
-use crate::Mode;
 use crate::rows;
+use value_cursor::Cursor;
+use value_cursor::Mode;
 
 // A primitive's number is an item, but a boolean above 1.
 pub(crate) fn leaf_done(
@@ -33,7 +33,7 @@ pub(crate) fn leaf_done(
         mode,
         kind,
         place,
-        crate::content_of(kind, value),
+        value_cursor::content_of(kind, value),
         cursor,
     )
 }

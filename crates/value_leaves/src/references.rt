@@ -1,16 +1,32 @@
 // Texts behind their lengths, and the profiles of references to objects.
 ghost use mathlib.Core.Path.{_≡_};
+ghost use mathlib.Core.List.{List};
 ghost use Prim.Native.Nat.{ℕ};
-ghost use Rattle.value_meaning.specs.Sinks.{repeats};
+ghost use Rattle.value_meaning.specs.Sinks.{run, repeats, taken};
 ghost use Rattle.value_meaning.specs.Visit.{textGot, tagAt, runGot, runAt, profileAt, profilesAt};
-ghost use Rattle.value_leaves.specs.Walk.{sinkOf, sourceOf, stateOf};
-use crate::Cursor;
-use crate::Mode;
+ghost use Rattle.value_cursor.specs.Walk.{sinkOf, sourceOf, stateOf};
 use crate::rows;
 use cdr::Read;
 use cdr::Size;
 use cdr_text::Run;
 use cdr_text::Text;
+use value_cursor::Cursor;
+use value_cursor::Mode;
+
+// Octets are taken as they are.
+fn passed(cursor: Cursor, next: usize) -> Cursor
+    ensures { λ r. ⌜
+        ((m : Mode) (table : List ℕ) (p : ℕ) (l : List ℕ) → stateOf r table ≡ taken (sinkOf m) (run p l) next (stateOf cursor table))
+        ⌝ }
+{
+    Cursor {
+        at: next,
+        visits: cursor.visits,
+        items: cursor.items,
+        fault: cursor.fault,
+        last: cursor.last,
+    }
+}
 
 // A text of so many octets, its final zero among them.
 pub(crate) fn text_got(
@@ -36,7 +52,7 @@ pub(crate) fn text_got(
                 type_numbers::STRING,
                 at,
                 n as u64,
-                cursor.passed(next),
+                passed(cursor, next),
             )
         }
         Text::Empty => cursor.refused(refusals::BAD_VALUE_TEXT),
@@ -44,7 +60,7 @@ pub(crate) fn text_got(
         Text::Short => cursor.refused(refusals::VALUE_ENDS),
         Text::Zeros => {
             let next = at + length as usize;
-            cursor.passed(next).refused(refusals::BAD_VALUE_TEXT)
+            passed(cursor, next).refused(refusals::BAD_VALUE_TEXT)
         }
     }
 }
@@ -53,14 +69,14 @@ pub(crate) fn text_got(
 fn tag(value: &[u8], mode: Mode, table: &mut [u64], cursor: Cursor) -> Cursor
     ensures { λ r. ⌜ stateOf r (now (table .exit)) ≡ tagAt (sinkOf mode) (sourceOf mode (now (value .entry))) (stateOf cursor (now (table .entry))) ⌝ }
 {
-    match crate::number_at(value, mode, cursor.at, Size::Four) {
+    match value_cursor::number_at(value, mode, cursor.at, Size::Four) {
         Read::Number { at, value: number } => rows::put(
             table,
             mode,
             type_numbers::ULONG,
             at,
             number,
-            cursor.took(at + 4, number),
+            crate::took(cursor, at + 4, number),
         ),
         Read::Ends => cursor.refused(refusals::VALUE_ENDS),
     }
@@ -81,7 +97,7 @@ fn run_got(value: &[u8], mode: Mode, table: &mut [u64], count: u64, cursor: Curs
             type_numbers::RUN,
             at,
             count,
-            cursor.passed(end),
+            passed(cursor, end),
         ),
         Run::Past => cursor.refused(refusals::VALUE_ENDS),
     }
@@ -91,13 +107,13 @@ fn run_got(value: &[u8], mode: Mode, table: &mut [u64], count: u64, cursor: Curs
 fn counted_run(value: &[u8], mode: Mode, table: &mut [u64], cursor: Cursor) -> Cursor
     ensures { λ r. ⌜ stateOf r (now (table .exit)) ≡ runAt (sinkOf mode) (sourceOf mode (now (value .entry))) (stateOf cursor (now (table .entry))) ⌝ }
 {
-    match crate::number_at(value, mode, cursor.at, Size::Four) {
+    match value_cursor::number_at(value, mode, cursor.at, Size::Four) {
         Read::Number { at, value: number } => run_got(
             value,
             mode,
             table,
             number,
-            cursor.took(at + 4, number),
+            crate::took(cursor, at + 4, number),
         ),
         Read::Ends => cursor.refused(refusals::VALUE_ENDS),
     }

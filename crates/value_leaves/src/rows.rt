@@ -5,10 +5,10 @@ ghost use lib.Dec.{leb};
 ghost use lib.ListN.{length};
 ghost use Prim.Native.Nat.{_/_};
 ghost use Rattle.value_meaning.specs.Sinks.{item, done};
-ghost use Rattle.value_leaves.specs.Lent.{rowPut};
-ghost use Rattle.value_leaves.specs.Walk.{sinkOf, stateOf};
-use crate::Cursor;
-use crate::Mode;
+ghost use Rattle.value_cursor.specs.Lent.{rowPut};
+ghost use Rattle.value_cursor.specs.Walk.{sinkOf, stateOf};
+use value_cursor::Cursor;
+use value_cursor::Mode;
 
 // Item i in its row, if it has one.
 fn put_row(table: &mut [u64], first: usize, i: usize, kind: u64, place: u64, content: u64)

@@ -36,7 +36,7 @@ use Rattle.value_meaning.specs.Opens.{ownOf, opens, entries, next, closes, shut
 use Rattle.value_meaning.specs.Opens.Open.{row}
 use Rattle.value_meaning.specs.Reading.{reads}
 use Rattle.value_meaning.proofs.ReadingCases.{after-same, reads-some, reads-flat, goes-on, stops}
-use Rattle.value_leaves.specs.Lent.{Lent}
+use Rattle.value_cursor.specs.Lent.{Lent}
 use Rattle.value_leaves.proofs.RepeatsLoop.{rows}
 use Rattle.value_plans.specs.declared.Plan.{Plan}
 use Rattle.value_plans.specs.Plans.{leafStep, planSteps, mostMembers, noLeaf, inertKind, leafKind, plannable, laid, planFound, noPlan, planOf}

@@ -14,7 +14,7 @@ use Rattle.choices.specs.{ℕ, zero, suc, _+_, List, [], _∷_, Bool, true, fal
 use Rattle.type_kinds.specs.{Inner, Inert, Leaf, Text, Objref, Enum}
 use Rattle.type_unions.specs.{Shape, fault, flat, struct, exception, union, sequence, array, alias}
 use Rattle.value_meaning.specs.{Source, Sink, St, andThen, begun, Visit.Checked, Visit.leafAt}
-use Rattle.value_leaves.specs.{declared.Mode.Mode, Lent.Lent, Walk.sinkOf, Walk.sourceOf}
+use Rattle.value_cursor.specs.{declared.Mode.Mode, Lent.Lent, Walk.sinkOf, Walk.sourceOf}
 use Rattle.value_plans.specs.declared.Plan.{Plan}
 
 module _ {A : Type 0} (k : Sink A) (x : Source) where

@@ -14,7 +14,7 @@ ghost use Rattle.type_unions.specs.Shapes.{Shape, shapeOf};
 ghost use Rattle.value_meaning.specs.Sinks.{repeats};
 ghost use Rattle.value_meaning.specs.Visit.{Checked, checked};
 ghost use Rattle.value_meaning.specs.Reading.{reads};
-ghost use Rattle.value_leaves.specs.Walk.{sinkOf, sourceOf, stateOf};
+ghost use Rattle.value_cursor.specs.Walk.{sinkOf, sourceOf, stateOf};
 ghost use Rattle.value_plans.specs.Plans.{planSteps, planVisit, noLeaf, inertKind, leafKind, noPlan, planOf};
 use type_kinds::Fields;
 use type_kinds::Inert;
@@ -22,8 +22,8 @@ use type_kinds::Labels;
 use type_kinds::Spot;
 use type_list::Met;
 use type_parameters::Parameters;
-use value_leaves::Cursor;
-use value_leaves::Mode;
+use value_cursor::Cursor;
+use value_cursor::Mode;
 
 // The most members of a plan.
 pub const MOST_MEMBERS: usize = 16;

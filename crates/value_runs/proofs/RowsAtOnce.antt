@@ -20,11 +20,11 @@ use Rattle.cdr.proofs.Numbers.{number-one}
 use Rattle.value_meaning.specs.Sinks.{item, number, St, st, andThen, repeats, begun, taken}
 use Rattle.value_meaning.specs.Visit.{sizeOf, contentOf}
 use Rattle.value_meaning.proofs.ReadingCases as way
-use Rattle.value_leaves.specs.declared.Mode.{Mode}
-use Rattle.value_leaves.specs.declared.Cursor.{Cursor}
+use Rattle.value_cursor.specs.declared.Mode.{Mode}
+use Rattle.value_cursor.specs.declared.Cursor.{Cursor}
 use Rattle.value_meaning.specs.Value.{roomIn}
-use Rattle.value_leaves.specs.Lent.{Lent, lentOf, set3, rowPut}
-use Rattle.value_leaves.specs.Walk.{sinkOf, sourceOf, stateOf, leafVisit}
+use Rattle.value_cursor.specs.Lent.{Lent, lentOf, set3, rowPut}
+use Rattle.value_cursor.specs.Walk.{sinkOf, sourceOf, stateOf, leafVisit}
 use Rattle.value_runs.specs.Inner.{Plain, Row, Into, Fits, OctetsInto, valueOf}
 use Rattle.value_leaves.proofs.ItemsInTable.{set3-long, row-put}
 use Rattle.value_leaves.proofs.RepeatsLoop.{Going, going-none, going-all, going-more}

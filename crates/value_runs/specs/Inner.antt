@@ -9,7 +9,7 @@ use Rattle.choices.specs.{_≡_, true, List, ℕ, _+_, _*_, _≤_, _<_, length}
 use Rattle.cdr.specs.{octetsLimit, Size, One, Read, Ends, octets, behindGap, declared.Read.the-variants.Number}
 use Rattle.type_numbers.specs.Kinds.{shortKind, booleanKind}
 use Rattle.value_meaning.specs.{Visit.sizeOf, Visit.contentOf, Value.roomIn}
-use Rattle.value_leaves.specs.{declared.Mode.Mode, declared.Cursor.Cursor}
+use Rattle.value_cursor.specs.{declared.Mode.Mode, declared.Cursor.Cursor}
 
 pub record Plain (kind count fault : ℕ) : Type 0 where
   pub primitive : shortKind ≤ kind

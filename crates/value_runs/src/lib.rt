@@ -10,15 +10,15 @@ ghost use Rattle.cdr.specs.Align.{octets, behindGap};
 ghost use Rattle.cdr.specs.Number.{numberAt};
 ghost use Rattle.value_meaning.specs.Sinks.{repeats};
 ghost use Rattle.value_meaning.specs.Value.{roomIn};
-ghost use Rattle.value_leaves.specs.Lent.{set3};
-ghost use Rattle.value_leaves.specs.Walk.{stateOf, leafVisit};
+ghost use Rattle.value_cursor.specs.Lent.{set3};
+ghost use Rattle.value_cursor.specs.Walk.{stateOf, leafVisit};
 ghost use Rattle.value_runs.specs.Inner.{Plain, Row, Into, Fits, OctetsInto, valueOf};
 use cdr::Index;
 use cdr::Order;
 use cdr::Read;
 use cdr::Size;
-use value_leaves::Cursor;
-use value_leaves::Mode;
+use value_cursor::Cursor;
+use value_cursor::Mode;
 
 // The most visits that go at once.
 const MOST: u64 = cdr::OCTETS_LIMIT as u64;
@@ -123,7 +123,7 @@ fn passed_over(
         ⌝ }
 {
     let w = size.octets();
-    match value_leaves::number_at(value, mode, p + (n - 1) * w, size) {
+    match value_cursor::number_at(value, mode, p + (n - 1) * w, size) {
         Read::Number { at, value: number } => Cursor {
             at: at + w,
             visits: std::num::wrapping_add_u64(cursor.visits, n as u64),
@@ -219,7 +219,7 @@ fn numbers_in(
             (row + k) * 3,
             kind,
             at as u64,
-            value_leaves::content_of(kind, last),
+            value_cursor::content_of(kind, last),
         );
         k += 1;
     }
@@ -299,8 +299,8 @@ fn together(
     requires { ⌜ Plain kind n (cursor .fault) ⌝ }
     ensures { λ r. ⌜ stateOf r (now (table .exit)) ≡ repeats (leafVisit mode (now (value .entry)) kind) n (stateOf cursor (now (table .entry))) ⌝ }
 {
-    let size = value_leaves::size_of(kind);
-    match value_leaves::number_at(value, mode, cursor.at, size) {
+    let size = value_cursor::size_of(kind);
+    match value_cursor::number_at(value, mode, cursor.at, size) {
         Read::Number { at, value: _ } => from(value, mode, table, kind, size, n, at, cursor),
         Read::Ends => each(value, mode, table, kind, n as u64, cursor),
     }

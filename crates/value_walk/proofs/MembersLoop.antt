@@ -16,7 +16,7 @@ use Rattle.type_unions.specs.Shapes.{Shape}
 use Rattle.value_meaning.specs.Sinks.{Source, Sink, St, andThen}
 use Rattle.value_meaning.specs.Visit.{Checked}
 use Rattle.value_meaning.proofs.ReadingCases.{goes-on, stops}
-use Rattle.value_leaves.specs.Lent.{Lent}
+use Rattle.value_cursor.specs.Lent.{Lent}
 use Rattle.value_leaves.proofs.RepeatsLoop.{rows}
 use Rattle.value_walk.specs.Nested.{membersAt}
 

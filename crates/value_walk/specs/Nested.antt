@@ -12,7 +12,7 @@ use Rattle.type_parameters.specs.declared.Parameters.{Parameters}
 use Rattle.type_unions.specs.{Shape, Shapes.shapeOf, declared.Arm.Arm, Arms.chosenOf}
 use Rattle.type_unions.specs.declared.Arm.the-variants.{Chosen, NoneChosen}
 use Rattle.value_meaning.specs.{Source, Sink, St, andThen, Sinks.repeats, Visit.Checked, Visit.checked, Visit.textAt, Visit.countAt, Reading.reads}
-use Rattle.value_leaves.specs.{declared.Mode.Mode, Lent.Lent, Walk.sinkOf, Walk.sourceOf}
+use Rattle.value_cursor.specs.{declared.Mode.Mode, Lent.Lent, Walk.sinkOf, Walk.sourceOf}
 
 abbrev pub readsBelow : Mode → List ℕ → List ℕ → List Kind → ℕ → Shape → St Lent → St Lent
 readsBelow mode v t ks left shape s = reads (sinkOf mode) (sourceOf mode v) (checked t ks) left shape s

@@ -11,7 +11,7 @@ ghost use Rattle.type_unions.specs.Shapes.{Shape, shapeOf, look};
 ghost use Rattle.value_meaning.specs.Sinks.{repeats};
 ghost use Rattle.value_meaning.specs.Visit.{Checked, checked};
 ghost use Rattle.value_meaning.specs.Reading.{reads, levels, topOf};
-ghost use Rattle.value_leaves.specs.Walk.{sinkOf, sourceOf, stateOf, cursorStart};
+ghost use Rattle.value_cursor.specs.Walk.{sinkOf, sourceOf, stateOf, cursorStart};
 ghost use Rattle.value_walk.specs.Nested.{readsBelow, readsWith, sequenceAt, membersAt, exceptionAt, unionAt};
 use cdr::Place;
 use type_kinds::Fields;
@@ -22,8 +22,8 @@ use type_kinds::Spot;
 use type_list::Met;
 use type_parameters::Parameters;
 use type_unions::Arm;
-use value_leaves::Cursor;
-use value_leaves::Mode;
+use value_cursor::Cursor;
+use value_cursor::Mode;
 
 // The most levels that may be open.
 const LEVELS: u32 = 64;

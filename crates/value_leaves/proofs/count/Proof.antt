@@ -10,7 +10,7 @@ use Rattle.cdr.proofs.Alignment.{read-facts}
 use Rattle.value_meaning.specs.Sinks.{item, failed, taken, done}
 use Rattle.value_meaning.specs.Visit.{countDone, countAt}
 use Rattle.value_meaning.proofs.ReadingCases as way
-use Rattle.value_leaves.specs.Walk.{sinkOf, sourceOf, stateOf}
+use Rattle.value_cursor.specs.Walk.{sinkOf, sourceOf, stateOf}
 
 number-at-requires : tie.Need-number-at-requires
 number-at-requires c κs = search needs

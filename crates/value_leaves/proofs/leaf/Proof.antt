@@ -9,7 +9,7 @@ use Rattle.cdr.proofs.Alignment.{read-facts}
 use Rattle.value_meaning.specs.Sinks.{taken}
 use Rattle.value_meaning.specs.Visit.{leafDone}
 use Rattle.value_meaning.proofs.ReadingCases as way
-use Rattle.value_leaves.specs.Walk.{sinkOf, sourceOf, stateOf}
+use Rattle.value_cursor.specs.Walk.{sinkOf, sourceOf, stateOf}
 use Rattle.cdr.specs.Align.{octets}
 
 returns : tie.Need-returns

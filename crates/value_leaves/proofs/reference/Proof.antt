@@ -7,7 +7,7 @@ use Prim.Native.Nat.{_-_}
 use Rattle.value_meaning.specs.Sinks.{taken}
 use Rattle.value_meaning.specs.Visit.{profilesAt, objrefAt}
 use Rattle.value_meaning.proofs.ReadingCases as way
-use Rattle.value_leaves.specs.Walk.{sinkOf, sourceOf}
+use Rattle.value_cursor.specs.Walk.{sinkOf, sourceOf}
 
 text-requires : tie.Need-text-requires
 text-requires c κs = search needs

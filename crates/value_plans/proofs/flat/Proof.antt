@@ -8,7 +8,7 @@ use Rattle.type_unions.specs.Shapes.Shape.{flat}
 use Rattle.value_meaning.specs.Visit.{inertAt}
 use Rattle.value_meaning.specs.Reading.{reads}
 use Rattle.value_meaning.proofs.ReadingCases.{reads-none, reads-flat}
-use Rattle.value_leaves.specs.Walk.{sinkOf, sourceOf, stateOf}
+use Rattle.value_cursor.specs.Walk.{sinkOf, sourceOf, stateOf}
 
 refused-requires : tie.Need-refused-requires
 refused-requires c κs = search needs

@@ -7,7 +7,7 @@ use Prim.Native.Nat.{ℕ, _-_}
 use native.Mathlib.Omega.{arith}
 use Rattle.value_meaning.specs.Visit.{leafAt}
 use Rattle.value_meaning.specs.Sinks.{begun}
-use Rattle.value_leaves.specs.Walk.{sinkOf, sourceOf, stateOf}
+use Rattle.value_cursor.specs.Walk.{sinkOf, sourceOf, stateOf}
 use Rattle.value_plans.proofs.PlanReadsStruct.{Stepping, stepping-none, stepping-all, stepping-stop, stepping-more}
 
 abbrev Inv-loop : tie.InvT-loop

@@ -5,7 +5,7 @@ use Rattle.value_plans.proofs.structs.Tie as tie
 use mathlib.Core.Path.{ap, _∙_}
 use Prim.Native.Nat.{_-_}
 use native.Mathlib.Omega.{arith}
-use Rattle.value_leaves.specs.Walk.{sinkOf, sourceOf, stateOf}
+use Rattle.value_cursor.specs.Walk.{sinkOf, sourceOf, stateOf}
 use Rattle.value_leaves.proofs.RepeatsLoop.{Going, going-none, going-all, going-stop, going-more}
 use Rattle.value_plans.specs.Plans.{planSteps, planVisit}
 

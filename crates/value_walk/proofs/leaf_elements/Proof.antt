@@ -5,7 +5,7 @@ use Rattle.value_walk.proofs.leaf_elements.Tie as tie
 use mathlib.Core.Path.{sym, _∙_}
 use native.Mathlib.Omega.{arith}
 use Rattle.value_meaning.specs.Reading.{reads}
-use Rattle.value_leaves.specs.Walk.{sinkOf, sourceOf, stateOf}
+use Rattle.value_cursor.specs.Walk.{sinkOf, sourceOf, stateOf}
 use Rattle.value_walk.proofs.VisitIsNested as way
 
 returns : tie.Need-returns

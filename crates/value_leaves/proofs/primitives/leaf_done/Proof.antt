@@ -6,7 +6,7 @@ use mathlib.Core.Path.{sym, ap, _∙_}
 use Prim.Native.Nat.{ℕ, _-_}
 use Rattle.value_meaning.specs.Sinks.{item, taken, done}
 use Rattle.value_meaning.proofs.ReadingCases as way
-use Rattle.value_leaves.specs.Walk.{sinkOf, sourceOf, stateOf}
+use Rattle.value_cursor.specs.Walk.{sinkOf, sourceOf, stateOf}
 
 refused-requires : tie.Need-refused-requires
 refused-requires c κs = search needs

@@ -7,8 +7,8 @@ use Prim.Native.Nat.{_-_}
 use Rattle.value_meaning.specs.Sinks.{St, repeats, taken}
 use Rattle.value_meaning.specs.Visit.{profileAt, profilesAt}
 use Rattle.value_meaning.proofs.ReadingCases as way
-use Rattle.value_leaves.specs.Lent.{Lent}
-use Rattle.value_leaves.specs.Walk.{sinkOf, sourceOf}
+use Rattle.value_cursor.specs.Lent.{Lent}
+use Rattle.value_cursor.specs.Walk.{sinkOf, sourceOf}
 
 count-requires : tie.Need-count-requires
 count-requires c κs = search needs

@@ -7,7 +7,7 @@ use mathlib.Core.List.{List}
 use Prim.Native.Nat.{ℕ, _+_, _-_}
 use Rattle.value_meaning.specs.Sinks.{taken}
 use Rattle.value_meaning.proofs.ReadingCases as way
-use Rattle.value_leaves.specs.Walk.{sinkOf, stateOf}
+use Rattle.value_cursor.specs.Walk.{sinkOf, stateOf}
 use Prim.Native.Nat.{_%_, _^_}
 
 is-full-requires : tie.Need-is-full-requires

@@ -7,7 +7,7 @@ use Prim.Native.Nat.{_-_}
 use native.Mathlib.Omega.{arith}
 use lib.ListN.{length-set}
 use borrow.Author.Tests.{lt-ltb, le-ltb, le-leb, lt-leb}
-use Rattle.value_leaves.specs.Lent.{rowPut}
+use Rattle.value_cursor.specs.Lent.{rowPut}
 
 returns : tie.Need-returns
 unfolding rowPut

@@ -9,7 +9,7 @@ use Prim.Native.Nat.{_-_}
 use Rattle.type_unions.specs.Shapes.{shapeOf}
 use Rattle.value_meaning.specs.Visit.{checked}
 use Rattle.value_meaning.specs.Reading.{reads}
-use Rattle.value_leaves.specs.Walk.{sinkOf, sourceOf, stateOf}
+use Rattle.value_cursor.specs.Walk.{sinkOf, sourceOf, stateOf}
 use Rattle.value_leaves.proofs.RepeatsLoop.{Going, going-none, going-all, going-stop, going-more}
 use Rattle.type_list.specs.Arrays.{kindsMet}
 use Rattle.value_walk.proofs.+each+elements+exception+sequence+struct_members+union_member+visit.Proof.CycleClaims.{each-at, visit-below}

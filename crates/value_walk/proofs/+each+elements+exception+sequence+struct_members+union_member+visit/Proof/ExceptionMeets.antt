@@ -12,7 +12,7 @@ use Rattle.type_kinds.specs.declared.Labels.the-variants.{NoLabels}
 use Rattle.type_kinds.specs.Members.{membersOf, typesOf}
 use Rattle.value_meaning.specs.Visit.{checked}
 use Rattle.value_meaning.specs.Reading.{reads}
-use Rattle.value_leaves.specs.Walk.{sinkOf, sourceOf, stateOf}
+use Rattle.value_cursor.specs.Walk.{sinkOf, sourceOf, stateOf}
 use Rattle.value_walk.proofs.VisitIsNested as way
 use Rattle.type_list.specs.Arrays.{kindsMet}
 use Rattle.value_walk.proofs.+each+elements+exception+sequence+struct_members+union_member+visit.Proof.CycleClaims.{exception-at, struct-members-below}

@@ -14,7 +14,7 @@ use Rattle.type_unions.specs.Shapes.{shapeOf, look}
 use Rattle.value_meaning.specs.Sinks.{repeats}
 use Rattle.value_meaning.specs.Visit.{checked}
 use Rattle.value_meaning.specs.Reading.{reads}
-use Rattle.value_leaves.specs.Walk.{sinkOf, sourceOf, stateOf}
+use Rattle.value_cursor.specs.Walk.{sinkOf, sourceOf, stateOf}
 use Rattle.value_walk.proofs.VisitIsNested as way
 use Rattle.type_list.specs.Arrays.{kindsMet}
 use Rattle.value_walk.proofs.+each+elements+exception+sequence+struct_members+union_member+visit.Proof.CycleClaims.{elements-below, sequence-at}

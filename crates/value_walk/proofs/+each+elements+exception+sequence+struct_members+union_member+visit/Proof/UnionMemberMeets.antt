@@ -25,8 +25,8 @@ use Rattle.type_unions.specs.Discriminants.{labelsFor}
 use Rattle.type_unions.specs.Shapes.{shapeOf, look}
 use Rattle.value_meaning.specs.Visit.{checked}
 use Rattle.value_meaning.specs.Reading.{reads}
-use Rattle.value_leaves.specs.declared.Cursor.{Cursor}
-use Rattle.value_leaves.specs.Walk.{sinkOf, sourceOf, stateOf}
+use Rattle.value_cursor.specs.declared.Cursor.{Cursor}
+use Rattle.value_cursor.specs.Walk.{sinkOf, sourceOf, stateOf}
 use Rattle.value_walk.specs.Nested.{readsWith}
 use Rattle.value_walk.proofs.VisitIsNested as way
 use Rattle.type_list.specs.Arrays.{kindsMet}

@@ -8,8 +8,8 @@ use Rattle.value_walk.proofs.struct_members.Reads as struct-members
 use Rattle.value_walk.proofs.union_member.Reads as union-member
 use Rattle.value_walk.proofs.visit.Reads as visit
 use Rattle.value_walk.proofs.+each+elements+exception+sequence+struct_members+union_member+visit.Lts-visit as visit-lts
-use Rattle.value_leaves.proofs.Cursor.refused.Reads as refused-reads
-use Rattle.value_leaves.proofs.Cursor.visit.Reads as visit-reads
+use Rattle.value_cursor.proofs.Cursor.refused.Reads as refused-reads
+use Rattle.value_cursor.proofs.Cursor.visit.Reads as visit-reads
 use Rattle.value_leaves.proofs.inert.Reads as inert-reads
 use Rattle.type_list.proofs.inside_of.Reads as inside-of-reads
 use mathlib.Core.Path.{sym, ap, _∙_}
@@ -19,7 +19,7 @@ use Rattle.type_unions.specs.Shapes.{shapeOf, look}
 use Rattle.value_meaning.specs.Visit.{checked}
 use Rattle.value_meaning.specs.Reading.{reads}
 use Rattle.value_meaning.proofs.ReadingCases.{reads-none}
-use Rattle.value_leaves.specs.Walk.{sinkOf, sourceOf, stateOf}
+use Rattle.value_cursor.specs.Walk.{sinkOf, sourceOf, stateOf}
 use Rattle.value_walk.proofs.VisitIsNested as way
 use Rattle.value_walk.proofs.VisitIsNested.{enter}
 use Rattle.type_list.specs.Arrays.{kindsMet}

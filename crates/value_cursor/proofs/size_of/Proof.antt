@@ -1,6 +1,6 @@
 -- The size of a primitive.
-use Rattle.value_leaves.proofs.size_of.Statement.{statement}
-use Rattle.value_leaves.proofs.size_of.Tie as tie
+use Rattle.value_cursor.proofs.size_of.Statement.{statement}
+use Rattle.value_cursor.proofs.size_of.Tie as tie
 use Prim.Native.Nat.{_-_}
 use borrow.Author.Tests.{eq-eqb, ne-eqb}
 use Rattle.value_meaning.specs.Sinks.{taken}

@@ -6,7 +6,7 @@
 --   leafVisit   a visit of a kind without parameters
 use Rattle.choices.specs.{ℕ, List}
 use Rattle.value_meaning.specs.{Source, source, Sink, St, st, begun, Visit.leafAt}
-use Rattle.value_leaves.specs.{declared.Mode.Mode, declared.Cursor.Cursor, Lent.Lent, Lent.lentOf, Lent.lentSink}
+use Rattle.value_cursor.specs.{declared.Mode.Mode, declared.Cursor.Cursor, Lent.Lent, Lent.lentOf, Lent.lentSink}
 
 abbrev pub sinkOf : Mode → Sink Lent
 sinkOf m = lentSink (m .limited) (m .fill) (m .first)

@@ -1,6 +1,6 @@
 -- A number is taken.
-use Rattle.value_leaves.proofs.Cursor.took.Statement.{statement}
-use Rattle.value_leaves.proofs.Cursor.took.Tie as tie
+use Rattle.value_leaves.proofs.took.Statement.{statement}
+use Rattle.value_leaves.proofs.took.Tie as tie
 use mathlib.Core.Path.{refl}
 use Prim.Native.Nat.{_-_}
 use Rattle.value_meaning.specs.Sinks.{taken}

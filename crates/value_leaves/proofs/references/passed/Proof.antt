@@ -1,6 +1,6 @@
 -- Octets are taken as they are.
-use Rattle.value_leaves.proofs.Cursor.passed.Statement.{statement}
-use Rattle.value_leaves.proofs.Cursor.passed.Tie as tie
+use Rattle.value_leaves.proofs.references.passed.Statement.{statement}
+use Rattle.value_leaves.proofs.references.passed.Tie as tie
 use mathlib.Core.Path.{refl}
 use Prim.Native.Nat.{_-_}
 use Rattle.value_meaning.specs.Sinks.{taken}

@@ -1,7 +1,7 @@
 -- The content of a primitive.
 use borrow.Author.Needs.{needs}
-use Rattle.value_leaves.proofs.content_of.Statement.{statement}
-use Rattle.value_leaves.proofs.content_of.Tie as tie
+use Rattle.value_cursor.proofs.content_of.Statement.{statement}
+use Rattle.value_cursor.proofs.content_of.Tie as tie
 use mathlib.Core.Path.{sym, ap, _∙_}
 use Prim.Native.Nat.{_-_}
 use Rattle.value_meaning.specs.Sinks.{taken}

@@ -1,10 +1,10 @@
 -- A visit begins.
 use borrow.Author.Needs.{needs}
-use Rattle.value_leaves.proofs.Cursor.visit.Statement.{statement}
-use Rattle.value_leaves.proofs.Cursor.visit.Tie as tie
+use Rattle.value_cursor.proofs.Cursor.visit.Statement.{statement}
+use Rattle.value_cursor.proofs.Cursor.visit.Tie as tie
 use mathlib.Core.Path.{ap}
 use Prim.Native.Nat.{ℕ, _-_}
-use Rattle.value_leaves.specs.Walk.{stateOf}
+use Rattle.value_cursor.specs.Walk.{stateOf}
 
 wrapping-add-u64-requires : tie.Need-wrapping-add-u64-requires
 wrapping-add-u64-requires c κs = search needs
