@@ -3,8 +3,8 @@ use mathlib.Core.Path.{_≡_}
 use mathlib.Core.List.{List, [], _∷_}
 use mathlib.Core.Bool.{Bool}
 use Prim.Native.Nat.{ℕ}
-use Rattle.type_fields.specs.declared.Refusal.{Refusal}
-use Rattle.type_fields.specs.Refusals.{typeRefusalNumber}
+use Rattle.type_counts.specs.declared.Refusal.{Refusal}
+use Rattle.type_counts.specs.Refusals.{typeRefusalNumber}
 use Rattle.typecode.specs.declared.TypeAnswer.the-variants.{Accepted as TypeAccepted, Refused as TypeRefused, Loop}
 use Rattle.type_list.specs.declared.Met.{Met}
 use Rattle.typecode.specs.TypeCode.{CheckedType, checkedType}

@@ -41,10 +41,12 @@ use Rattle.type_list.specs.Arrays.{kindsFrom, kindsMet, added}
 use Rattle.type_unions.specs.Discriminants.{leafLabels, labelsAfter, labelsFor, outOfKind}
 use Rattle.type_unions.specs.Arms.{firstSought, caseOf, memberNo, noDefault, defaultOf, chosenOf}
 use Rattle.type_unions.specs.Shapes.{shapeOf, look}
-use Rattle.type_fields.specs.{Count, Wrong, Stands, Entry, NoEntry, Enters, Part, NoPart, Inside, Step, Refused, Next, Switch, NoSwitch, Cases}
-use Rattle.type_fields.specs.Refusals.{typeRefusalNumber}
-use Rattle.type_fields.specs.Fields.{belowTop, kindEntry, textStep, namesStep, numberStep, countStep, anyCount, headStep, exceptionStep, lengthStep}
-use Rattle.type_fields.specs.Fields.{textsStep, enumStep, partOf, badDefault, switchStep, labelBefore, labelStep}
+use Rattle.type_counts.specs.{Count, Wrong, Stands, Part, NoPart, Inside, Step, Refused, Next}
+use Rattle.type_counts.specs.Refusals.{typeRefusalNumber}
+use Rattle.type_counts.specs.Counts.{textStep, namesStep, numberStep, countStep, anyCount, headStep, exceptionStep, lengthStep, textsStep, enumStep}
+use Rattle.type_counts.specs.Counts.{partOf}
+use Rattle.type_fields.specs.{Entry, NoEntry, Enters, Switch, NoSwitch, Cases}
+use Rattle.type_fields.specs.Fields.{belowTop, kindEntry, badDefault, switchStep, labelBefore, labelStep}
 use Rattle.type_walk.specs.Walk.{entered, closedAt}
 use Rattle.type_walk.specs.Types.{targetStep, indirectionAt, nameStep, membersAt, labelsAt, switchedAt, discriminantAt, endedAt, compositeAt, enteredAt}
 use Rattle.type_walk.specs.Types.{typeWith, enterAt, typeAt, walkedOf}

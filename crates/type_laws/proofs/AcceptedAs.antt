@@ -11,7 +11,7 @@ use Rattle.cdr.specs.declared.Index.{Index}
 use Rattle.cdr.specs.declared.Order.{Order}
 use Rattle.type_kinds.specs.declared.Inner.{Inner}
 use Rattle.type_kinds.specs.declared.Kind.{Kind}
-use Rattle.type_fields.specs.declared.Step.the-variants.{Next}
+use Rattle.type_counts.specs.declared.Step.the-variants.{Next}
 use Rattle.type_loops.proofs.LoopDecided.{Returns}
 use Rattle.type_loops.proofs.RankFalls.{rank}
 use Rattle.type_walk.specs.Types.{walkedOf}

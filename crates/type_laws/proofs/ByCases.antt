@@ -7,17 +7,17 @@ use Rattle.cdr.specs.declared.Index.{Index}
 use Rattle.cdr.specs.declared.Order.{Order}
 use Rattle.cdr_fields.specs.declared.Field.{Field}
 use Rattle.cdr_fields.specs.declared.Field.the-variants.{Value, NoField}
-use Rattle.type_fields.specs.declared.Refusal.{Refusal}
+use Rattle.type_counts.specs.declared.Refusal.{Refusal}
 use Rattle.type_fields.specs.declared.Entry.{Entry}
 use Rattle.type_fields.specs.declared.Entry.the-variants.{NoEntry, Enters}
-use Rattle.type_fields.specs.declared.Step.{Step}
-use Rattle.type_fields.specs.declared.Step.the-variants.{Refused, Next}
-use Rattle.type_fields.specs.declared.Count.{Count}
-use Rattle.type_fields.specs.declared.Count.the-variants.{Wrong, Stands}
+use Rattle.type_counts.specs.declared.Step.{Step}
+use Rattle.type_counts.specs.declared.Step.the-variants.{Refused, Next}
+use Rattle.type_counts.specs.declared.Count.{Count}
+use Rattle.type_counts.specs.declared.Count.the-variants.{Wrong, Stands}
 use Rattle.type_fields.specs.declared.Switch.{Switch}
 use Rattle.type_fields.specs.declared.Switch.the-variants.{NoSwitch, Cases}
-use Rattle.type_fields.specs.declared.Part.{Part}
-use Rattle.type_fields.specs.declared.Part.the-variants.{NoPart, Inside}
+use Rattle.type_counts.specs.declared.Part.{Part}
+use Rattle.type_counts.specs.declared.Part.the-variants.{NoPart, Inside}
 use Rattle.type_kinds.specs.Parts.{onField}
 use Rattle.type_walk.specs.Walk.{Walk, Walked, refusedAs, onStep, countThen, afterType}
 use Rattle.type_walk.specs.Types.{casesThen, partThen, onEntry}

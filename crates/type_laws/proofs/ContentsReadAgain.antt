@@ -27,10 +27,10 @@ use Rattle.type_kinds.specs.declared.Inert.the-variants.{Leaf, Text, Objref, En
 use Rattle.type_parameters.specs.declared.Parameters.{Parameters}
 use Rattle.type_parameters.specs.declared.Parameters.the-variants.{Struct, Exception, Union, Sequence, Array, Alias}
 use Rattle.type_kinds.specs.declared.Kind.{Kind}
-use Rattle.type_fields.specs.declared.Refusal.the-variants.{BadEncapsulation}
-use Rattle.type_fields.specs.declared.Count.{Count}
-use Rattle.type_fields.specs.declared.Count.the-variants.{Stands}
-use Rattle.type_fields.specs.declared.Step.the-variants.{Next}
+use Rattle.type_counts.specs.declared.Refusal.the-variants.{BadEncapsulation}
+use Rattle.type_counts.specs.declared.Count.{Count}
+use Rattle.type_counts.specs.declared.Count.the-variants.{Stands}
+use Rattle.type_counts.specs.declared.Step.the-variants.{Next}
 use Rattle.type_fields.specs.declared.Switch.the-variants.{Cases}
 use Rattle.cdr.specs.Align.{indexOf}
 use Rattle.cdr.specs.Orders.{orderOf}
@@ -41,7 +41,8 @@ use Rattle.type_parameters.specs.Parameters.{memberFields, typeIn, elementIn, u
 use Rattle.type_list.specs.Met.{kindNo}
 use Rattle.type_unions.specs.Discriminants.{labelsFor}
 use Rattle.type_unions.specs.Arms.{noDefault}
-use Rattle.type_fields.specs.Fields.{badDefault, namesStep, numberStep, lengthStep, headStep, exceptionStep, enumStep, switchStep, partOf}
+use Rattle.type_counts.specs.Counts.{namesStep, numberStep, lengthStep, headStep, exceptionStep, enumStep, partOf}
+use Rattle.type_fields.specs.Fields.{badDefault, switchStep}
 use Rattle.type_walk.specs.Walk.{Walk, closedAt, refusedAs, goesOnAt, onStep, countThen, afterType}
 use Rattle.type_walk.specs.Types.{Checker, nameStep, membersAt, labelsAt, switchHead, casesThen, switchedAt, discriminantAt, contentsAt, endedAt, compositeAt}
 use Rattle.type_walk.specs.Types.{insideAt}

@@ -21,7 +21,7 @@ use Rattle.type_kinds.specs.declared.Labels.{Labels}
 use Rattle.type_parameters.specs.declared.Parameters.{Parameters}
 use Rattle.type_parameters.specs.declared.Parameters.the-variants.{Fault, Flat as flat, Struct, Exception, Union, Sequence, Array, Alias}
 use Rattle.type_kinds.specs.declared.Kind.{Kind}
-use Rattle.type_fields.specs.declared.Step.the-variants.{Next}
+use Rattle.type_counts.specs.declared.Step.the-variants.{Next}
 use Rattle.cdr.specs.Align.{indexOf}
 use Rattle.type_kinds.specs.Parts.{placeOf, placeIn}
 use Rattle.type_kinds.specs.Members.{membersOf, typesOf}

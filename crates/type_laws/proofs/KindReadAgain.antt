@@ -21,7 +21,7 @@ use Rattle.type_kinds.specs.declared.Target.{Target}
 use Rattle.type_kinds.specs.declared.Target.the-variants.{LeadsTo, Outside}
 use Rattle.type_parameters.specs.declared.Parameters.{Parameters}
 use Rattle.type_kinds.specs.declared.Kind.{Kind}
-use Rattle.type_fields.specs.declared.Refusal.the-variants.{Ends, BadTarget}
+use Rattle.type_counts.specs.declared.Refusal.the-variants.{Ends, BadTarget}
 use Rattle.cdr.specs.Align.{behindGap, indexOf}
 use Rattle.cdr_fields.specs.Encapsulation.{start, fieldOf}
 use Rattle.type_kinds.specs.Forms.{formOf}

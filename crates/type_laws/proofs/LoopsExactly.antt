@@ -19,9 +19,9 @@ use Rattle.type_kinds.specs.declared.Labels.{Labels}
 use Rattle.type_parameters.specs.declared.Parameters.{Parameters}
 use Rattle.type_parameters.specs.declared.Parameters.the-variants.{Fault, Flat, Struct, Exception, Union, Sequence, Array, Alias}
 use Rattle.type_kinds.specs.declared.Kind.{Kind}
-use Rattle.type_fields.specs.declared.Refusal.{Refusal}
-use Rattle.type_fields.specs.declared.Step.{Step}
-use Rattle.type_fields.specs.declared.Step.the-variants.{Refused as refused, Next}
+use Rattle.type_counts.specs.declared.Refusal.{Refusal}
+use Rattle.type_counts.specs.declared.Step.{Step}
+use Rattle.type_counts.specs.declared.Step.the-variants.{Refused as refused, Next}
 use Rattle.typecode.specs.declared.TypeAnswer.the-variants.{Accepted, Refused, Loop}
 use Rattle.type_kinds.specs.Parts.{placeIn}
 use Rattle.type_kinds.specs.Members.{membersOf, typesOf}

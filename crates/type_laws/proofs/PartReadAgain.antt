@@ -21,12 +21,12 @@ use Rattle.cdr_fields.specs.declared.Str.the-variants.{Characters, BadText, NoT
 use Rattle.type_kinds.specs.declared.Skip.the-variants.{EndsAt}
 use Rattle.type_kinds.specs.declared.Labels.{Labels}
 use Rattle.type_kinds.specs.declared.Labels.the-variants.{Of, NoLabels}
-use Rattle.type_fields.specs.declared.Refusal.the-variants.{Ends, BadUnion, NoCount}
-use Rattle.type_fields.specs.declared.Step.{Step}
-use Rattle.type_fields.specs.declared.Step.the-variants.{Refused, Next}
+use Rattle.type_counts.specs.declared.Refusal.the-variants.{Ends, BadUnion, NoCount}
+use Rattle.type_counts.specs.declared.Step.{Step}
+use Rattle.type_counts.specs.declared.Step.the-variants.{Refused, Next}
 use Rattle.type_fields.specs.declared.Switch.the-variants.{NoSwitch, Cases}
-use Rattle.type_fields.specs.declared.Count.{Count}
-use Rattle.type_fields.specs.declared.Count.the-variants.{Wrong, Stands}
+use Rattle.type_counts.specs.declared.Count.{Count}
+use Rattle.type_counts.specs.declared.Count.the-variants.{Wrong, Stands}
 use Rattle.cdr.specs.Align.{octets, behindGap, indexOf}
 use Rattle.cdr.specs.Number.{numberAt, numberOf}
 use Rattle.cdr_text.proofs.Texts.{run-to}
@@ -36,7 +36,8 @@ use Rattle.cdr.proofs.Alignment.{read-number}
 use Rattle.type_kinds.specs.Parts.{onField, fieldIn, skipField, skipOctets, skipCounted, leadIn, spotAt, memberAt, namesIn}
 use Rattle.type_parameters.specs.Parameters.{countIn}
 use Rattle.type_unions.specs.Discriminants.{outOfKind}
-use Rattle.type_fields.specs.Fields.{stepFrom, textStep, thenStep, namesStep, numberStep, countStep, anyCount, thenCount, headStep, exceptionStep, afterCount, lengthStep, textsStep, enumStep, badDefault, switchFrom, switchStep, labelBefore, labelStep}
+use Rattle.type_counts.specs.Counts.{stepFrom, textStep, thenStep, namesStep, numberStep, countStep, anyCount, thenCount, headStep, exceptionStep, afterCount, lengthStep, textsStep, enumStep}
+use Rattle.type_fields.specs.Fields.{badDefault, switchFrom, switchStep, labelBefore, labelStep}
 use Rattle.cdr_fields.proofs.FieldsWithin.{string-facts}
 use Rattle.type_walk.specs.Types.{nameStep}
 

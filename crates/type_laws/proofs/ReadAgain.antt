@@ -17,8 +17,8 @@ use Rattle.cdr_fields.specs.declared.Field.the-variants.{Value}
 use Rattle.type_kinds.specs.declared.Inner.{Inner}
 use Rattle.type_kinds.specs.declared.Inner.the-variants.{Here, There}
 use Rattle.type_kinds.specs.declared.Kind.{Kind}
-use Rattle.type_fields.specs.declared.Refusal.the-variants.{Ends}
-use Rattle.type_fields.specs.declared.Step.the-variants.{Next}
+use Rattle.type_counts.specs.declared.Refusal.the-variants.{Ends}
+use Rattle.type_counts.specs.declared.Step.the-variants.{Next}
 use Rattle.cdr.specs.Align.{indexOf}
 use Rattle.cdr_fields.specs.Encapsulation.{fieldOf}
 use Rattle.type_kinds.specs.Forms.{formOf}

@@ -13,7 +13,7 @@ use Rattle.choices.specs.{_≡_, _↔_, List, [], _∷_, false, ℕ, _<_, lengt
 use Rattle.cdr.specs.{Place, Order}
 use Rattle.type_kinds.specs.{Kind, Here, There}
 use Rattle.type_parameters.specs.{Parameters.parametersAt}
-use Rattle.type_fields.specs.{Refusal, Refused}
+use Rattle.type_counts.specs.{Refusal, Refused}
 use Rattle.type_walk.specs.Types.{walkedOf}
 use Rattle.type_laws.specs.Written.{isSequence, Written, Inside}
 

@@ -17,13 +17,13 @@ use Rattle.cdr_fields.specs.declared.Field.{Field}
 use Rattle.cdr_fields.specs.declared.Field.the-variants.{Value, NoField}
 use Rattle.type_kinds.specs.declared.Form.{Form}
 use Rattle.type_kinds.specs.declared.Labels.{Labels}
-use Rattle.type_fields.specs.declared.Refusal.{Refusal}
-use Rattle.type_fields.specs.declared.Refusal.the-variants.{Ends, NoSuchKind, BadEncapsulation, BelowTop, TooDeep, TooManyKinds}
+use Rattle.type_counts.specs.declared.Refusal.{Refusal}
+use Rattle.type_counts.specs.declared.Refusal.the-variants.{Ends, NoSuchKind, BadEncapsulation, BelowTop, TooDeep, TooManyKinds}
 use Rattle.type_fields.specs.declared.Entry.the-variants.{NoEntry, Enters}
-use Rattle.type_fields.specs.declared.Step.{Step}
-use Rattle.type_fields.specs.declared.Step.the-variants.{Refused, Next}
+use Rattle.type_counts.specs.declared.Step.{Step}
+use Rattle.type_counts.specs.declared.Step.the-variants.{Refused, Next}
 use Rattle.type_fields.specs.declared.Switch.the-variants.{NoSwitch, Cases}
-use Rattle.type_fields.specs.declared.Part.the-variants.{NoPart, Inside}
+use Rattle.type_counts.specs.declared.Part.the-variants.{NoPart, Inside}
 use Rattle.cdr.specs.declared.Named.{Named}
 use Rattle.cdr.specs.declared.Named.the-variants.{Is, NoOrder}
 use Rattle.type_walk.specs.Walk.{Walk, Walked}
@@ -31,7 +31,8 @@ use Rattle.cdr_fields.specs.Encapsulation.{fieldOf}
 use Rattle.type_kinds.specs.Forms.{formOf}
 use Rattle.type_numbers.specs.{indirectionKind}
 use Rattle.type_kinds.specs.Parts.{placeBefore}
-use Rattle.type_fields.specs.Fields.{isListed, belowTop, kindEntry, partFrom, partOf}
+use Rattle.type_counts.specs.Counts.{partFrom, partOf}
+use Rattle.type_fields.specs.Fields.{isListed, belowTop, kindEntry}
 use Rattle.cdr.specs.Orders.{orderOf}
 use Rattle.cdr_fields.proofs.FieldsRead.{field-facts}
 use Rattle.type_walk.specs.Walk.{entered, refusedAs, goesOnAt, onStep}

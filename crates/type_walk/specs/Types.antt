@@ -34,10 +34,10 @@ use Rattle.type_numbers.specs.{indirectionKind}
 use Rattle.type_kinds.specs.declared.Layout.the-variants.{Objref, Struct, Union, Enum, Sequence, Array, Alias, Exception}
 use Rattle.type_list.specs.{Met.findKind}
 use Rattle.type_unions.specs.{Discriminants.labelsFor, Arms.noDefault}
-use Rattle.type_fields.specs.{Ends, NoSuchKind, BadEncapsulation, BadUnion, BadTarget, TooDeep, TooLong, Entry, NoEntry, Enters, Step, Switch}
-use Rattle.type_fields.specs.{NoSwitch, Cases, Part, NoPart, Inside}
-use Rattle.type_fields.specs.Fields.{nestingLimit, kindEntry, thenStep, textStep, namesStep, numberStep, lengthStep, headStep, exceptionStep}
-use Rattle.type_fields.specs.Fields.{enumStep, switchStep, labelStep, partOf}
+use Rattle.type_counts.specs.{Ends, NoSuchKind, BadEncapsulation, BadUnion, BadTarget, TooDeep, TooLong, Step, Part, NoPart, Inside}
+use Rattle.type_counts.specs.Counts.{thenStep, textStep, namesStep, numberStep, lengthStep, headStep, exceptionStep, enumStep, partOf}
+use Rattle.type_fields.specs.{Entry, NoEntry, Enters, Switch, NoSwitch, Cases}
+use Rattle.type_fields.specs.Fields.{nestingLimit, kindEntry, switchStep, labelStep}
 use Rattle.type_walk.specs.Walk.{Walk, Walked, nothingMet, entered, closedAt, refusedAs, goesOnAt, onStep, countThen, afterType}
 
 unfoldable pub targetStep : Walk → Place → Index → Walked

@@ -17,7 +17,7 @@ use Rattle.cdr.specs.{Index, Place, Order}
 use Rattle.type_kinds.specs.{Kind, Form, Unlisted, Plain, Bounded, Composite, Layout, writtenAt}
 use Rattle.type_kinds.specs.declared.Layout.the-variants.{Objref, Struct, Union, Enum, Sequence, Array, Alias, Exception}
 use Rattle.type_list.specs.Arrays.{kindsMet}
-use Rattle.type_fields.specs.{Refusal, Step, Refused, Next, Count, Wrong, Stands}
+use Rattle.type_counts.specs.{Refusal, Step, Refused, Next, Count, Wrong, Stands}
 use Rattle.type_walk.specs.declared.Walk as kept
 use Rattle.type_walk.specs.declared.Walked as left
 

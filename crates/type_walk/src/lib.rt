@@ -13,11 +13,11 @@ use cdr::Order;
 use cdr::Place;
 use cdr::Size;
 use cdr_fields::Field;
-use type_fields::Count;
+use type_counts::Count;
+use type_counts::Part;
+use type_counts::Refusal;
+use type_counts::Step;
 use type_fields::Entry;
-use type_fields::Part;
-use type_fields::Refusal;
-use type_fields::Step;
 use type_fields::Switch;
 use type_kinds::Form;
 use type_kinds::Labels;
@@ -141,7 +141,7 @@ fn inside(
         Form::Unlisted => walks::refused(Refusal::NoSuchKind, walk),
         Form::Plain => walks::goes_on(at, walks::close(walk, here)),
         Form::Bounded => walks::bounded(s, order, at, walk, here),
-        Form::Composite(layout) => match type_fields::part_at(s, at, order) {
+        Form::Composite(layout) => match type_counts::part_at(s, at, order) {
             Part::NoPart(refusal) => walks::refused(refusal, walk),
             Part::Inside {
                 start: from,
@@ -170,9 +170,9 @@ fn parameters(
     ensures { λ r. ⌜ seenAs r ≡ contentsAt (now (v .entry)) (typeAt (now (v .entry)) left) layout (now (s .entry)) start order (seen walk) ⌝ }
 {
     match layout {
-        Layout::Objref => walks::on(type_fields::names_step(s, order), walk),
-        Layout::Enum => walks::on(type_fields::enum_step(s, order), walk),
-        Layout::Struct => match type_fields::head_step(s, order) {
+        Layout::Objref => walks::on(type_counts::names_step(s, order), walk),
+        Layout::Enum => walks::on(type_counts::enum_step(s, order), walk),
+        Layout::Struct => match type_counts::head_step(s, order) {
             Count::Wrong(refusal) => walks::refused(refusal, walk),
             Count::Stands { count, next } => {
                 member_types(
@@ -189,7 +189,7 @@ fn parameters(
                 )
             }
         },
-        Layout::Exception => match type_fields::exception_step(s, order) {
+        Layout::Exception => match type_counts::exception_step(s, order) {
             Count::Wrong(refusal) => walks::refused(refusal, walk),
             Count::Stands { count, next } => {
                 member_types(
@@ -214,11 +214,11 @@ fn parameters(
             let c = check(v, s, start, order, Index(1), left, walk);
             walks::then_length(s, order, c)
         }
-        Layout::Alias => match type_fields::names_step(s, order) {
+        Layout::Alias => match type_counts::names_step(s, order) {
             Step::Refused(refusal) => walks::refused(refusal, walk),
             Step::Next(i) => check(v, s, start, order, i, left, walk),
         },
-        Layout::Union => match type_fields::names_step(s, order) {
+        Layout::Union => match type_counts::names_step(s, order) {
             Step::Refused(refusal) => walks::refused(refusal, walk),
             Step::Next(i) => switched(v, s, start, order, i, left, walk),
         },

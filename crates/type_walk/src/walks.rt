@@ -7,14 +7,14 @@ ghost use Rattle.type_numbers.specs.Kinds.{kindsLimit};
 ghost use Rattle.type_list.specs.Arrays.{entryLimit};
 ghost use Rattle.type_walk.specs.Walk.{seen, seenAs, nothingMet, layoutBarred, isBarred, entered, closedAt, refusedAs, goesOnAt, onStep, afterType};
 ghost use Rattle.type_walk.specs.Types.{targetStep, nameStep, switchHead, endedAt};
-ghost use Rattle.type_fields.specs.Fields.{numberStep, lengthStep};
+ghost use Rattle.type_counts.specs.Counts.{numberStep, lengthStep};
 use crate::Walk;
 use crate::Walked;
 use cdr::Index;
 use cdr::Order;
 use cdr::Place;
-use type_fields::Refusal;
-use type_fields::Step;
+use type_counts::Refusal;
+use type_counts::Step;
 use type_fields::Switch;
 use type_kinds::Form;
 use type_kinds::Labels;
@@ -152,7 +152,7 @@ pub(crate) fn bounded(s: &[u8], order: Order, at: Index, walk: Walk, here: usize
     requires { ⌜ here < kindsLimit ⌝ }
     ensures { λ r. ⌜ seenAs r ≡ onStep (numberStep (now (s .entry)) at order) (seen walk) (λ next. goesOnAt next (closedAt (seen walk) here)) ⌝ }
 {
-    match type_fields::number_step(s, at, order) {
+    match type_counts::number_step(s, at, order) {
         Step::Refused(refusal) => refused(refusal, walk),
         Step::Next(next) => goes_on(next, close(walk, here)),
     }
@@ -184,7 +184,7 @@ pub(crate) fn then_number(s: &[u8], order: Order, c: Walked) -> Walked
     let step = c.step;
     match step {
         Step::Refused(refusal) => refused(refusal, walk),
-        Step::Next(i) => on(type_fields::number_step(s, i, order), walk),
+        Step::Next(i) => on(type_counts::number_step(s, i, order), walk),
     }
 }
 
@@ -196,7 +196,7 @@ pub(crate) fn then_length(s: &[u8], order: Order, c: Walked) -> Walked
     let step = c.step;
     match step {
         Step::Refused(refusal) => refused(refusal, walk),
-        Step::Next(i) => on(type_fields::length_step(s, i, order), walk),
+        Step::Next(i) => on(type_counts::length_step(s, i, order), walk),
     }
 }
 
@@ -216,7 +216,7 @@ pub(crate) fn name_after(
 {
     match type_fields::label_step(labels, v, s, start, order, default, done, first, at) {
         Step::Refused(refusal) => Step::Refused(refusal),
-        Step::Next(i) => type_fields::text_step(s, i, order),
+        Step::Next(i) => type_counts::text_step(s, i, order),
     }
 }
 

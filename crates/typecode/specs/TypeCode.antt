@@ -14,7 +14,7 @@ use Rattle.type_loops.specs.Loops.{loopFound}
 use Rattle.cdr.specs.{Index, Order}
 use Rattle.type_kinds.specs.{Kind}
 use Rattle.type_list.specs.Arrays.{kindsMet}
-use Rattle.type_fields.specs.{Step, Refused as refused, Next, Refusals.typeRefusalNumber}
+use Rattle.type_counts.specs.{Step, Refused as refused, Next, Refusals.typeRefusalNumber}
 use Rattle.type_walk.specs.Types.{walkedOf}
 use Rattle.type_steps.specs.Steps.{steps}
 use Rattle.typecode.specs.declared.TypeAnswer.{TypeAnswer}

@@ -4,8 +4,8 @@ ghost use Rattle.type_list.specs.Arrays.{kindsMet};
 ghost use Rattle.typecode.specs.TypeCode.{typeAnswerNumber, withoutType, loopLast, checkedType, toldBy};
 use cdr::Index;
 use cdr::Order;
-use type_fields::Refusal;
-use type_fields::Step;
+use type_counts::Refusal;
+use type_counts::Step;
 use type_list::Met;
 
 // What the check of a type answers.

@@ -10,7 +10,7 @@ use borrow.Author.Tests.{eqb-true, eqb-false, ltb-true, ltb-false, lt-ltb, le-lt
 use Rattle.choices.specs.Branch.{choose}
 use Rattle.choices.proofs.Choices.{by-test, clash, or-false}
 use Rattle.cdr.specs.declared.Order.{Order}
-use Rattle.type_fields.specs.declared.Refusal.the-variants.{TooLong}
+use Rattle.type_counts.specs.declared.Refusal.the-variants.{TooLong}
 use Rattle.type_walk.specs.Types.{walkedOf}
 use Rattle.typecode.specs.declared.TypeAnswer.the-variants.{Accepted as accepted, Refused as refused}
 use Rattle.typecode.specs.TypeCode.{checkedType}

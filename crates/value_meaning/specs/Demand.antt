@@ -14,7 +14,7 @@
 --                            none of which leaves a sequence, over the octets alone
 use Rattle.choices.specs.{_≡_, _↔_, List, true, ℕ, _+_, _*_, _≤_, length, sets}
 use Rattle.cdr.specs.{Order, octetsLimit}
-use Rattle.type_fields.specs.{Refusal}
+use Rattle.type_counts.specs.{Refusal}
 use Rattle.typecode.specs.{Accepted as accepted, Refused as refused, Loop, TypeCode.checkedType}
 use Rattle.type_laws.specs.Loops.{Loops, FirstFault, NoFault, Count}
 use Rattle.value_meaning.specs.{declared.ValueAnswer.ValueAnswer, Refusals.isValueRefusal, Sinks.Source, Sinks.St, Reading.Log}

@@ -12,7 +12,7 @@ use Rattle.type_walk.proofs.walks.close.Reads as close-reads
 use Rattle.type_walk.proofs.walks.ended.Reads as ended-reads
 use Rattle.type_walk.proofs.walks.goes_on.Reads as goes-on-reads
 use Rattle.type_walk.proofs.walks.refused.Reads as refused-reads
-use Rattle.type_fields.proofs.part_at.Reads as part-at-reads
+use Rattle.type_counts.proofs.part_at.Reads as part-at-reads
 use Rattle.type_walk.proofs.+check+inside+member_types+parameters+switched.Proof.CycleClaims.{inside-at, parameters-below}
 
 abbrev pub inside-of : ℕ → inside-lts.Claims

@@ -1,9 +1,9 @@
 -- What an enum holds.
 use borrow.Author.Needs.{needs}
-use Rattle.type_fields.proofs.enum_step.Statement.{statement}
-use Rattle.type_fields.proofs.enum_step.Tie as tie
+use Rattle.type_counts.proofs.enum_step.Statement.{statement}
+use Rattle.type_counts.proofs.enum_step.Tie as tie
 use mathlib.Core.Path.{sym, _∙_}
-use Rattle.type_fields.specs.Fields.{enumStep}
+use Rattle.type_counts.specs.Counts.{enumStep}
 
 head-step-requires : tie.Need-head-step-requires
 head-step-requires c κs = search needs

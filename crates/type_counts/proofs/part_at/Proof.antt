@@ -1,11 +1,11 @@
 -- The encapsulation whose length stands at an index.
 use borrow.Author.Needs.{needs}
-use Rattle.type_fields.proofs.part_at.Statement.{statement}
-use Rattle.type_fields.proofs.part_at.Tie as tie
+use Rattle.type_counts.proofs.part_at.Statement.{statement}
+use Rattle.type_counts.proofs.part_at.Tie as tie
 use mathlib.Core.Path.{sym, _∙_}
 use native.Mathlib.Omega.{arith}
 use borrow.Author.Tests.{lt-ltb, le-ltb, eq-eqb, ne-eqb}
-use Rattle.type_fields.specs.Fields.{partOf}
+use Rattle.type_counts.specs.Counts.{partOf}
 use Rattle.cdr_fields.proofs.FieldsRead.{field-facts}
 use Rattle.cdr.specs.declared.Size.the-variants.{Four}
 

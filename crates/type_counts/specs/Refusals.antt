@@ -2,8 +2,8 @@
 -- these: it comes "last of all", when no octet is at fault.
 --   typeRefusalNumber    the number of a refusal
 use Rattle.choices.specs.{ℕ}
-use Rattle.type_fields.specs.Names.{Refusal, Ends, NoSuchKind, BadText, BadEncapsulation, NoCount, BadUnion, BadTarget, TooManyKinds}
-use Rattle.type_fields.specs.Names.{TooDeep, BelowTop, TooLong}
+use Rattle.type_counts.specs.Names.{Refusal, Ends, NoSuchKind, BadText, BadEncapsulation, NoCount, BadUnion, BadTarget, TooManyKinds}
+use Rattle.type_counts.specs.Names.{TooDeep, BelowTop, TooLong}
 
 abbrev pub typeRefusalNumber : Refusal → ℕ
 typeRefusalNumber Ends = 30

@@ -1,9 +1,9 @@
 -- A count that may be 0.
 use borrow.Author.Needs.{needs}
-use Rattle.type_fields.proofs.any_count.Statement.{statement}
-use Rattle.type_fields.proofs.any_count.Tie as tie
+use Rattle.type_counts.proofs.any_count.Statement.{statement}
+use Rattle.type_counts.proofs.any_count.Tie as tie
 use mathlib.Core.Path.{sym, _∙_}
-use Rattle.type_fields.specs.Fields.{anyCount}
+use Rattle.type_counts.specs.Counts.{anyCount}
 
 read-field-requires : tie.Need-read-field-requires
 read-field-requires c κs = search needs

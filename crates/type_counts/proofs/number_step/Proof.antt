@@ -1,9 +1,9 @@
 -- An unsigned long.
 use borrow.Author.Needs.{needs}
-use Rattle.type_fields.proofs.number_step.Statement.{statement}
-use Rattle.type_fields.proofs.number_step.Tie as tie
+use Rattle.type_counts.proofs.number_step.Statement.{statement}
+use Rattle.type_counts.proofs.number_step.Tie as tie
 use mathlib.Core.Path.{sym, _∙_}
-use Rattle.type_fields.specs.Fields.{numberStep}
+use Rattle.type_counts.specs.Counts.{numberStep}
 
 read-field-requires : tie.Need-read-field-requires
 read-field-requires c κs = search needs

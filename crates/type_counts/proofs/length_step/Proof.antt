@@ -1,9 +1,9 @@
 -- An array's length.
 use borrow.Author.Needs.{needs}
-use Rattle.type_fields.proofs.length_step.Statement.{statement}
-use Rattle.type_fields.proofs.length_step.Tie as tie
+use Rattle.type_counts.proofs.length_step.Statement.{statement}
+use Rattle.type_counts.proofs.length_step.Tie as tie
 use mathlib.Core.Path.{sym, _∙_}
-use Rattle.type_fields.specs.Fields.{lengthStep}
+use Rattle.type_counts.specs.Counts.{lengthStep}
 
 count-step-requires : tie.Need-count-step-requires
 count-step-requires c κs = search needs

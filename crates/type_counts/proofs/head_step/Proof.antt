@@ -1,9 +1,9 @@
 -- Id, name and count.
 use borrow.Author.Needs.{needs}
-use Rattle.type_fields.proofs.head_step.Statement.{statement}
-use Rattle.type_fields.proofs.head_step.Tie as tie
+use Rattle.type_counts.proofs.head_step.Statement.{statement}
+use Rattle.type_counts.proofs.head_step.Tie as tie
 use mathlib.Core.Path.{sym, _∙_}
-use Rattle.type_fields.specs.Fields.{headStep}
+use Rattle.type_counts.specs.Counts.{headStep}
 
 names-step-requires : tie.Need-names-step-requires
 names-step-requires c κs = search needs

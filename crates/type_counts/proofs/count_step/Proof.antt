@@ -1,10 +1,10 @@
 -- A count that is not 0.
 use borrow.Author.Needs.{needs}
-use Rattle.type_fields.proofs.count_step.Statement.{statement}
-use Rattle.type_fields.proofs.count_step.Tie as tie
+use Rattle.type_counts.proofs.count_step.Statement.{statement}
+use Rattle.type_counts.proofs.count_step.Tie as tie
 use mathlib.Core.Path.{sym, _∙_}
 use borrow.Author.Tests.{eq-eqb, ne-eqb}
-use Rattle.type_fields.specs.Fields.{countStep}
+use Rattle.type_counts.specs.Counts.{countStep}
 
 read-field-requires : tie.Need-read-field-requires
 read-field-requires c κs = search needs

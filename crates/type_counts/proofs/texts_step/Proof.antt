@@ -1,13 +1,13 @@
 -- So many names.
 use borrow.Author.Needs.{needs}
-use Rattle.type_fields.proofs.texts_step.Statement.{statement}
-use Rattle.type_fields.proofs.texts_step.Tie as tie
+use Rattle.type_counts.proofs.texts_step.Statement.{statement}
+use Rattle.type_counts.proofs.texts_step.Tie as tie
 use mathlib.Core.Path.{_≡_, sym, _∙_, ap}
 use native.Mathlib.Omega.{arith}
 use Prim.Native.Nat.{ℕ, _-_, _≤_}
 use native.Mathlib.Nat.{sub-zero}
-use Rattle.type_fields.specs.Fields.{textsStep}
-use Rattle.type_fields.proofs.NextName.{texts-refused, texts-next, texts-end}
+use Rattle.type_counts.specs.Counts.{textsStep}
+use Rattle.type_counts.proofs.NextName.{texts-refused, texts-next, texts-end}
 
 abbrev Inv-loop : tie.InvT-loop
 Inv-loop s order count next₀ k₀ next k = (k ≤ count) × (textsStep s order (count - k) next ≡ textsStep s order count next₀)

@@ -5,9 +5,9 @@ use Prim.Native.Nat.{ℕ, suc, _+_, _-_, _≤_, _<_}
 use native.Mathlib.Omega.{arith}
 use Rattle.cdr.specs.declared.Index.{Index}
 use Rattle.cdr.specs.declared.Order.{Order}
-use Rattle.type_fields.specs.declared.Refusal.{Refusal}
-use Rattle.type_fields.specs.declared.Step.the-variants.{Refused, Next}
-use Rattle.type_fields.specs.Fields.{textStep, textsStep}
+use Rattle.type_counts.specs.declared.Refusal.{Refusal}
+use Rattle.type_counts.specs.declared.Step.the-variants.{Refused, Next}
+use Rattle.type_counts.specs.Counts.{textStep, textsStep}
 
 module _ (s : List ℕ) (order : Order) (n k : ℕ) (i : Index) where
   left-suc : k < n → n - k ≡ suc (n - (k + 1))

@@ -1,9 +1,9 @@
 -- Id and name.
 use borrow.Author.Needs.{needs}
-use Rattle.type_fields.proofs.names_step.Statement.{statement}
-use Rattle.type_fields.proofs.names_step.Tie as tie
+use Rattle.type_counts.proofs.names_step.Statement.{statement}
+use Rattle.type_counts.proofs.names_step.Tie as tie
 use mathlib.Core.Path.{sym, _∙_}
-use Rattle.type_fields.specs.Fields.{namesStep}
+use Rattle.type_counts.specs.Counts.{namesStep}
 
 text-step-requires : tie.Need-text-step-requires
 text-step-requires c κs = search needs

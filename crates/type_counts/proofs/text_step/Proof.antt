@@ -1,10 +1,10 @@
 -- A text.
 use borrow.Author.Needs.{needs}
-use Rattle.type_fields.proofs.text_step.Statement.{statement}
-use Rattle.type_fields.proofs.text_step.Tie as tie
+use Rattle.type_counts.proofs.text_step.Statement.{statement}
+use Rattle.type_counts.proofs.text_step.Tie as tie
 use mathlib.Core.Path.{sym, _∙_}
 use native.Mathlib.Omega.{arith}
-use Rattle.type_fields.specs.Fields.{textStep}
+use Rattle.type_counts.specs.Counts.{textStep}
 use Rattle.cdr_fields.proofs.FieldsWithin.{string-facts}
 
 read-string-requires : tie.Need-read-string-requires

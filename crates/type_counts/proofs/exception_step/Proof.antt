@@ -1,9 +1,9 @@
 -- Id, name and count of an exception.
 use borrow.Author.Needs.{needs}
-use Rattle.type_fields.proofs.exception_step.Statement.{statement}
-use Rattle.type_fields.proofs.exception_step.Tie as tie
+use Rattle.type_counts.proofs.exception_step.Statement.{statement}
+use Rattle.type_counts.proofs.exception_step.Tie as tie
 use mathlib.Core.Path.{sym, _∙_}
-use Rattle.type_fields.specs.Fields.{exceptionStep}
+use Rattle.type_counts.specs.Counts.{exceptionStep}
 
 names-step-requires : tie.Need-names-step-requires
 names-step-requires c κs = search needs

@@ -1,0 +1,2 @@
+-- Laws of the names of an enum.
+pub mod NextName
