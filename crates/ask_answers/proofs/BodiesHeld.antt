@@ -9,7 +9,7 @@ use lib.Seq.{sets, length-sets}
 use borrow.Author.Tests.{ltb-true, ltb-false}
 use Rattle.choices.proofs.Choices.{by-test, clash}
 use Rattle.cdr.specs.Limit.{octetsLimit}
-use Rattle.decimals.proofs.Puts.{take-written}
+use Rattle.decimals.proofs.CharactersPut.{take-written}
 use Rattle.profile_parts.specs.declared.Refusal.{Refusal}
 use Rattle.profile_parts.specs.Parts.{profileRefusalNumber}
 use Rattle.cdr_fields.specs.declared.Extent.{Extent}
@@ -24,9 +24,9 @@ use Rattle.cdr_write.specs.declared.Written.{Written}
 use Rattle.cdr_write.specs.Write.{Stored}
 use Rattle.cdr_write.proofs.BufferHolds.{stored-fits}
 use Rattle.ask_text.specs.declared.Reply.the-variants.{Profiled, Component, Refused as NotRead}
-use Rattle.ask_answers.specs.Questions.{profileIn, componentIn}
+use Rattle.ask_answers.specs.Questions.{profileAsked, componentAsked}
 use Rattle.ask_answers.specs.Replies.{bodyRead, bodyOf}
-use Rattle.ask_answers.specs.Inner.{rewrittenMost, Held}
+use Rattle.ask_answers.specs.Inner.{rewrittenMost, OctetsHeld}
 
 module _ (v : List ℕ) where
   read-short : (p : Profile) → profileOf v ≡ Read p → length v ≤ octetsLimit
@@ -64,22 +64,22 @@ module _ (v : List ℕ) where
   -- by the answer about the body
   module _ (a : ProfileAnswer) (e : a ≡ profileOf v) where
     pub profile-held : (p : Profile) → a ≡ Read p → (memory : List ℕ) → rewrittenMost ≤ length memory → (w : Written) (last : List ℕ) → Stored memory 0 v w last
-        → (n : ℕ) → length v ≡ n → Held (profileIn v) (Profiled p n) last
+        → (n : ℕ) → length v ≡ n → OctetsHeld (profileAsked v) (Profiled p n) last
     profile-held p f memory h w last s n g =
         let k : length v ≤ octetsLimit = read-short p (cc) in
         rw (← g) (record { reply = rw (← e, f); octets = rw (← e, f) (body-taken memory h w last s k); within = body-within memory h w last s k })
 
-    pub profile-refused : (why : Refusal) → a ≡ Refused why → (n : ℕ) → n ≡ profileRefusalNumber why → (memory : List ℕ) → Held (profileIn v) (NotRead n) memory
+    pub profile-refused : (why : Refusal) → a ≡ Refused why → (n : ℕ) → n ≡ profileRefusalNumber why → (memory : List ℕ) → OctetsHeld (profileAsked v) (NotRead n) memory
     profile-refused why f n g memory = record { reply = rw (← e, f, g); octets = rw (← e, f); within = omega arith }
 
   -- and about a component of it
   module _ (number : ℕ) (a : ComponentAnswer) (e : a ≡ componentOf v number) where
     pub component-held : (tag : ℕ) (part : Extent) → a ≡ Found tag part → (memory : List ℕ) → rewrittenMost ≤ length memory → (w : Written) (last : List ℕ)
-        → Stored memory 0 v w last → (n : ℕ) → length v ≡ n → Held (componentIn v number) (Component tag part n) last
+        → Stored memory 0 v w last → (n : ℕ) → length v ≡ n → OctetsHeld (componentAsked v number) (Component tag part n) last
     component-held tag part f memory h w last s n g =
         let k : length v ≤ octetsLimit = found-short number tag part (cc) in
         rw (← g) (record { reply = rw (← e, f); octets = rw (← e, f) (body-taken memory h w last s k); within = body-within memory h w last s k })
 
     pub component-refused : (why : Refusal) → a ≡ notFound why → (n : ℕ) → n ≡ profileRefusalNumber why → (memory : List ℕ)
-        → Held (componentIn v number) (NotRead n) memory
+        → OctetsHeld (componentAsked v number) (NotRead n) memory
     component-refused why f n g memory = record { reply = rw (← e, f, g); octets = rw (← e, f); within = omega arith }

@@ -10,7 +10,7 @@ use Rattle.choices.proofs.Choices.{by-test, clash}
 use Rattle.choices.specs.Branch.{choose}
 use Rattle.cdr.specs.declared.Order.{Order}
 use Rattle.cdr.specs.Align.{indexOf}
-use Rattle.decimals.proofs.Puts.{take-written}
+use Rattle.decimals.proofs.CharactersPut.{take-written}
 use Rattle.ask_text.specs.declared.Reply.the-variants.{Read, Unread}
 use Rattle.ask_text.specs.Items.{itemsOf}
 use Rattle.ask_text.proofs.ItemsJoined.{items-flat}
@@ -19,13 +19,13 @@ use Rattle.value_meaning.specs.declared.ValueAnswer.the-variants.{Accepted, Ref
 use Rattle.value_meaning.specs.Sinks.{Source, source, Item, St}
 use Rattle.value_meaning.specs.Reading.{Log, roomFor}
 use Rattle.value_meaning.specs.Visit.{checked}
-use Rattle.value_meaning.specs.Value.{readingAnswer, overlong, onType, valueAnswer, readingOf, flat, tableAfter}
+use Rattle.value_meaning.specs.Value.{readingAnswer, overlong, onType, valueAnswer, readingOf, itemRows, tableAfter}
 use Rattle.value_meaning.proofs.EnoughRoom.{room-kept}
 use Rattle.typecode.specs.declared.TypeAnswer.{TypeAnswer}
 use Rattle.typecode.specs.declared.TypeAnswer.the-variants.{Accepted as ok, Refused as refused, Loop}
 use Rattle.typecode.specs.TypeCode.{checkedType}
-use Rattle.ask_words.specs.declared.Fields.{Fields}
-use Rattle.ask_words.specs.declared.Fields.the-variants.{Are, NotFields}
+use Rattle.ask_words.specs.declared.SubjectFields.{SubjectFields}
+use Rattle.ask_words.specs.declared.SubjectFields.the-variants.{Are, NotFields}
 use Rattle.ask_words.specs.declared.Asked.{Asked}
 use Rattle.ask_words.specs.declared.Subject.{Subject}
 use Rattle.ask_words.specs.declared.Rewrite.{Rewrite}
@@ -42,13 +42,13 @@ use Rattle.ask_answers.specs.declared.octets.Octets.the-variants.{Count,
 use Rattle.ask_answers.specs.declared.about.About.{About}
 use Rattle.ask_answers.specs.declared.about.About.the-variants.{Is, NotAbout}
 use Rattle.ask_answers.specs.Octets.{octetsWord}
-use Rattle.ask_answers.specs.Questions.{Question, valueIn, rewriteIn, componentIn, noQuestion, octetsQuestion, aboutOf, onAbout, aboutQuestion, rewriteQuestion, componentQuestion}
+use Rattle.ask_answers.specs.Questions.{Question, valueAsked, rewriteAsked, componentAsked, noQuestion, octetsQuestion, aboutOf, onAbout, aboutQuestion, rewriteQuestion, componentQuestion}
 use Rattle.ask_answers.specs.Replies.{roomOf}
 use Rattle.ask_answers.specs.Answers.{tableFor}
 use Rattle.ask_answers.specs.Inner.{OctetsRead, AboutRead, Replied}
 
 -- the words of a value are within the line,
-module _ (rest : List ℕ) (f : Fields) (p : FieldsRead rest f) where
+module _ (rest : List ℕ) (f : SubjectFields) (p : FieldsRead rest f) where
   pub fields-within : (a : Asked) → f ≡ Are a → WithinSubject (a .subject) rest
   fields-within a e = rw e at (p .within)
 
@@ -69,7 +69,7 @@ module _ (rest : List ℕ) (f : Rewrite) (p : RewriteRead rest f) where
   rewrite-none e = rw (← p .read, e)
 
   pub rewrite-about : (c : Chosen) → f ≡ Asks c → rewriteQuestion (rewriteFieldsOf (words rest))
-      ≡ onAbout (aboutOf (subjectWords (c .subject) rest)) (λ order t x. rewriteIn order t x (target (c .order) (indexOf (c .index))) (c .room))
+      ≡ onAbout (aboutOf (subjectWords (c .subject) rest)) (λ order t x. rewriteAsked order t x (target (c .order) (indexOf (c .index))) (c .room))
   rewrite-about c e = rw (← p .read, e)
 
 -- and behind `component`
@@ -84,7 +84,7 @@ module _ (rest : List ℕ) (f : Numbered) (p : NumberedRead rest f) where
     pub numbered-fits : (n : ℕ) → length rest ≤ n → length (take end rest) ≤ n
     numbered-fits n h = let k = numbered-within in omega (arith, length-take-le end rest k)
 
-    pub numbered-about : componentQuestion (numberedFieldsOf (words rest)) ≡ octetsQuestion (octetsWord (take end rest)) (λ v. componentIn v number)
+    pub numbered-about : componentQuestion (numberedFieldsOf (words rest)) ≡ octetsQuestion (octetsWord (take end rest)) (λ v. componentAsked v number)
     numbered-about = rw (← p .read, e)
 
 -- the octets of two of the words
@@ -124,8 +124,8 @@ module _ {rest : List ℕ} {a : Subject} {r : About} {t v : List ℕ} (p : About
     about-asks ask = rw (← p .stands, e)
 
 -- an accepted value has as many items as it says
-flat-length : (is : List Item) → length (flat is) ≡ length is * 3
-unfolding flat
+flat-length : (is : List Item) → length (itemRows is) ≡ length is * 3
+unfolding itemRows
 flat-length [] = refl
 flat-length (i ∷ is) = let e = flat-length is in omega arith
 
@@ -183,8 +183,8 @@ module _ (t : List ℕ) (order : Order) (x : Source) (room : ℕ) (table : List 
     answered = rw lent-room at e
 
     pub value-refused : (number visits : ℕ) → a ≡ Refused number visits → (last : List ℕ) → last ≡ tableAfter t order x lent
-        → Replied (valueIn order t x room) table (Unread number visits) (last ++ drop (m * 3) table)
-    unfolding itemsOf tableAfter tableFor flat
+        → Replied (valueAsked order t x room) table (Unread number visits) (last ++ drop (m * 3) table)
+    unfolding itemsOf tableAfter tableFor itemRows
     value-refused number visits g last f =
         let same : last ≡ lent = f ∙ rw (lent-room, ← answered, g) in
         record {
@@ -201,14 +201,14 @@ module _ (t : List ℕ) (order : Order) (x : Source) (room : ℕ) (table : List 
       count-fits : n * 3 ≤ length lent
       count-fits = omega (arith, k, count-is, items-kept t order x (roomOf room), lent-length)
 
-      last-is : last ≡ sets lent 0 (flat (items t order x (roomOf room)))
+      last-is : last ≡ sets lent 0 (itemRows (items t order x (roomOf room)))
       unfolding tableAfter
       last-is = f ∙ rw (lent-room, ← answered, g)
 
-      pub value-accepted : Replied (valueIn order t x room) table (Read used visits n) (last ++ drop (m * 3) table)
+      pub value-accepted : Replied (valueAsked order t x room) table (Read used visits n) (last ++ drop (m * 3) table)
       unfolding tableFor
       value-accepted =
-          let l : length last ≡ length lent = ap length last-is ∙ length-sets lent 0 (flat (items t order x (roomOf room))) in
+          let l : length last ≡ length lent = ap length last-is ∙ length-sets lent 0 (itemRows (items t order x (roomOf room))) in
           let c = count-fits in
           record {
             reply = rw (← answered, g);
@@ -216,11 +216,11 @@ module _ (t : List ℕ) (order : Order) (x : Source) (room : ℕ) (table : List 
                 (ap itemsOf
                 (take-append-le (n * 3) last (drop (m * 3) table) (omega arith)
                 ∙ ap (take (n * 3)) last-is
-                ∙ take-written lent (flat (items t order x (roomOf room))) (n * 3) (omega (arith, count-is, flat-length (items t order x (roomOf room)))) count-fits)
+                ∙ take-written lent (itemRows (items t order x (roomOf room))) (n * 3) (omega (arith, count-is, flat-length (items t order x (roomOf room)))) count-fits)
                 ∙ items-flat (items t order x (roomOf room)));
             within = rw length-append (omega arith);
             filled = rw (← answered, g)
                 (ap (λ (l : List ℕ). l ++ drop (m * 3) table) last-is
-                ∙ stored-front (flat (items t order x (roomOf room))) table (m * 3)
+                ∙ stored-front (itemRows (items t order x (roomOf room))) table (m * 3)
                 (omega (arith, k, flat-length (items t order x (roomOf room)), items-kept t order x (roomOf room))) h);
           }

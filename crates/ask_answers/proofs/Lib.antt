@@ -6,6 +6,6 @@ pub mod RoomEnough
 pub mod BodiesHeld
 pub mod NothingHeld
 pub mod WordsAnswered
-pub mod RoomTested
-pub mod Cuts
+pub mod LineByRoom
+pub mod AnswersCut
 pub mod Samples

@@ -12,7 +12,7 @@ use Rattle.choices.proofs.Choices.{by-test, clash, neither}
 use Rattle.choices.specs.Branch.{choose}
 use Rattle.cdr.specs.declared.Order.{Order}
 use Rattle.cdr.specs.Limit.{octetsLimit}
-use Rattle.decimals.proofs.Puts.{take-written}
+use Rattle.decimals.proofs.CharactersPut.{take-written}
 use Rattle.typecode.specs.declared.TypeAnswer.{TypeAnswer}
 use Rattle.typecode.specs.declared.TypeAnswer.the-variants.{Accepted as ok, Refused as refused, Loop}
 use Rattle.typecode.specs.TypeCode.{checkedType}
@@ -28,9 +28,9 @@ use Rattle.rewrite_meaning.specs.Written.{Target, written}
 use Rattle.rewrite_meaning.specs.Rewriting.{rewriteOf, rewriteAnswer, rewritten, outputAfter}
 use Rattle.rewrite_meaning.proofs.SevenMore.{written-near}
 use Rattle.ask_text.specs.declared.Reply.the-variants.{Rewritten, Refused as NotRewritten}
-use Rattle.ask_answers.specs.Questions.{rewriteIn}
+use Rattle.ask_answers.specs.Questions.{rewriteAsked}
 use Rattle.ask_answers.specs.Replies.{octetsGiven}
-use Rattle.ask_answers.specs.Inner.{rewrittenMost, Held}
+use Rattle.ask_answers.specs.Inner.{rewrittenMost, OctetsHeld}
 
 -- of octets that room is enough for, more room is no difference
 room-same : (s : St Log) (to : Target) (room : ℕ) → length (written to s) ≤ rewrittenMost → rewriteOf s to (min room rewrittenMost) ≡ rewriteOf s to room
@@ -113,7 +113,7 @@ module _ (t : List ℕ) (order : Order) (x : Source) (to : Target) where
       answered : a ≡ rewriteAnswer t order x to room
       answered = e ∙ ap (rewriteAnswer t order x to) (lent-length ∙ k) ∙ room-enough room
 
-      pub rewrite-refused : (number : ℕ) → a ≡ Refused number → (after : List ℕ) → Held (rewriteIn order t x to room) (NotRewritten number) after
+      pub rewrite-refused : (number : ℕ) → a ≡ Refused number → (after : List ℕ) → OctetsHeld (rewriteAsked order t x to room) (NotRewritten number) after
       rewrite-refused number g after = record { reply = rw (← answered, g); octets = rw (← answered, g); within = omega arith }
 
       module _ (n : ℕ) (g : a ≡ Accepted n) (last : List ℕ) (f : last ≡ outputAfter t order x to lent) where
@@ -124,7 +124,7 @@ module _ (t : List ℕ) (order : Order) (x : Source) (to : Target) where
         unfolding outputAfter
         last-is = f ∙ rw (← e, g)
 
-        pub rewrite-accepted : Held (rewriteIn order t x to room) (Rewritten n) (last ++ drop m memory)
+        pub rewrite-accepted : OctetsHeld (rewriteAsked order t x to room) (Rewritten n) (last ++ drop m memory)
         rewrite-accepted =
             let l : length last ≡ length lent = ap length last-is ∙ length-sets lent 0 (rewritten t order x to) in
             let c = fit .within in

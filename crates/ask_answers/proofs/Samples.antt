@@ -13,7 +13,7 @@ use Rattle.ask_words.specs.Words.{wordsFrom, sameWord, orderWord}
 use Rattle.ask_words.specs.Fields.{codedFirst, subjectFirst, valueFields, rewriteFieldsOf, numberedFieldsOf}
 use Rattle.rewrite_meaning.specs.Written.{target}
 use Rattle.ask_answers.specs.Octets.{octetsWord}
-use Rattle.ask_answers.specs.Questions.{valueWord, itemWord, rewriteWord, profileWord, componentWord, typeIn, valueIn, itemIn, rewriteIn, profileIn, componentIn, noQuestion, aboutOf, wordQuestion, questionOf}
+use Rattle.ask_answers.specs.Questions.{valueWord, itemWord, rewriteWord, profileWord, componentWord, typeAsked, valueAsked, itemAsked, rewriteAsked, profileAsked, componentAsked, noQuestion, aboutOf, wordQuestion, questionOf}
 
 -- `type ` and `type big `
 abbrev behindType : List ℕ → List ℕ
@@ -24,9 +24,9 @@ behindBig rest = behindType (98 ∷ 105 ∷ 103 ∷ 32 ∷ rest)
 
 -- `type big 0aF9`, `type little 00`, `type big -`
 pub asked :
-    (questionOf (behindBig (48 ∷ 97 ∷ 70 ∷ 57 ∷ [])) ≡ typeIn Big (10 ∷ 249 ∷ []))
-    × (questionOf (behindType (108 ∷ 105 ∷ 116 ∷ 116 ∷ 108 ∷ 101 ∷ 32 ∷ 48 ∷ 48 ∷ [])) ≡ typeIn Little (0 ∷ []))
-    × (questionOf (behindBig (45 ∷ [])) ≡ typeIn Big [])
+    (questionOf (behindBig (48 ∷ 97 ∷ 70 ∷ 57 ∷ [])) ≡ typeAsked Big (10 ∷ 249 ∷ []))
+    × (questionOf (behindType (108 ∷ 105 ∷ 116 ∷ 116 ∷ 108 ∷ 101 ∷ 32 ∷ 48 ∷ 48 ∷ [])) ≡ typeAsked Little (0 ∷ []))
+    × (questionOf (behindBig (45 ∷ [])) ≡ typeAsked Big [])
 unfolding choose isDigit digitValue octetOf allDigits lineOctets wordsFrom sameWord orderWord octetsWord wordQuestion questionOf
 asked = (refl, refl, refl)
 
@@ -55,9 +55,9 @@ behindItem rest = behindWord itemWord rest
 
 -- a room of 007; an item 18446744073709551615; one more is no question, nor is a room that is missing, has a sign, or has a word behind it
 pub asked-values :
-    (questionOf (behindValue (48 ∷ 48 ∷ 55 ∷ [])) ≡ valueIn Big (0 ∷ []) (source (10 ∷ []) Little (indexOf 7)) 7)
+    (questionOf (behindValue (48 ∷ 48 ∷ 55 ∷ [])) ≡ valueAsked Big (0 ∷ []) (source (10 ∷ []) Little (indexOf 7)) 7)
     × (questionOf (behindItem (49 ∷ 56 ∷ 52 ∷ 52 ∷ 54 ∷ 55 ∷ 52 ∷ 52 ∷ 48 ∷ 55 ∷ 51 ∷ 55 ∷ 48 ∷ 57 ∷ 53 ∷ 53 ∷ 49 ∷ 54 ∷ 49 ∷ 53 ∷ []))
-    ≡ itemIn Big (0 ∷ []) (source (10 ∷ []) Little (indexOf 7)) 18446744073709551615)
+    ≡ itemAsked Big (0 ∷ []) (source (10 ∷ []) Little (indexOf 7)) 18446744073709551615)
     × (questionOf (behindItem (49 ∷ 56 ∷ 52 ∷ 52 ∷ 54 ∷ 55 ∷ 52 ∷ 52 ∷ 48 ∷ 55 ∷ 51 ∷ 55 ∷ 48 ∷ 57 ∷ 53 ∷ 53 ∷ 49 ∷ 54 ∷ 49 ∷ 54 ∷ [])) ≡ noQuestion)
     × (questionOf (behindValue []) ≡ noQuestion)
     × (questionOf (behindValue (45 ∷ 55 ∷ [])) ≡ noQuestion)
@@ -71,7 +71,7 @@ behindRewrite rest = behindWord rewriteWord rest
 
 pub asked-rewrites :
     (questionOf (behindRewrite (98 ∷ 105 ∷ 103 ∷ 32 ∷ 51 ∷ 32 ∷ 49 ∷ 56 ∷ 52 ∷ 52 ∷ 54 ∷ 55 ∷ 52 ∷ 52 ∷ 48 ∷ 55 ∷ 51 ∷ 55 ∷ 48 ∷ 57 ∷ 53 ∷ 53 ∷ 49 ∷ 54 ∷ 49 ∷ 53 ∷ []))
-    ≡ rewriteIn Big (0 ∷ []) (source (10 ∷ []) Little (indexOf 7)) (target Big (indexOf 3)) 18446744073709551615)
+    ≡ rewriteAsked Big (0 ∷ []) (source (10 ∷ []) Little (indexOf 7)) (target Big (indexOf 3)) 18446744073709551615)
     × (questionOf (behindRewrite (98 ∷ 105 ∷ 103 ∷ 32 ∷ 51 ∷ [])) ≡ noQuestion)
     × (questionOf (behindRewrite (98 ∷ 105 ∷ 32 ∷ 51 ∷ 32 ∷ 49 ∷ [])) ≡ noQuestion)
     × (questionOf (behindRewrite (98 ∷ 105 ∷ 103 ∷ 32 ∷ 51 ∷ 32 ∷ 49 ∷ 32 ∷ [])) ≡ noQuestion)
@@ -80,8 +80,8 @@ asked-rewrites = (refl, refl, refl, refl)
 
 -- `profile 0aF9`, `profile -`; without octets, with an odd digit, and with a word behind them
 pub asked-profiles :
-    (questionOf (profileWord ++ (32 ∷ 48 ∷ 97 ∷ 70 ∷ 57 ∷ [])) ≡ profileIn (10 ∷ 249 ∷ []))
-    × (questionOf (profileWord ++ (32 ∷ 45 ∷ [])) ≡ profileIn [])
+    (questionOf (profileWord ++ (32 ∷ 48 ∷ 97 ∷ 70 ∷ 57 ∷ [])) ≡ profileAsked (10 ∷ 249 ∷ []))
+    × (questionOf (profileWord ++ (32 ∷ 45 ∷ [])) ≡ profileAsked [])
     × (questionOf (profileWord ++ (32 ∷ [])) ≡ noQuestion)
     × (questionOf (profileWord ++ (32 ∷ 48 ∷ [])) ≡ noQuestion)
     × (questionOf (profileWord ++ (32 ∷ 48 ∷ 48 ∷ 32 ∷ [])) ≡ noQuestion)
@@ -90,7 +90,7 @@ asked-profiles = (refl, refl, refl, refl, refl)
 
 -- `component 0A 007`; without NUMBER, with one that has a sign, and with a word behind it
 pub asked-components :
-    (questionOf (componentWord ++ (32 ∷ 48 ∷ 65 ∷ 32 ∷ 48 ∷ 48 ∷ 55 ∷ [])) ≡ componentIn (10 ∷ []) 7)
+    (questionOf (componentWord ++ (32 ∷ 48 ∷ 65 ∷ 32 ∷ 48 ∷ 48 ∷ 55 ∷ [])) ≡ componentAsked (10 ∷ []) 7)
     × (questionOf (componentWord ++ (32 ∷ 48 ∷ 65 ∷ [])) ≡ noQuestion)
     × (questionOf (componentWord ++ (32 ∷ 48 ∷ 65 ∷ 32 ∷ 45 ∷ 55 ∷ [])) ≡ noQuestion)
     × (questionOf (componentWord ++ (32 ∷ 48 ∷ 65 ∷ 32 ∷ 55 ∷ 32 ∷ [])) ≡ noQuestion)

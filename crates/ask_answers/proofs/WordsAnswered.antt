@@ -25,10 +25,10 @@ use Rattle.ask_text.specs.declared.Reply.the-variants.{NoQuestion}
 use Rattle.ask_text.specs.Items.{itemsOf}
 use Rattle.ask_text.specs.Replies.{replyText}
 use Rattle.ask_text.proofs.TextsFit.{text-most}
-use Rattle.ask_answers.specs.Questions.{lineMost, typeWord, valueWord, itemWord, rewriteWord, profileWord, componentWord, Question, typeIn, valueIn, itemIn, rewriteIn, profileIn, componentIn, noQuestion, typeQuestion, aboutQuestion, rewriteQuestion, profileQuestion, componentQuestion, wordQuestion, questionOf}
-use Rattle.ask_answers.specs.Replies.{mostItems, roomOf, replyTo, itemsGiven, itemsIn, answerOctets, answerLine}
-use Rattle.ask_answers.specs.Answers.{answerMost}
-use Rattle.ask_answers.specs.Inner.{replyNumbers, Replied, rewrittenMost, replyOctets, Held}
+use Rattle.ask_answers.specs.Questions.{lineMost, typeWord, valueWord, itemWord, rewriteWord, profileWord, componentWord, Question, typeAsked, valueAsked, itemAsked, rewriteAsked, profileAsked, componentAsked, noQuestion, typeQuestion, aboutQuestion, rewriteQuestion, profileQuestion, componentQuestion, wordQuestion, questionOf}
+use Rattle.ask_answers.specs.Replies.{roomOf, replyTo, itemsGiven, itemsIn, answerOctets, answerLine}
+use Rattle.ask_room.specs.Room.{mostItems, answerMost}
+use Rattle.ask_answers.specs.Inner.{replyNumbers, Replied, rewrittenMost, replyOctets, OctetsHeld}
 use Rattle.ask_answers.proofs.WordsStand.{part-all}
 use Rattle.ask_answers.proofs.RoomEnough.{octets-few}
 use Rattle.ask_answers.proofs.BodiesHeld.{body-few, found-few}
@@ -41,22 +41,22 @@ given-few (Refused number visits) is n h = omega arith
 
 items-few : (q : Question) → length (itemsIn q) ≤ mostItems
 unfolding readingOf
-items-few (typeIn order v) = omega arith
-items-few (valueIn order t x room) =
+items-few (typeAsked order v) = omega arith
+items-few (valueAsked order t x room) =
     given-few (valueAnswer t order x (roomOf room)) _ mostItems (omega (arith, room-kept (roomOf room) x (checked t (checkedType t order .kinds))))
-items-few (itemIn order t x number) = omega arith
-items-few (rewriteIn order t x to room) = omega arith
-items-few (profileIn v) = omega arith
-items-few (componentIn v number) = omega arith
+items-few (itemAsked order t x number) = omega arith
+items-few (rewriteAsked order t x to room) = omega arith
+items-few (profileAsked v) = omega arith
+items-few (componentAsked v number) = omega arith
 items-few noQuestion = omega arith
 
 octets-within : (q : Question) → length (answerOctets q) ≤ rewrittenMost
-octets-within (typeIn order v) = omega arith
-octets-within (valueIn order t x room) = omega arith
-octets-within (itemIn order t x number) = omega arith
-octets-within (rewriteIn order t x to room) = octets-few t order x to room (rewriteAnswer t order x to room) refl
-octets-within (profileIn v) = body-few v (profileOf v) refl
-octets-within (componentIn v number) = found-few v number (componentOf v number) refl
+octets-within (typeAsked order v) = omega arith
+octets-within (valueAsked order t x room) = omega arith
+octets-within (itemAsked order t x number) = omega arith
+octets-within (rewriteAsked order t x to room) = octets-few t order x to room (rewriteAnswer t order x to room) refl
+octets-within (profileAsked v) = body-few v (profileOf v) refl
+octets-within (componentAsked v number) = found-few v number (componentOf v number) refl
 octets-within noQuestion = omega arith
 
 pub answer-most : (line : List ℕ) → length (answerLine line) ≤ answerMost
@@ -67,12 +67,12 @@ answer-most line =
 
 -- what a question is answered, with its items in the table and its octets in the memory
 abbrev Answered : Question → List ℕ → Reply → List ℕ → List ℕ → Type 0
-Answered q before r table memory = Replied q before r table × Held q r memory
+Answered q before r table memory = Replied q before r table × OctetsHeld q r memory
 
 bare-answered : (q : Question) (r : Reply) (table memory : List ℕ) → NoItems q × NoOctets q → r ≡ replyTo q → Answered q table r table memory
 bare-answered q r table memory n e = (replied-none q r e (n .0) table, held-none q r e (n .1) memory)
 
-pub replied-text : (line before : List ℕ) (r : Reply) (table memory : List ℕ) → Replied (questionOf line) before r table → Held (questionOf line) r memory
+pub replied-text : (line before : List ℕ) (r : Reply) (table memory : List ℕ) → Replied (questionOf line) before r table → OctetsHeld (questionOf line) r memory
     → replyText r (itemsOf (take (replyNumbers r) table)) (take (replyOctets r) memory) ≡ answerLine line
 unfolding answerLine
 replied-text line before r table memory p h = rw (p .items, h .octets, p .reply)
@@ -87,31 +87,31 @@ module _ (word : List ℕ) (ws : List (List ℕ)) (r : Reply) (table memory : Li
   word-type e a = rw (← e) (bare-answered (typeQuestion ws) r table memory (type-bare ws) a)
 
   module _ (t : false ≡ sameWord word typeWord) where
-    pub word-value : true ≡ sameWord word valueWord → (before : List ℕ) → Replied (aboutQuestion valueIn (valueFields ws)) before r table
+    pub word-value : true ≡ sameWord word valueWord → (before : List ℕ) → Replied (aboutQuestion valueAsked (valueFields ws)) before r table
         → Answered (wordQuestion word ws) before r table memory
     unfolding wordQuestion choose
     word-value e before a =
-        rw (← t, ← e) (a, held-none (aboutQuestion valueIn (valueFields ws)) r (a .reply) (value-no-octets (valueFields ws)) memory)
+        rw (← t, ← e) (a, held-none (aboutQuestion valueAsked (valueFields ws)) r (a .reply) (value-no-octets (valueFields ws)) memory)
 
     module _ (v : false ≡ sameWord word valueWord) where
-      pub word-item : true ≡ sameWord word itemWord → r ≡ replyTo (aboutQuestion itemIn (valueFields ws)) → Done
+      pub word-item : true ≡ sameWord word itemWord → r ≡ replyTo (aboutQuestion itemAsked (valueFields ws)) → Done
       unfolding wordQuestion choose
-      word-item e a = rw (← t, ← v, ← e) (bare-answered (aboutQuestion itemIn (valueFields ws)) r table memory (item-bare (valueFields ws)) a)
+      word-item e a = rw (← t, ← v, ← e) (bare-answered (aboutQuestion itemAsked (valueFields ws)) r table memory (item-bare (valueFields ws)) a)
 
       module _ (i : false ≡ sameWord word itemWord) where
-        pub word-rewrite : true ≡ sameWord word rewriteWord → Held (rewriteQuestion (rewriteFieldsOf ws)) r memory → Done
+        pub word-rewrite : true ≡ sameWord word rewriteWord → OctetsHeld (rewriteQuestion (rewriteFieldsOf ws)) r memory → Done
         unfolding wordQuestion choose
         word-rewrite e a =
             rw (← t, ← v, ← i, ← e)
             (replied-none (rewriteQuestion (rewriteFieldsOf ws)) r (a .reply) (rewrite-no-items (rewriteFieldsOf ws)) table, a)
 
         module _ (w : false ≡ sameWord word rewriteWord) where
-          pub word-profile : true ≡ sameWord word profileWord → Held (profileQuestion ws) r memory → Done
+          pub word-profile : true ≡ sameWord word profileWord → OctetsHeld (profileQuestion ws) r memory → Done
           unfolding wordQuestion choose
           word-profile e a = rw (← t, ← v, ← i, ← w, ← e) (replied-none (profileQuestion ws) r (a .reply) (profile-no-items ws) table, a)
 
           module _ (p : false ≡ sameWord word profileWord) where
-            pub word-component : true ≡ sameWord word componentWord → Held (componentQuestion (numberedFieldsOf ws)) r memory → Done
+            pub word-component : true ≡ sameWord word componentWord → OctetsHeld (componentQuestion (numberedFieldsOf ws)) r memory → Done
             unfolding wordQuestion choose
             word-component e a =
                 rw (← t, ← v, ← i, ← w, ← p, ← e)

@@ -15,7 +15,7 @@ use Rattle.choices.specs.Branch.{choose}
 use Rattle.cdr.specs.declared.Order.{Order}
 use Rattle.cdr.specs.declared.Named.{Named}
 use Rattle.cdr.specs.declared.Named.the-variants.{Is, NoOrder}
-use Rattle.decimals.proofs.Puts.{take-written}
+use Rattle.decimals.proofs.CharactersPut.{take-written}
 use Rattle.hexline.specs.declared.Decoded.{Decoded}
 use Rattle.hexline.specs.declared.Decoded.the-variants.{Octets}
 use Rattle.hexline.specs.Decoding.{allDigits, lineOctets, digitsDecoded, Decodes}
@@ -33,7 +33,7 @@ use Rattle.ask_text.specs.declared.Reply.the-variants.{Typed, Read, Refused, Un
 use Rattle.ask_text.proofs.Reply.{the-type as reply-type}
 use Rattle.ask_answers.specs.declared.octets.Octets.{Octets as OctetsAnswer}
 use Rattle.ask_answers.specs.declared.octets.Octets.the-variants.{Count, NotOctets}
-use Rattle.ask_answers.specs.Octets.{noneWord, WordOctets, octets, notOctets, octetsWord, loneOctets}
+use Rattle.ask_answers.specs.Octets.{noneWord, WordOctets, areOctets, notOctets, octetsWord, loneOctets}
 use Rattle.ask_answers.specs.Questions.{Question, noQuestion, octetsQuestion, orderedType, namedType, typeQuestion}
 use Rattle.ask_answers.specs.Replies.{typeReply, itemShown, replyTo}
 use Rattle.ask_answers.specs.Inner.{OctetsRead, replyNumbers, replyOctets}
@@ -65,7 +65,7 @@ module _ (word : List ℕ) (d : sameWord word noneWord ≡ false) where
           rw (s .output, e) (take-written memory (lineOctets word) n (a .count ∙ sym (octets-length word)) f)
           in
           record {
-            stands = rw (d, ne-eqb (length word) 0 z, ne-eqb (length word % 2) 1 (λ o. omega (arith, a .even)), a .digits) (ap octets t);
+            stands = rw (d, ne-eqb (length word) 0 z, ne-eqb (length word % 2) 1 (λ o. omega (arith, a .even)), a .digits) (ap areOctets t);
             within = omega arith;
           }
 

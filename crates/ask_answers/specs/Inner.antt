@@ -10,7 +10,7 @@
 --   Replied        a question's answer was found, its items are in the table, and the table's other numbers are as they were
 --   rewrittenMost  the most octets of a rewritten value, seven more than a value or a profile body may have
 --   replyOctets    how many octets of the memory an answer has
---   Held           a question's answer was found, and its octets are in the memory
+--   OctetsHeld     a question's answer was found, and its octets are in the memory
 use mathlib.Core.Path.{_≡_}
 use mathlib.Core.List.{List}
 use Prim.Native.Nat.{ℕ, _+_, _*_, _≤_}
@@ -28,13 +28,13 @@ use Rattle.ask_answers.specs.declared.octets.Octets.{Octets}
 use Rattle.ask_answers.specs.declared.octets.Octets.the-variants.{Count, NotOctets}
 use Rattle.ask_answers.specs.declared.about.About.{About}
 use Rattle.ask_answers.specs.declared.about.About.the-variants.{Is, NotAbout}
-use Rattle.ask_answers.specs.Octets.{WordOctets, octets, notOctets}
+use Rattle.ask_answers.specs.Octets.{WordOctets, areOctets, notOctets}
 use Rattle.ask_answers.specs.Questions.{Question, About as AboutOf, about, notAbout, aboutOf}
 use Rattle.ask_answers.specs.Replies.{replyTo, itemsIn, answerOctets}
 use Rattle.ask_answers.specs.Answers.{tableFor}
 
 abbrev pub octetsRead : Octets → List ℕ → WordOctets
-octetsRead (Count n) memory = octets (take n memory)
+octetsRead (Count n) memory = areOctets (take n memory)
 octetsRead NotOctets memory = notOctets
 
 abbrev pub countOf : Octets → ℕ
@@ -99,7 +99,7 @@ replyOctets (Single x) = 0
 replyOctets (Double x) = 0
 replyOctets NoQuestion = 0
 
-pub record Held (q : Question) (r : Reply) (memory : List ℕ) : Type 0 where
+pub record OctetsHeld (q : Question) (r : Reply) (memory : List ℕ) : Type 0 where
   pub reply : r ≡ replyTo q
   pub octets : take (replyOctets r) memory ≡ answerOctets q
   pub within : replyOctets r ≤ length memory

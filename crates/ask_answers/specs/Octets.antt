@@ -18,7 +18,7 @@ abbrev pub noneWord : List ℕ
 noneWord = hyphen ∷ []
 
 pub data WordOctets : Type 0 where
-  octets : List ℕ → WordOctets
+  areOctets : List ℕ → WordOctets
   notOctets : WordOctets
 
 abbrev pub isOctets : List ℕ → Bool
@@ -26,8 +26,8 @@ isOctets word = not (eqb (length word) 0) && (not (eqb (length word % 2) 1) && a
 
 unfoldable pub octetsWord : List ℕ → WordOctets
 octetsWord word =
-    choose (sameWord word noneWord) (λ _. octets [])
-    (λ _. choose (isOctets word) (λ _. octets (lineOctets word))
+    choose (sameWord word noneWord) (λ _. areOctets [])
+    (λ _. choose (isOctets word) (λ _. areOctets (lineOctets word))
     (λ _. notOctets))
 
 abbrev pub loneOctets : List (List ℕ) → WordOctets

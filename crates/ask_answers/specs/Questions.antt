@@ -33,7 +33,7 @@ use Rattle.ask_words.specs.Words.{words, sameWord, orderWord}
 use Rattle.ask_words.specs.Fields.{SubjectOf, FieldsOf, are, notFields, valueFields, RewriteFields, rewrites, notRewrite, rewriteFieldsOf}
 use Rattle.ask_words.specs.Fields.{NumberedFields, numbered, notNumbered, numberedFieldsOf}
 use Rattle.rewrite_meaning.specs.Written.{Target, target}
-use Rattle.ask_answers.specs.Octets.{WordOctets, octets, notOctets, octetsWord, loneOctets}
+use Rattle.ask_answers.specs.Octets.{WordOctets, areOctets, notOctets, octetsWord, loneOctets}
 
 abbrev pub lineMost : ℕ
 lineMost = 131072
@@ -57,20 +57,20 @@ abbrev pub componentWord : List ℕ
 componentWord = 99 ∷ 111 ∷ 109 ∷ 112 ∷ 111 ∷ 110 ∷ 101 ∷ 110 ∷ 116 ∷ []
 
 pub data Question : Type 0 where
-  typeIn : Order → List ℕ → Question
-  valueIn : Order → List ℕ → Source → (room : ℕ) → Question
-  itemIn : Order → List ℕ → Source → (number : ℕ) → Question
-  rewriteIn : Order → List ℕ → Source → Target → (room : ℕ) → Question
-  profileIn : List ℕ → Question
-  componentIn : List ℕ → (number : ℕ) → Question
+  typeAsked : Order → List ℕ → Question
+  valueAsked : Order → List ℕ → Source → (room : ℕ) → Question
+  itemAsked : Order → List ℕ → Source → (number : ℕ) → Question
+  rewriteAsked : Order → List ℕ → Source → Target → (room : ℕ) → Question
+  profileAsked : List ℕ → Question
+  componentAsked : List ℕ → (number : ℕ) → Question
   noQuestion : Question
 
 abbrev pub octetsQuestion : WordOctets → (List ℕ → Question) → Question
-octetsQuestion (octets v) ask = ask v
+octetsQuestion (areOctets v) ask = ask v
 octetsQuestion notOctets ask = noQuestion
 
 abbrev pub orderedType : Order → List (List ℕ) → Question
-orderedType order rest = octetsQuestion (loneOctets rest) (λ v. typeIn order v)
+orderedType order rest = octetsQuestion (loneOctets rest) (λ v. typeAsked order v)
 
 abbrev pub namedType : Named → List (List ℕ) → Question
 namedType (Is order) rest = orderedType order rest
@@ -85,7 +85,7 @@ pub data About : Type 0 where
   notAbout : About
 
 abbrev pub aboutOctets : WordOctets → (List ℕ → About) → About
-aboutOctets (octets v) f = f v
+aboutOctets (areOctets v) f = f v
 aboutOctets notOctets f = notAbout
 
 unfoldable pub aboutOf : SubjectOf → About
@@ -104,21 +104,21 @@ aboutQuestion ask notFields = noQuestion
 
 abbrev pub rewriteQuestion : RewriteFields → Question
 rewriteQuestion (rewrites subject chosen index room) =
-    onAbout (aboutOf subject) (λ order t x. rewriteIn order t x (target chosen (indexOf index)) room)
+    onAbout (aboutOf subject) (λ order t x. rewriteAsked order t x (target chosen (indexOf index)) room)
 rewriteQuestion notRewrite = noQuestion
 
 abbrev pub profileQuestion : List (List ℕ) → Question
-profileQuestion rest = octetsQuestion (loneOctets rest) (λ v. profileIn v)
+profileQuestion rest = octetsQuestion (loneOctets rest) (λ v. profileAsked v)
 
 abbrev pub componentQuestion : NumberedFields → Question
-componentQuestion (numbered word number) = octetsQuestion (octetsWord word) (λ v. componentIn v number)
+componentQuestion (numbered word number) = octetsQuestion (octetsWord word) (λ v. componentAsked v number)
 componentQuestion notNumbered = noQuestion
 
 unfoldable pub wordQuestion : List ℕ → List (List ℕ) → Question
 wordQuestion word rest =
     choose (sameWord word typeWord) (λ _. typeQuestion rest)
-    (λ _. choose (sameWord word valueWord) (λ _. aboutQuestion valueIn (valueFields rest))
-    (λ _. choose (sameWord word itemWord) (λ _. aboutQuestion itemIn (valueFields rest))
+    (λ _. choose (sameWord word valueWord) (λ _. aboutQuestion valueAsked (valueFields rest))
+    (λ _. choose (sameWord word itemWord) (λ _. aboutQuestion itemAsked (valueFields rest))
     (λ _. choose (sameWord word rewriteWord) (λ _. rewriteQuestion (rewriteFieldsOf rest))
     (λ _. choose (sameWord word profileWord) (λ _. profileQuestion rest)
     (λ _. choose (sameWord word componentWord) (λ _. componentQuestion (numberedFieldsOf rest))

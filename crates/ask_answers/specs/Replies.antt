@@ -7,7 +7,6 @@
 --   profileReply  what the reading of a profile body of n octets gives
 --   componentReply
 --                 what a component of a body of n octets gives
---   mostItems     "above 16,384 it means 16,384"
 --   roomOf        the items that ROOM means
 --   replyTo       the answer of a question: "a line that is no question is answered `?`"
 --   itemsGiven    the items of an accepted value
@@ -20,6 +19,7 @@
 use mathlib.Core.List.{List, []}
 use Prim.Native.Nat.{ℕ, zero, suc, min}
 use lib.ListN.{length}
+use Rattle.ask_room.specs.Room.{mostItems}
 use Rattle.value_items.specs.Items.{itemCase, bitsOf}
 use Rattle.profile_parts.specs.Parts.{profileRefusalNumber}
 use Rattle.profile.specs.declared.ProfileAnswer.{ProfileAnswer}
@@ -45,7 +45,7 @@ use Rattle.value.specs.Single.{itemAnswer}
 use Rattle.rewrite_meaning.specs.declared.RewriteAnswer.{RewriteAnswer}
 use Rattle.rewrite_meaning.specs.declared.RewriteAnswer.the-variants.{Accepted as writtenTo, Refused as notWritten}
 use Rattle.rewrite_meaning.specs.Rewriting.{rewriteAnswer, rewritten}
-use Rattle.ask_answers.specs.Questions.{Question, typeIn, valueIn, itemIn, rewriteIn, profileIn, componentIn, noQuestion, questionOf}
+use Rattle.ask_answers.specs.Questions.{Question, typeAsked, valueAsked, itemAsked, rewriteAsked, profileAsked, componentAsked, noQuestion, questionOf}
 
 abbrev pub typeReply : TypeAnswer → Reply
 typeReply (ok used kinds) = Typed used kinds
@@ -78,19 +78,16 @@ abbrev pub componentReply : ComponentAnswer → (n : ℕ) → Reply
 componentReply (Found tag part) n = Component tag part n
 componentReply (notFound why) n = Refused (profileRefusalNumber why)
 
-abbrev pub mostItems : ℕ
-mostItems = 16384
-
 abbrev pub roomOf : ℕ → ℕ
 roomOf room = min room mostItems
 
 abbrev pub replyTo : Question → Reply
-replyTo (typeIn order v) = typeReply (checkedType v order .answer)
-replyTo (valueIn order t x room) = valueReply (valueAnswer t order x (roomOf room))
-replyTo (itemIn order t x number) = itemReply (itemAnswer t order x number)
-replyTo (rewriteIn order t x to room) = rewriteReply (rewriteAnswer t order x to room)
-replyTo (profileIn v) = profileReply (profileOf v) (length v)
-replyTo (componentIn v number) = componentReply (componentOf v number) (length v)
+replyTo (typeAsked order v) = typeReply (checkedType v order .answer)
+replyTo (valueAsked order t x room) = valueReply (valueAnswer t order x (roomOf room))
+replyTo (itemAsked order t x number) = itemReply (itemAnswer t order x number)
+replyTo (rewriteAsked order t x to room) = rewriteReply (rewriteAnswer t order x to room)
+replyTo (profileAsked v) = profileReply (profileOf v) (length v)
+replyTo (componentAsked v number) = componentReply (componentOf v number) (length v)
 replyTo noQuestion = NoQuestion
 
 abbrev pub itemsGiven : ValueAnswer → List Item → List Item
@@ -98,13 +95,13 @@ itemsGiven (accepted used items visits) is = is
 itemsGiven (notAccepted number visits) is = []
 
 abbrev pub itemsIn : Question → List Item
-itemsIn (typeIn order v) = []
-itemsIn (valueIn order t x room) =
+itemsIn (typeAsked order v) = []
+itemsIn (valueAsked order t x room) =
     itemsGiven (valueAnswer t order x (roomOf room)) (readingOf (roomFor (roomOf room)) t order x .kept .items)
-itemsIn (itemIn order t x number) = []
-itemsIn (rewriteIn order t x to room) = []
-itemsIn (profileIn v) = []
-itemsIn (componentIn v number) = []
+itemsIn (itemAsked order t x number) = []
+itemsIn (rewriteAsked order t x to room) = []
+itemsIn (profileAsked v) = []
+itemsIn (componentAsked v number) = []
 itemsIn noQuestion = []
 
 abbrev pub octetsGiven : RewriteAnswer → List ℕ → List ℕ
@@ -120,12 +117,12 @@ bodyOf (Found tag part) v = v
 bodyOf (notFound why) v = []
 
 abbrev pub answerOctets : Question → List ℕ
-answerOctets (typeIn order v) = []
-answerOctets (valueIn order t x room) = []
-answerOctets (itemIn order t x number) = []
-answerOctets (rewriteIn order t x to room) = octetsGiven (rewriteAnswer t order x to room) (rewritten t order x to)
-answerOctets (profileIn v) = bodyRead (profileOf v) v
-answerOctets (componentIn v number) = bodyOf (componentOf v number) v
+answerOctets (typeAsked order v) = []
+answerOctets (valueAsked order t x room) = []
+answerOctets (itemAsked order t x number) = []
+answerOctets (rewriteAsked order t x to room) = octetsGiven (rewriteAnswer t order x to room) (rewritten t order x to)
+answerOctets (profileAsked v) = bodyRead (profileOf v) v
+answerOctets (componentAsked v number) = bodyOf (componentOf v number) v
 answerOctets noQuestion = []
 
 unfoldable pub answerLine : List ℕ → List ℕ

@@ -4,11 +4,12 @@ ghost use mathlib.Core.Path.{_≡_};
 ghost use Prim.Native.Nat.{_^_, _<_, _≤_, min};
 ghost use lib.ListN.{length};
 ghost use Rattle.cdr_write.specs.Write.{Stored};
+ghost use Rattle.ask_room.specs.Room.{tableRoom};
 ghost use Rattle.ask_words.specs.Words.{words};
 ghost use Rattle.ask_answers.specs.Questions.{lineMost, wordQuestion, questionOf};
 ghost use Rattle.ask_answers.specs.Replies.{answerLine};
-ghost use Rattle.ask_answers.specs.Answers.{tableRoom, tableFor, answerRoom, LineAnswered};
-ghost use Rattle.ask_answers.specs.Inner.{replyNumbers, Replied, rewrittenMost, replyOctets, Held};
+ghost use Rattle.ask_answers.specs.Answers.{tableFor, LineAnswered};
+ghost use Rattle.ask_answers.specs.Inner.{replyNumbers, Replied, rewrittenMost, replyOctets, OctetsHeld};
 use ask_text::Reply;
 use cdr_write::Written;
 
@@ -22,30 +23,6 @@ mod values;
 // The most characters of a line.
 pub const LINE_LIMIT: usize = 131072;
 
-// The numbers of a table for as many items as an answer may have, three each.
-pub const TABLE_ROOM: usize = 49152;
-
-// The characters of the longest answer: three numbers of at most 20 digits, `ok` and four spaces; and 16,384 items of three such numbers,
-// two colons and a comma or an LF, which are more than the digits of 16,391 octets, or of a profile's host and key, each within 16,384 octets,
-// and three numbers beside them.
-pub const LONGEST: usize = 1032258;
-
-// Whether a table of `table` numbers and an output of `out` characters have room for any line's answer from `at` on.
-pub fn has_room(table: usize, out: usize, at: usize) -> bool
-    ensures { λ r. ⌜ r ≡ answerRoom table out at ⌝ }
-{
-    if table < TABLE_ROOM {
-        return false;
-    }
-    if out < LONGEST {
-        return false;
-    }
-    if out - LONGEST < at {
-        return false;
-    }
-    true
-}
-
 // Writes the answer of a line's characters, and its LF, from `at` on, and leaves its items in `table`; nothing where there is no room for the
 // longest answer.
 pub fn answer_line(line: &[u8], out: &mut [u8], table: &mut [u64], at: usize) -> Written
@@ -53,7 +30,7 @@ pub fn answer_line(line: &[u8], out: &mut [u8], table: &mut [u64], at: usize) ->
         LineAnswered (now (line .entry)) (now (out .entry)) (now (table .entry)) at r (now (out .exit)) (now (table .exit))
         ⌝ }
 {
-    if has_room(table.len(), out.len(), at) {
+    if ask_room::has_room(table.len(), out.len(), at) {
         return answer_with(line, out, table, at);
     }
     Written::NoRoom
@@ -134,7 +111,7 @@ fn reply_to(line: &[u8], table: &mut [u64], memory: &mut [u8]) -> Reply
     requires { ⌜ (tableRoom ≤ length (now table)) × (rewrittenMost ≤ length (now memory)) ⌝ }
     ensures { λ r. ⌜
         (Replied (questionOf (now (line .entry))) (now (table .entry)) r (now (table .exit)))
-        × Held (questionOf (now (line .entry))) r (now (memory .exit))
+        × OctetsHeld (questionOf (now (line .entry))) r (now (memory .exit))
         ⌝ }
 {
     if LINE_LIMIT < line.len() {
@@ -152,7 +129,7 @@ fn reply_words(word: &[u8], rest: &[u8], table: &mut [u64], memory: &mut [u8]) -
     requires { ⌜ (length (now rest) ≤ lineMost) × (tableRoom ≤ length (now table)) × (rewrittenMost ≤ length (now memory)) ⌝ }
     ensures { λ r. ⌜
         (Replied (wordQuestion (now (word .entry)) (words (now (rest .entry)))) (now (table .entry)) r (now (table .exit)))
-        × Held (wordQuestion (now (word .entry)) (words (now (rest .entry)))) r (now (memory .exit))
+        × OctetsHeld (wordQuestion (now (word .entry)) (words (now (rest .entry)))) r (now (memory .exit))
         ⌝ }
 {
     if ask_words::same(word, b"type") {

@@ -4,7 +4,7 @@ ghost use lib.ListN.{length};
 ghost use Rattle.ask_words.specs.Words.{words};
 ghost use Rattle.ask_words.specs.Fields.{numberedFieldsOf};
 ghost use Rattle.ask_answers.specs.Questions.{lineMost, profileQuestion, componentQuestion};
-ghost use Rattle.ask_answers.specs.Inner.{rewrittenMost, Held};
+ghost use Rattle.ask_answers.specs.Inner.{rewrittenMost, OctetsHeld};
 use crate::octets;
 use ask_text::Reply;
 use ask_words::Numbered;
@@ -15,7 +15,7 @@ use profile::ProfileAnswer;
 // Answers the word behind `profile`, and leaves the body in the lent memory.
 pub(crate) fn reply_profile(rest: &[u8], memory: &mut [u8]) -> Reply
     requires { ⌜ (length (now rest) ≤ lineMost) × (rewrittenMost ≤ length (now memory)) ⌝ }
-    ensures { λ r. ⌜ Held (profileQuestion (words (now (rest .entry)))) r (now (memory .exit)) ⌝ }
+    ensures { λ r. ⌜ OctetsHeld (profileQuestion (words (now (rest .entry)))) r (now (memory .exit)) ⌝ }
 {
     let mut body = [0u8; octets::MOST];
     let Octets::Count(n) = octets::read_lone(rest, &mut body) else {
@@ -33,7 +33,7 @@ pub(crate) fn reply_profile(rest: &[u8], memory: &mut [u8]) -> Reply
 // Answers the words behind `component`, and leaves the body in the lent memory.
 pub(crate) fn reply_component(rest: &[u8], memory: &mut [u8]) -> Reply
     requires { ⌜ (length (now rest) ≤ lineMost) × (rewrittenMost ≤ length (now memory)) ⌝ }
-    ensures { λ r. ⌜ Held (componentQuestion (numberedFieldsOf (words (now (rest .entry))))) r (now (memory .exit)) ⌝ }
+    ensures { λ r. ⌜ OctetsHeld (componentQuestion (numberedFieldsOf (words (now (rest .entry))))) r (now (memory .exit)) ⌝ }
 {
     let Numbered::Is { end, number } = ask_words::read_numbered(rest) else {
         return Reply::NoQuestion;

@@ -6,8 +6,8 @@ ghost use Rattle.value_meaning.specs.Sinks.{source};
 ghost use Rattle.rewrite_meaning.specs.Written.{target};
 ghost use Rattle.ask_words.specs.Words.{words};
 ghost use Rattle.ask_words.specs.Fields.{rewriteFieldsOf};
-ghost use Rattle.ask_answers.specs.Questions.{lineMost, rewriteIn, rewriteQuestion};
-ghost use Rattle.ask_answers.specs.Inner.{rewrittenMost, Held};
+ghost use Rattle.ask_answers.specs.Questions.{lineMost, rewriteAsked, rewriteQuestion};
+ghost use Rattle.ask_answers.specs.Inner.{rewrittenMost, OctetsHeld};
 use crate::about;
 use crate::octets;
 use about::About;
@@ -24,7 +24,7 @@ pub(crate) const MOST: usize = OCTETS_LIMIT + 7;
 // Answers the words behind `rewrite`, and leaves the octets in the lent memory.
 pub(crate) fn reply_rewrite(rest: &[u8], memory: &mut [u8]) -> Reply
     requires { ⌜ (length (now rest) ≤ lineMost) × (rewrittenMost ≤ length (now memory)) ⌝ }
-    ensures { λ r. ⌜ Held (rewriteQuestion (rewriteFieldsOf (words (now (rest .entry))))) r (now (memory .exit)) ⌝ }
+    ensures { λ r. ⌜ OctetsHeld (rewriteQuestion (rewriteFieldsOf (words (now (rest .entry))))) r (now (memory .exit)) ⌝ }
 {
     let Rewrite::Asks(asked) = ask_words::read_rewrite(rest) else {
         return Reply::NoQuestion;
@@ -70,7 +70,7 @@ fn rewrite(
 ) -> Reply
     requires { ⌜ rewrittenMost ≤ length (now memory) ⌝ }
     ensures { λ r. ⌜
-        Held (rewriteIn typed (now (types .entry)) (source (now (value .entry)) order (indexOf start)) (target chosen (indexOf index)) room)
+        OctetsHeld (rewriteAsked typed (now (types .entry)) (source (now (value .entry)) order (indexOf start)) (target chosen (indexOf index)) room)
         r (now (memory .exit))
         ⌝ }
 {

@@ -4,24 +4,24 @@ ghost use Prim.Native.Nat.{_≤_};
 ghost use lib.ListN.{length};
 ghost use Rattle.cdr.specs.Align.{indexOf};
 ghost use Rattle.value_meaning.specs.Sinks.{source};
+ghost use Rattle.ask_room.specs.Room.{tableRoom};
 ghost use Rattle.ask_words.specs.Words.{words};
 ghost use Rattle.ask_words.specs.Fields.{valueFields};
-ghost use Rattle.ask_answers.specs.Questions.{lineMost, valueIn, itemIn, aboutQuestion};
+ghost use Rattle.ask_answers.specs.Questions.{lineMost, valueAsked, itemAsked, aboutQuestion};
 ghost use Rattle.ask_answers.specs.Replies.{itemShown, roomOf, replyTo};
-ghost use Rattle.ask_answers.specs.Answers.{tableRoom};
 ghost use Rattle.ask_answers.specs.Inner.{Replied};
 use crate::about;
 use crate::octets;
 use about::About;
 use ask_text::Reply;
-use ask_words::Fields;
+use ask_words::SubjectFields;
 use cdr::Index;
 use cdr::Order;
 use value::ItemAnswer;
 use value_meaning::ValueAnswer;
 
 // The most items of an answer.
-const ITEMS: u64 = 16384;
+const ITEMS: u64 = cdr::OCTETS_LIMIT as u64;
 
 // The items that ROOM means.
 fn room_of(room: u64) -> usize
@@ -37,9 +37,9 @@ fn room_of(room: u64) -> usize
 // Answers the words behind `value`, and leaves the items in `table`, three numbers each.
 pub(crate) fn reply_value(rest: &[u8], table: &mut [u64]) -> Reply
     requires { ⌜ (length (now rest) ≤ lineMost) × (tableRoom ≤ length (now table)) ⌝ }
-    ensures { λ r. ⌜ Replied (aboutQuestion valueIn (valueFields (words (now (rest .entry))))) (now (table .entry)) r (now (table .exit)) ⌝ }
+    ensures { λ r. ⌜ Replied (aboutQuestion valueAsked (valueFields (words (now (rest .entry))))) (now (table .entry)) r (now (table .exit)) ⌝ }
 {
-    let Fields::Are(asked) = ask_words::read_fields(rest) else {
+    let SubjectFields::Are(asked) = ask_words::read_fields(rest) else {
         return Reply::NoQuestion;
     };
     let subject = asked.subject;
@@ -78,7 +78,7 @@ fn read_value(
 ) -> Reply
     requires { ⌜ tableRoom ≤ length (now table) ⌝ }
     ensures { λ r. ⌜
-        Replied (valueIn typed (now (types .entry)) (source (now (value .entry)) order (indexOf start)) room) (now (table .entry))
+        Replied (valueAsked typed (now (types .entry)) (source (now (value .entry)) order (indexOf start)) room) (now (table .entry))
         r (now (table .exit))
         ⌝ }
 {
@@ -108,9 +108,9 @@ fn read_value(
 // Answers the words behind `item`.
 pub(crate) fn reply_item(rest: &[u8]) -> Reply
     requires { ⌜ length (now rest) ≤ lineMost ⌝ }
-    ensures { λ r. ⌜ r ≡ replyTo (aboutQuestion itemIn (valueFields (words (now (rest .entry))))) ⌝ }
+    ensures { λ r. ⌜ r ≡ replyTo (aboutQuestion itemAsked (valueFields (words (now (rest .entry))))) ⌝ }
 {
-    let Fields::Are(asked) = ask_words::read_fields(rest) else {
+    let SubjectFields::Are(asked) = ask_words::read_fields(rest) else {
         return Reply::NoQuestion;
     };
     let subject = asked.subject;
@@ -145,7 +145,7 @@ fn read_item(
     start: u64,
     number: u64,
 ) -> Reply
-    ensures { λ r. ⌜ r ≡ replyTo (itemIn typed (now (types .entry)) (source (now (value .entry)) order (indexOf start)) number) ⌝ }
+    ensures { λ r. ⌜ r ≡ replyTo (itemAsked typed (now (types .entry)) (source (now (value .entry)) order (indexOf start)) number) ⌝ }
 {
     let answer = value::read_item(types, typed, value, order, Index(start as usize), number);
     match answer {

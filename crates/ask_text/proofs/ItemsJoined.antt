@@ -10,11 +10,10 @@ use lib.Seq.{drop-cons, sets}
 use borrow.Author.Tests.{ltb-true, ltb-false}
 use Rattle.choices.proofs.Choices.{by-test}
 use Rattle.choices.specs.Branch.{choose}
-use Rattle.value_meaning.specs.Sinks.{Item, item}
-use Rattle.value_meaning.specs.Value.{flat}
+use Rattle.value_items.specs.Rows.{Item, item, itemRows}
 use Rattle.decimals.specs.Decimal.{decimal}
 use Rattle.decimals.specs.Puts.{Put}
-use Rattle.decimals.proofs.Decimal.{decimal-most}
+use Rattle.decimals.proofs.DecimalIs.{decimal-most}
 use Rattle.cdr_write.proofs.BufferHolds.{sets-append}
 use Rattle.ask_text.specs.Items.{colon, hyphen, lf, itemFrom, itemsOf, itemText, itemSeparator, joined, itemsText}
 use Rattle.ask_text.specs.Inner.{behindAt}
@@ -27,8 +26,8 @@ items-length (kind ∷ place ∷ []) = refl
 items-length (kind ∷ place ∷ content ∷ rest) = let e = items-length rest in omega arith
 
 -- the items whose numbers stand one after the other are read back
-pub items-flat : (is : List Item) → itemsOf (flat is) ≡ is
-unfolding itemsOf flat
+pub items-flat : (is : List Item) → itemsOf (itemRows is) ≡ is
+unfolding itemsOf itemRows
 items-flat [] = refl
 items-flat (i ∷ is) = ap (λ (js : List Item). i ∷ js) (items-flat is)
 

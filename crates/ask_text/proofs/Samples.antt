@@ -11,7 +11,7 @@ use Rattle.hexline.specs.Digit.{upperDigit}
 use Rattle.hexline.specs.Encoding.{octetDigits}
 use Rattle.profile.specs.declared.Profile.{Profile}
 use Rattle.cdr_fields.specs.Extents.{extent, extentOctets}
-use Rattle.value_meaning.specs.Sinks.{item}
+use Rattle.value_items.specs.Rows.{item}
 use Rattle.ask_text.specs.declared.Reply.the-variants.{Typed, Read, Refused, Unread, Signed, Unsigned, Single, Double, Rewritten, Profiled, Component, NoQuestion}
 use Rattle.ask_text.specs.Items.{itemText, joined}
 use Rattle.ask_text.specs.Replies.{signedText, saidText, replyText}

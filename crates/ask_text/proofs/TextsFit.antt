@@ -17,11 +17,11 @@ use Rattle.cdr.specs.declared.Size.{Size}
 use Rattle.cdr.specs.declared.Size.the-variants.{One, Two, Four, Eight}
 use Rattle.cdr.specs.Align.{octets}
 use Rattle.cdr.specs.Number.{octetsOf}
-use Rattle.cdr.proofs.Numbers.{octets-length}
+use Rattle.cdr.proofs.NumbersGivenBack.{octets-length}
 use Rattle.decimals.specs.Decimal.{decimal}
 use Rattle.decimals.specs.Puts.{Put}
-use Rattle.decimals.proofs.Puts.{take-written, put-taken, number-most}
-use Rattle.decimals.proofs.Decimal.{decimal-most}
+use Rattle.decimals.proofs.CharactersPut.{take-written, put-taken, number-most}
+use Rattle.decimals.proofs.DecimalIs.{decimal-most}
 use Rattle.hexline.specs.declared.Encoded.{Encoded}
 use Rattle.hexline.specs.Encoding.{octetDigits, encodedInto, Encodes}
 use Rattle.hexline.proofs.Answers.{digits-fit}
@@ -29,7 +29,7 @@ use Rattle.hexline.proofs.OctetsOfDigits.{digits-length}
 use Rattle.cdr_fields.specs.declared.Extent.{Extent}
 use Rattle.profile.specs.declared.Profile.{Profile}
 use Rattle.cdr_fields.specs.Extents.{extentOctets}
-use Rattle.value_meaning.specs.Sinks.{Item}
+use Rattle.value_items.specs.Rows.{Item}
 use Rattle.cdr_write.specs.declared.Written.{Written}
 use Rattle.cdr_write.specs.Write.{Stored}
 use Rattle.cdr_write.proofs.BufferHolds.{stored-fits}

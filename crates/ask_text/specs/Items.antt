@@ -9,7 +9,7 @@
 use mathlib.Core.List.{List, [], _∷_, _++_}
 use Prim.Native.Nat.{ℕ, _+_}
 use lib.ListN.{getD}
-use Rattle.value_meaning.specs.Sinks.{Item, item}
+use Rattle.value_items.specs.Rows.{Item, item}
 use Rattle.decimals.specs.Decimal.{decimal}
 pub use Rattle.lines.specs.Lines.{lf, hyphen}
 

@@ -24,7 +24,7 @@ pub use Rattle.lines.specs.Lines.{space}
 use Rattle.profile.specs.declared.Head.{Head}
 use Rattle.profile.specs.declared.Profile.{Profile}
 use Rattle.cdr_fields.specs.Extents.{extentOctets}
-use Rattle.value_meaning.specs.Sinks.{Item}
+use Rattle.value_items.specs.Rows.{Item}
 use Rattle.ask_words.specs.Words.{bigWord, littleWord}
 use Rattle.ask_text.specs.declared.Reply.{Reply}
 use Rattle.ask_text.specs.declared.Reply.the-variants.{Typed, Read, Refused, Unread, Signed, Unsigned, Single, Double}

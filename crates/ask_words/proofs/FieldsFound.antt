@@ -7,7 +7,7 @@ use lib.ListN.{length}
 use Rattle.cdr.specs.declared.Order.{Order}
 use Rattle.ask_words.specs.declared.Coded.{Coded}
 use Rattle.ask_words.specs.declared.Subject.{Subject}
-use Rattle.ask_words.specs.declared.Fields.the-variants.{Are, NotFields}
+use Rattle.ask_words.specs.declared.SubjectFields.the-variants.{Are, NotFields}
 use Rattle.ask_words.specs.declared.Rewrite.the-variants.{Asks, NotRewrite}
 use Rattle.ask_words.specs.declared.Numbered.the-variants.{Is as IsNumbered, NotNumbered}
 use Rattle.ask_words.specs.declared.places.Word.{Word}

@@ -7,13 +7,13 @@ use Prim.Native.Nat.{ℕ}
 use Rattle.choices.specs.Branch.{choose}
 use Rattle.cdr.specs.declared.Order.the-variants.{Big}
 use Rattle.decimals.specs.Numerals.{allNumerals, numberUpto, numberFrom, numberWord}
-use Rattle.ask_words.specs.declared.Fields.{Fields}
-use Rattle.ask_words.specs.declared.Fields.the-variants.{Are}
+use Rattle.ask_words.specs.declared.SubjectFields.{SubjectFields}
+use Rattle.ask_words.specs.declared.SubjectFields.the-variants.{Are}
 use Rattle.ask_words.specs.Words.{wordsFrom, sameWord, orderWord}
 use Rattle.ask_words.specs.Fields.{codedFirst, subjectFirst, valueFields}
 use Rattle.ask_words.specs.Places.{wordPlace, fieldsIn}
 
-abbrev standing : (typed typedEnd value valueEnd : ℕ) → Fields
+abbrev standing : (typed typedEnd value valueEnd : ℕ) → SubjectFields
 standing typed typedEnd value valueEnd =
     Are (record {
       subject = record {

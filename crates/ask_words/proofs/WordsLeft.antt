@@ -22,7 +22,7 @@ use Rattle.ask_words.specs.declared.places.Pair.{Pair}
 use Rattle.ask_words.specs.declared.places.Pair.the-variants.{Is as IsPair, NotCoded}
 use Rattle.ask_words.specs.Words.{space, wordsFrom, words, orderWord}
 use Rattle.ask_words.specs.Found.{FirstWord}
-use Rattle.ask_words.specs.Fields.{first, none, numberFirst, codedFirst, noMore}
+use Rattle.ask_words.specs.Fields.{firstIs, none, numberFirst, codedFirst, noMore}
 use Rattle.ask_words.specs.Inner.{left, part, InLine, WordAt, Passed, OrderRead, CodedRead}
 
 -- a part up to the end of a line
@@ -100,7 +100,7 @@ module _ (line : List ℕ) (from : ℕ) (w : Word) (a : WordAt line from w) wher
     pub number-other : NotNumber ≡ numberWord (part line from end) → none ≡ numberFirst (left line from)
     number-other n = rw (a .found, e, ← n)
 
-    pub number-is : (x : ℕ) → IsNumber x ≡ numberWord (part line from end) → first x (left line (end + 1)) ≡ numberFirst (left line from)
+    pub number-is : (x : ℕ) → IsNumber x ≡ numberWord (part line from end) → firstIs x (left line (end + 1)) ≡ numberFirst (left line from)
     number-is x n = rw (a .found, e, ← n)
 
 -- ORDER and the word behind it

@@ -31,26 +31,26 @@ use Rattle.decimals.specs.Numerals.{numberWord}
 use Rattle.ask_words.specs.Words.{orderWord}
 
 pub data First (A : Type 0) : Type 0 where
-  first : A → List (List ℕ) → First A
+  firstIs : A → List (List ℕ) → First A
   none : First A
 
 abbrev pub onFirst : {A B : Type 0} → First A → B → (A → List (List ℕ) → B) → B
-onFirst (first x rest) b f = f x rest
+onFirst (firstIs x rest) b f = f x rest
 onFirst none b f = b
 
 abbrev pub wordFirst : List (List ℕ) → First (List ℕ)
 wordFirst [] = none
-wordFirst (word ∷ rest) = first word rest
+wordFirst (word ∷ rest) = firstIs word rest
 
 abbrev pub orderInWord : Named → List (List ℕ) → First Order
-orderInWord (Is order) rest = first order rest
+orderInWord (Is order) rest = firstIs order rest
 orderInWord NoOrder rest = none
 
 abbrev pub orderFirst : List (List ℕ) → First Order
 orderFirst ws = onFirst (wordFirst ws) none (λ word rest. orderInWord (orderWord word) rest)
 
 abbrev pub numberIs : Number → List (List ℕ) → First ℕ
-numberIs (IsNumber x) rest = first x rest
+numberIs (IsNumber x) rest = firstIs x rest
 numberIs NotNumber rest = none
 
 abbrev pub numberFirst : List (List ℕ) → First ℕ
@@ -64,7 +64,7 @@ abbrev pub wordIn : Order → List ℕ → WordIn
 wordIn order word = record { order = order; word = word }
 
 unfoldable pub codedFirst : List (List ℕ) → First WordIn
-codedFirst ws = onFirst (orderFirst ws) none (λ order rest. onFirst (wordFirst rest) none (λ word more. first (wordIn order word) more))
+codedFirst ws = onFirst (orderFirst ws) none (λ order rest. onFirst (wordFirst rest) none (λ word more. firstIs (wordIn order word) more))
 
 pub record SubjectOf : Type 0 where
   pub typed : WordIn
@@ -79,7 +79,7 @@ subjectFirst ws =
     onFirst (codedFirst ws) none
     (λ typed behindType. onFirst (codedFirst behindType) none
     (λ value behindValue. onFirst (numberFirst behindValue) none
-    (λ start behindStart. first (subjectOf typed value start) behindStart)))
+    (λ start behindStart. firstIs (subjectOf typed value start) behindStart)))
 
 abbrev pub noMore : {A : Type 0} → List (List ℕ) → A → A → A
 noMore [] ended more = ended

@@ -40,8 +40,8 @@ use Rattle.choices.specs.Branch.{choose}
 use Rattle.cdr.specs.declared.Order.{Order}
 use Rattle.ask_words.specs.declared.Coded.{Coded}
 use Rattle.ask_words.specs.declared.Subject.{Subject}
-use Rattle.ask_words.specs.declared.Fields.{Fields}
-use Rattle.ask_words.specs.declared.Fields.the-variants.{Are, NotFields}
+use Rattle.ask_words.specs.declared.SubjectFields.{SubjectFields}
+use Rattle.ask_words.specs.declared.SubjectFields.the-variants.{Are, NotFields}
 use Rattle.ask_words.specs.declared.Rewrite.{Rewrite}
 use Rattle.ask_words.specs.declared.Rewrite.the-variants.{Asks, NotRewrite}
 use Rattle.ask_words.specs.declared.Numbered.{Numbered}
@@ -58,7 +58,7 @@ use Rattle.ask_words.specs.declared.places.About.{About}
 use Rattle.ask_words.specs.declared.places.About.the-variants.{Is as IsAbout, NotAbout}
 use Rattle.ask_words.specs.Words.{words}
 use Rattle.ask_words.specs.Places.{wordPlace, fieldsIn, rewriteFieldsIn, numberedIn}
-use Rattle.ask_words.specs.Fields.{First, first, none, orderFirst, WordIn, wordIn, codedFirst, SubjectOf, subjectOf, subjectFirst}
+use Rattle.ask_words.specs.Fields.{First, firstIs, none, orderFirst, WordIn, wordIn, codedFirst, SubjectOf, subjectOf, subjectFirst}
 use Rattle.ask_words.specs.Fields.{FieldsOf, are, notFields, valueFields, RewriteFields, rewrites, notRewrite, rewriteFieldsOf}
 use Rattle.ask_words.specs.Fields.{NumberedFields, numbered, notNumbered, numberedFieldsOf}
 
@@ -90,7 +90,7 @@ pub record Passed (line : List ℕ) (from next : ℕ) : Type 0 where
   pub found : left line from ≡ part line from (next - 1) ∷ left line next
 
 abbrev pub orderFound : Ordered → List ℕ → First Order
-orderFound (IsOrder order next) line = first order (left line next)
+orderFound (IsOrder order next) line = firstIs order (left line next)
 orderFound NotOrder line = none
 
 abbrev pub PassedOrder : Ordered → List ℕ → ℕ → Type 0
@@ -105,7 +105,7 @@ abbrev pub codedWord : Coded → List ℕ → WordIn
 codedWord c line = wordIn (c .order) (part line (c .from) (c .end))
 
 abbrev pub pairAt : Pair → List ℕ → First WordIn
-pairAt (IsPair c) line = first (codedWord c line) (left line (c .end + 1))
+pairAt (IsPair c) line = firstIs (codedWord c line) (left line (c .end + 1))
 pairAt NotCoded line = none
 
 abbrev pub WithinPair : Pair → List ℕ → Type 0
@@ -122,7 +122,7 @@ pub record CodedRead (line : List ℕ) (from : ℕ) (r : Pair) : Type 0 where
   pub passed : PassedPair r line from
 
 abbrev pub numberFound : Count → List ℕ → First ℕ
-numberFound (IsCount number next) line = first number (left line next)
+numberFound (IsCount number next) line = firstIs number (left line next)
 numberFound NotNumber line = none
 
 abbrev pub subjectWords : Subject → List ℕ → SubjectOf
@@ -132,7 +132,7 @@ abbrev pub WithinSubject : Subject → List ℕ → Type 0
 WithinSubject s line = InLine line (s .typed .from) (s .typed .end) × InLine line (s .value .from) (s .value .end)
 
 abbrev pub subjectAt : About → List ℕ → First SubjectOf
-subjectAt (IsAbout s next) line = first (subjectWords s line) (left line next)
+subjectAt (IsAbout s next) line = firstIs (subjectWords s line) (left line next)
 subjectAt NotAbout line = none
 
 abbrev pub WithinAbout : About → List ℕ → Type 0
@@ -152,15 +152,15 @@ pub record SubjectRead (line : List ℕ) (r : About) : Type 0 where
   pub within : WithinAbout r line
   pub placed : PlacedAbout r line
 
-abbrev pub fieldsAt : Fields → List ℕ → FieldsOf
+abbrev pub fieldsAt : SubjectFields → List ℕ → FieldsOf
 fieldsAt (Are a) line = are (subjectWords (a .subject) line) (a .number)
 fieldsAt NotFields line = notFields
 
-abbrev pub WithinFields : Fields → List ℕ → Type 0
+abbrev pub WithinFields : SubjectFields → List ℕ → Type 0
 WithinFields (Are a) line = WithinSubject (a .subject) line
 WithinFields NotFields line = Unit {0}
 
-pub record FieldsRead (line : List ℕ) (r : Fields) : Type 0 where
+pub record FieldsRead (line : List ℕ) (r : SubjectFields) : Type 0 where
   pub read : fieldsAt r line ≡ valueFields (words line)
   pub within : WithinFields r line
   pub decided : r ≡ fieldsIn line

@@ -13,8 +13,8 @@ use Prim.Native.Nat.{ℕ, zero, suc, _+_}
 use lib.ListN.{length}
 use Rattle.ask_words.specs.declared.Coded.{Coded}
 use Rattle.ask_words.specs.declared.Subject.{Subject}
-use Rattle.ask_words.specs.declared.Fields.{Fields}
-use Rattle.ask_words.specs.declared.Fields.the-variants.{Are, NotFields}
+use Rattle.ask_words.specs.declared.SubjectFields.{SubjectFields}
+use Rattle.ask_words.specs.declared.SubjectFields.the-variants.{Are, NotFields}
 use Rattle.ask_words.specs.declared.Rewrite.{Rewrite}
 use Rattle.ask_words.specs.declared.Rewrite.the-variants.{Asks, NotRewrite}
 use Rattle.ask_words.specs.declared.Numbered.{Numbered}
@@ -34,11 +34,11 @@ codedIn k ws w = record { order = w .order; from = wordPlace k ws; end = wordPla
 abbrev pub subjectIn : List (List ℕ) → SubjectOf → Subject
 subjectIn ws s = record { typed = codedIn 1 ws (s .typed); value = codedIn 3 ws (s .value); start = s .start }
 
-abbrev pub fieldsFrom : List (List ℕ) → FieldsOf → Fields
+abbrev pub fieldsFrom : List (List ℕ) → FieldsOf → SubjectFields
 fieldsFrom ws (are subject number) = Are (record { subject = subjectIn ws subject; number = number })
 fieldsFrom ws notFields = NotFields
 
-unfoldable pub fieldsIn : List ℕ → Fields
+unfoldable pub fieldsIn : List ℕ → SubjectFields
 fieldsIn line = fieldsFrom (words line) (valueFields (words line))
 
 abbrev pub rewriteFrom : List (List ℕ) → RewriteFields → Rewrite

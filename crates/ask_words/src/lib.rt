@@ -36,7 +36,7 @@ pub struct Asked {
 }
 
 // What a line's words are as those behind `value` or `item`.
-pub enum Fields {
+pub enum SubjectFields {
     Are(Asked),
     NotFields,
 }
@@ -106,19 +106,19 @@ pub fn read_order(word: &[u8]) -> Named
 }
 
 // The words behind `value` or `item`, where a line has these and no more.
-pub fn read_fields(line: &[u8]) -> Fields
+pub fn read_fields(line: &[u8]) -> SubjectFields
     ensures { λ r. ⌜ FieldsRead (now (line .entry)) r ⌝ }
 {
     let About::Is { subject, next } = places::subject_first(line) else {
-        return Fields::NotFields;
+        return SubjectFields::NotFields;
     };
     let Count::Is { number, next: last } = places::number_at(line, next) else {
-        return Fields::NotFields;
+        return SubjectFields::NotFields;
     };
     if last <= line.len() {
-        return Fields::NotFields;
+        return SubjectFields::NotFields;
     }
-    Fields::Are(Asked { subject, number })
+    SubjectFields::Are(Asked { subject, number })
 }
 
 // The words behind `rewrite`, where a line has these and no more.

@@ -1,2 +1,2 @@
 -- Laws of the calls.
-pub mod Calls
+pub mod ProfileCallsLeave

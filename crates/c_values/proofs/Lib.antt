@@ -1,4 +1,2 @@
 -- Laws of the calls.
-pub mod EntriesGathered
-pub mod TypeCallLeaves
 pub mod ValueCallsLeave

@@ -1,3 +1,2 @@
--- The C interface about types and values.
-pub mod Types
+-- The C interface about values.
 pub mod Values

@@ -1,21 +1,17 @@
--- What the C interface leaves in what it is lent for a value: numbers and items, output and count are filled by an accepted value and kept by
--- a refusal, and the visits are always told.
+-- What the C interface leaves in what it is lent for a value: numbers and items are filled by an accepted value and kept by a refusal, and the
+-- visits are always told.
 --   valueAt       a value's octets, its order by a flag, and its starting index
 --   ReadsValueC   what a call ensures of a value,
---   PicksC        of an item,
---   RewritesC     and of a value that is rewritten
+--   PicksC        and of an item
 use mathlib.Core.Path.{_≡_}
 use mathlib.Core.List.{List}
 use mathlib.Core.Bool.{Bool}
 use Prim.Native.Nat.{ℕ}
 use Rattle.cdr.specs.Align.{indexOf}
+use Rattle.cdr.specs.Orders.{orderOfFlag}
 use Rattle.value_meaning.specs.Sinks.{Source, source}
 use Rattle.value_meaning.specs.Value.{roomIn, valueNumber, visitsIn, usedIn, valueAnswer, tableAfter}
-use lib.ListN.{length}
-use Rattle.rewrite_meaning.specs.Written.{Target}
-use Rattle.rewrite_meaning.specs.Rewriting.{rewriteNumber, writtenCount, rewriteAnswer, outputAfter}
 use Rattle.value.specs.Single.{itemNumber, givenIn, itemAnswer}
-use Rattle.c_values.specs.Types.{orderOfFlag}
 
 abbrev pub valueAt : List ℕ → Bool → ℕ → Source
 valueAt v little start = source v (orderOfFlag little) (indexOf start)
@@ -30,9 +26,3 @@ pub record ReadsValueC (t : List ℕ) (little : Bool) (x : Source) (table number
 pub record PicksC (t : List ℕ) (little : Bool) (x : Source) (n : ℕ) (given : List ℕ) (r : ℕ) (givenLast : List ℕ) : Type 0 where
   pub number : r ≡ itemNumber (itemAnswer t (orderOfFlag little) x n)
   pub given-is : givenLast ≡ givenIn (itemAnswer t (orderOfFlag little) x n) given
-
-pub record RewritesC (t : List ℕ) (little : Bool) (x : Source) (to : Target) (out : List ℕ) (count r : ℕ) (outLast : List ℕ) (countLast : ℕ) : Type 0
-  where
-    pub number : r ≡ rewriteNumber (rewriteAnswer t (orderOfFlag little) x to (length out))
-    pub output : outLast ≡ outputAfter t (orderOfFlag little) x to out
-    pub counted : countLast ≡ writtenCount (rewriteAnswer t (orderOfFlag little) x to (length out)) count

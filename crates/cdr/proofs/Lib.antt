@@ -1,4 +1,4 @@
 -- Laws that other crates cite.
-pub mod Alignment
-pub mod Numbers
+pub mod GapsBounded
+pub mod NumbersGivenBack
 pub mod RoomFits

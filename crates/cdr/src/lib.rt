@@ -2,7 +2,7 @@
 // answers for any slice and index.
 ghost use mathlib.Core.Path.{_≡_};
 ghost use Rattle.cdr.specs.Align.{octets, gap, alignedOf};
-ghost use Rattle.cdr.specs.Orders.{orderOctet, orderOf};
+ghost use Rattle.cdr.specs.Orders.{orderOctet, orderOf, orderOfFlag};
 ghost use Rattle.cdr.specs.Number.{readOf, signExtended};
 ghost use Rattle.cdr.specs.Limit.{fits};
 
@@ -55,6 +55,13 @@ impl Order {
             return Named::Is(Order::Little);
         }
         Named::NoOrder
+    }
+
+    // The order that a flag says.
+    pub fn flagged(little: bool) -> Order
+        ensures { λ r. ⌜ r ≡ orderOfFlag little ⌝ }
+    {
+        if little { Order::Little } else { Order::Big }
     }
 }
 

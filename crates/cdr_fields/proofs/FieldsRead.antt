@@ -20,7 +20,7 @@ use Rattle.cdr.specs.Align.{octets, behindGap, indexOf}
 use Rattle.cdr.specs.Number.{numberAt, readOf}
 use Rattle.cdr_text.specs.Text.{textOf, runOf}
 use Rattle.cdr_fields.specs.Encapsulation.{start, fieldOf, fieldFrom, stringOf, stringFrom, stringAfter, countedOf, countedFrom, countedAfter}
-use Rattle.cdr.proofs.Alignment.{read-facts}
+use Rattle.cdr.proofs.GapsBounded.{read-facts}
 
 -- where a field stands, behind its gap and before the next, and what it is
 pub record FieldRead (v : List ℕ) (i : Index) (size : Size) (order : Order) (x : ℕ) (next : Index) : Type 0 where

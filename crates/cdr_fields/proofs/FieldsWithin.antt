@@ -25,7 +25,7 @@ use Rattle.cdr_text.specs.declared.Text.the-variants.{Chars, Empty, Over, Short
 use Rattle.cdr_text.specs.Text.{textOf, overBound, endsText, runOf}
 use Rattle.cdr_fields.specs.Encapsulation.{fieldOf, stringOf, stringAfter, stringFrom, countedOf, countedAfter, countedFrom}
 use Rattle.cdr_fields.specs.Extents.{extent, stringUpto, stringAt}
-use Rattle.cdr_text.proofs.Texts.{run-facts}
+use Rattle.cdr_text.proofs.TextEnds.{run-facts}
 
 text-chars : (v : List ℕ) (at n bound k : ℕ) → textOf v at n bound ≡ Chars k → (n ≡ k + 1) × (at + n ≤ length v)
 unfolding textOf

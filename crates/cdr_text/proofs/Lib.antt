@@ -1,2 +1,2 @@
 -- Laws that other crates cite.
-pub mod Texts
+pub mod TextEnds

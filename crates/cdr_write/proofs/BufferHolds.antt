@@ -1,5 +1,5 @@
 -- Runs of stores: one at a time, and two halves of a number one after the other.
-use mathlib.Core.Path.{_≡_, refl, sym, ap, subst, _∙_}
+use mathlib.Core.Path.{_≡_, refl, sym, ap, _∙_}
 use mathlib.Core.List.{List, [], _∷_, _++_}
 use mathlib.Core.Bool.{true, false}
 use Prim.Native.Nat.{ℕ, suc, _+_, _^_, _<_, _≤_, _%_}
@@ -10,17 +10,14 @@ use lib.ListN.{getD, length, take, drop, set, replicate, length-append, length-r
 use lib.Seq.{sets, sets-eq, drop-cons, take-at, drop-at, length-take-le}
 use Rattle.cdr.specs.declared.Order.{Order}
 use Rattle.cdr.specs.declared.Order.the-variants.{Big, Little}
-use Rattle.cdr_text.specs.declared.Run.the-variants.{To, Past}
 use Rattle.cdr_write.specs.declared.Written.{Written}
 use Rattle.cdr_write.specs.declared.Written.the-variants.{Upto, NoRoom}
 use Rattle.cdr.specs.Number.{octetsOf, littleOctets}
 use Rattle.cdr.specs.Inner.{firstHalf, secondHalf}
 use Rattle.cdr_write.specs.Write.{Stored, holding}
-use Rattle.cdr_text.specs.Text.{runOf}
-use Rattle.cdr_text.proofs.Texts.{run-facts, run-short}
 use Rattle.cdr.specs.Limit.{fits}
-use Rattle.cdr.proofs.RoomFits.{room-fits, room-lacks}
-use Rattle.cdr.proofs.Numbers.{octets-halves, octets-length}
+use Rattle.cdr.proofs.RoomFits.{room-fits}
+use Rattle.cdr.proofs.NumbersGivenBack.{octets-halves, octets-length}
 
 pub sets-append : (l : List ℕ) (i : ℕ) (xs ys : List ℕ) → sets l i (xs ++ ys) ≡ sets (sets l i xs) (i + length xs) ys
 sets-append l i [] ys = ap (λ (k : ℕ). sets l k ys) (sym (add-zero i))
@@ -87,15 +84,6 @@ module _ (out : List ℕ) (at n : ℕ) (xs : List ℕ) (e : length xs ≡ n) whe
 
   pub stored-there : fits (length out) at n ≡ true → (last : List ℕ) → last ≡ sets out at xs → Stored out at xs (Upto (at + n)) last
   stored-there h last f = record { answer = rw (e, h); contents = f }
-
-  -- and by a run of so many octets in the buffer
-  pub no-room : runOf out at n ≡ Past → Stored out at xs NoRoom out
-  no-room h = not-stored (room-lacks (length out) at n (run-short out at n h))
-
-  pub written : (end : ℕ) → runOf out at n ≡ To end → (last : List ℕ) → last ≡ sets out at xs → Stored out at xs (Upto end) last
-  written end h last f =
-      let r = run-facts out at n end h in
-      subst (λ (k : ℕ). Stored out at xs (Upto k) last) (sym (r .0)) (stored-there (room-fits (length out) at n (r .1)) last f)
 
 -- where the octets fit, it is told where they end, and the buffer holds them
 pub stored-upto : (out : List ℕ) (at : ℕ) (xs : List ℕ) (r : Written) (last : List ℕ) → at + length xs ≤ length out

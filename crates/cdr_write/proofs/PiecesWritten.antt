@@ -10,8 +10,8 @@ use Rattle.cdr.specs.declared.Size.{Size}
 use Rattle.cdr.specs.declared.Read.the-variants.{Number}
 use Rattle.cdr.specs.Align.{octets, gap, behindGap, indexOf}
 use Rattle.cdr.specs.Number.{numberOf, octetsOf, numberAt, readOf}
-use Rattle.cdr.proofs.Alignment.{gap-modulo-8, read-number}
-use Rattle.cdr.proofs.Numbers.{octets-length, number-of-octets}
+use Rattle.cdr.proofs.GapsBounded.{gap-modulo-8, read-number}
+use Rattle.cdr.proofs.NumbersGivenBack.{octets-length, number-of-octets}
 use Rattle.cdr_write.specs.Pieces.{Piece, number, run, Target, target, wrote, writes, bare}
 
 -- pieces one after the other, and one more

@@ -1,4 +1,4 @@
 -- Decimal digits, characters put one behind the other, and numbers read.
-pub mod Decimal
-pub mod Puts
-pub mod Numerals
+pub mod DecimalIs
+pub mod CharactersPut
+pub mod DecimalBack

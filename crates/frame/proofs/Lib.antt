@@ -1,4 +1,4 @@
 -- Laws of the table that several proofs and later crates cite.
 pub mod Accepts
-pub mod Rows
+pub mod RowsPassed
 pub mod WordRead

@@ -12,7 +12,7 @@ use Rattle.cdr_fields.specs.declared.Field.the-variants.{Value, NoField}
 use Rattle.cdr.specs.Align.{behindGap, indexOf}
 use Rattle.cdr.specs.Number.{numberAt}
 use Rattle.cdr_fields.specs.Encapsulation.{start, fieldOf}
-use Rattle.cdr.proofs.Alignment.{read-number}
+use Rattle.cdr.proofs.GapsBounded.{read-number}
 use Rattle.cdr_fields.proofs.FieldsRead.{field-is, field-facts}
 
 module _ (v : List ℕ) (at : ℕ) (order : Order) (m : at % 4 ≡ 0) where

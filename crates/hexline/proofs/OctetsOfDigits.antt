@@ -10,7 +10,7 @@ use Rattle.choices.proofs.Choices.{and-true}
 use Rattle.hexline.specs.Digit.{isDigit}
 use Rattle.hexline.specs.Decoding.{allDigits, octetOf, lineOctets}
 use Rattle.hexline.specs.Encoding.{octetDigits}
-use Rattle.hexline.proofs.Digit.{value-below, upper-digit, upper-value}
+use Rattle.hexline.proofs.DigitValues.{value-below, upper-digit, upper-value}
 
 -- a line has half as many octets as characters
 pub octets-length : (line : List ℕ) → length (lineOctets line) ≡ length line / 2

@@ -9,7 +9,7 @@ ghost use Rattle.hexline.specs.Decoding.{allDigits, lineOctets, digitsDe
 ghost use Rattle.hexline.specs.Encoding.{octetDigits, encodedNumber, Encodes};
 
 // The most characters of a line.
-const LINE_LIMIT: usize = 8192;
+pub const LINE_LIMIT: usize = 8192;
 
 // What decoding gives: the number of octets written, or why nothing was.
 pub enum Decoded {

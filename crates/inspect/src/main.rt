@@ -1,7 +1,7 @@
 // Answers questions about types, values and profiles: each line of standard input is a question, each line of standard output its answer. A
 // read or a write that fails is said on standard error, and no more answers are written.
-use ask_answers::LONGEST;
-use ask_answers::TABLE_ROOM;
+use ask_room::LONGEST;
+use ask_room::TABLE_ROOM;
 use libc::STDIN_FILENO;
 use program::READS;
 use questions::LINE_ROOM;

@@ -16,9 +16,9 @@ use Rattle.join_places.specs.declared.Found.the-variants.{At, Nowhere}
 use Rattle.join_places.specs.Places.{placesCount, placeSize, placeStart, placesSize, leastLength, isOpen, idOf, lengthOf, heldIn, firstWith, lowestFree}
 use Rattle.join_places.specs.Places.{bothOpen, openBefore, idOpenTwice, lengthWrong, someLengthWrong, badRecord}
 use Rattle.join_message.specs.Message.{idEnd, bodyAfterId, bodies}
-use Rattle.joining.specs.Steps.{lengthAfter}
+use Rattle.join_steps.specs.Steps.{lengthAfter}
 use Rattle.join_laws.specs.Sequence.{withOne, heldOf, Lowest}
-use Rattle.join_places.proofs.Folds.{none-some, FirstOf, first-is}
+use Rattle.join_places.proofs.FoldsChanged.{none-some, FirstOf, first-is}
 use Rattle.join_laws.proofs.PartsAfterStores.{part-before, part-behind, part-filled, part-longer}
 
 -- a place that is free is the lowest, and nowhere is one free only where all are open

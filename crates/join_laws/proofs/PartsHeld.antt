@@ -13,17 +13,17 @@ use Rattle.join_places.specs.declared.Found.the-variants.{At, Nowhere}
 use Rattle.join_answers.specs.declared.Refusal.the-variants.{BadRecord, NoPlaceFree, NoRoom}
 use Rattle.join_places.specs.Places.{placesCount, placeSize, placeStart, placesSize, isOpen, idOf, lengthOf, placeOfId, badRecord}
 use Rattle.join_message.specs.Message.{idEnd, bodyAfterId, corrected}
-use Rattle.joining.specs.Steps.{Step, Passes, Opens, Extends, Completes, Frees, Refuses, lengthAfter}
+use Rattle.join_steps.specs.Steps.{LineStep, Passes, Opens, Extends, Completes, Frees, Refuses, lengthAfter}
 use Rattle.join_places.specs.Places.{closed, opened, lengthened}
 use Rattle.joining.specs.Answers.{messageWritten, recordAfter, placesAfter}
-use Rattle.join_laws.specs.Sequence.{Call, State, stepIn, stateAfter, afterAll, acceptedLine, accepted, partsAfter, partsFrom, partsOf, heldOf, Fresh, HoldsParts, JoinsParts, Lowest}
+use Rattle.join_laws.specs.Sequence.{Call, JoinState, stepIn, stateAfter, afterAll, acceptedLine, accepted, partsAfter, partsFrom, partsOf, heldOf, Fresh, HoldsParts, JoinsParts, Lowest}
 use Rattle.join_places.proofs.OpenCounts.{count-full}
 use Rattle.join_places.proofs.PlaceOfId.{OpenNowhere, place-found, place-nowhere}
 use Rattle.join_laws.proofs.StepFacts.{Passed, Opened, Extended, Ended, Facts, own-parts, other-parts, within-says}
 use Rattle.join_laws.proofs.HeldParts.{Freed, lowest-free, other-place, HoldsAt, holds-still, holds-first, holds-more, held-more, not-bad}
 
 -- the open places of a state hold the parts of their request ids, and a request id that is open nowhere has none
-pub record Keeps (s : State) (now : ℕ → List (List ℕ)) : Type 0 where
+pub record Keeps (s : JoinState) (now : ℕ → List (List ℕ)) : Type 0 where
   pub ids : length (s .messages .ids) ≡ placesCount
   pub lengths : length (s .messages .lengths) ≡ placesCount
   pub opened : length (s .messages .opened) ≡ placesCount
@@ -189,7 +189,7 @@ module _ (r : Record) (places : List ℕ) (now : ℕ → List (List ℕ)) (k : K
         }
 
 pub step-keeps : (r : Record) (places : List ℕ) (now : ℕ → List (List ℕ)) → Keeps (record { messages = r; places = places }) now
-    → (v : List ℕ) (room : ℕ) (step : Step) → Facts v r (length places) room step
+    → (v : List ℕ) (room : ℕ) (step : LineStep) → Facts v r (length places) room step
     → Keeps (record { messages = recordAfter step r v; places = placesAfter step r v places }) (λ id. partsFrom id (now id) (acceptedLine step v))
 unfolding partsFrom
 step-keeps r places now k v room Passes f = passes-keeps r places now k v f
@@ -204,7 +204,7 @@ unfolding partsFrom
 parts-append id now [] more = refl
 parts-append id now (v ∷ lines) more = parts-append id (partsAfter id now v) lines more
 
-all-keeps : (calls : List Call) (s : State) (now : ℕ → List (List ℕ)) → Keeps s now
+all-keeps : (calls : List Call) (s : JoinState) (now : ℕ → List (List ℕ)) → Keeps s now
     → Keeps (afterAll s calls) (λ id. partsFrom id (now id) (accepted s calls))
 unfolding afterAll accepted partsFrom
 all-keeps [] s now k = k
@@ -215,7 +215,7 @@ all-keeps (c ∷ calls) s now k =
     (step-keeps (s .messages) (s .places) now k (c .octets) (length (c .out)) (stepIn s c)
     (within-says (c .octets) (s .messages) (s .places) (length (c .out)))))
 
-pub fresh-keeps : (s : State) → Fresh s → Keeps s (λ _. [])
+pub fresh-keeps : (s : JoinState) → Fresh s → Keeps s (λ _. [])
 fresh-keeps s f =
     record {
       ids = f .ids;
@@ -228,7 +228,7 @@ fresh-keeps s f =
     }
 
 -- what a call says that takes a step
-says-of : (s : State) (c : Call) (step : Step) → stepIn s c ≡ step → Facts (c .octets) (s .messages) (length (s .places)) (length (c .out)) step
+says-of : (s : JoinState) (c : Call) (step : LineStep) → stepIn s c ≡ step → Facts (c .octets) (s .messages) (length (s .places)) (length (c .out)) step
 says-of s c step e =
     subst (Facts (c .octets) (s .messages) (length (s .places)) (length (c .out))) e
     (within-says (c .octets) (s .messages) (s .places) (length (c .out)))
@@ -240,7 +240,7 @@ fresh-start ids lengths places e f h =
     record { ids = e; lengths = f; opened = refl; none = λ i l. getD-replicate placesCount i false false l; lent = h }
 
 -- what calls from a fresh record on leave, and what one more call writes
-module _ (s : State) (fresh : Fresh s) (calls : List Call) where
+module _ (s : JoinState) (fresh : Fresh s) (calls : List Call) where
   kept-all : Keeps (afterAll s calls) (λ id. partsOf id (accepted s calls))
   kept-all = all-keeps calls s (λ _. []) (fresh-keeps s fresh)
 
@@ -288,15 +288,15 @@ module _ (s : State) (fresh : Fresh s) (calls : List Call) where
           }
 
 -- "Freed places are used again, the lowest free one first"
-pub lowest-first : (s : State) (c : Call) (i id : ℕ) → stepIn s c ≡ Opens i id → Lowest (s .messages) i
+pub lowest-first : (s : JoinState) (c : Call) (i id : ℕ) → stepIn s c ≡ Opens i id → Lowest (s .messages) i
 lowest-first s c i id e =
     let f = says-of s c (Opens i id) e in
     subst (Freed (s .messages)) (f .lowest) (lowest-free (s .messages))
 
 -- 23 is given only "when four are open"
-pub all-are-open : (s : State) (c : Call) → stepIn s c ≡ Refuses NoPlaceFree → (i : ℕ) → i < placesCount → isOpen (s .messages) i ≡ true
+pub all-are-open : (s : JoinState) (c : Call) → stepIn s c ≡ Refuses NoPlaceFree → (i : ℕ) → i < placesCount → isOpen (s .messages) i ≡ true
 all-are-open s c e = count-full (s .messages) (says-of s c (Refuses NoPlaceFree) e)
 
 -- 27 is not given where the output has the octets of the longest message
-pub not-refused-27 : (s : State) (c : Call) → placeSize ≤ length (c .out) → stepIn s c ≡ Refuses NoRoom → ⊥
+pub not-refused-27 : (s : JoinState) (c : Call) → placeSize ≤ length (c .out) → stepIn s c ≡ Refuses NoRoom → ⊥
 not-refused-27 s c h e = let l = says-of s c (Refuses NoRoom) e in omega arith

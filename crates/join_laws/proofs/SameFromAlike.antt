@@ -18,8 +18,8 @@ use Rattle.join_places.specs.declared.Found.the-variants.{At, Nowhere}
 use Rattle.join_answers.specs.declared.Refusal.the-variants.{BadRecord, FirstDiffers, TooLong}
 use Rattle.join_places.specs.Places.{placesCount, placeSize, isOpen, heldIn, placeOfId, badRecord}
 use Rattle.join_message.specs.Message.{bodyAfterId, corrected}
-use Rattle.joining.specs.Steps.{Step, Passes, Opens, Extends, Completes, Frees, Refuses, cancelled, differs, lengthAfter, continued}
-use Rattle.joining.specs.Steps.{fragmentOf, startingOf, withId, byId, messageStep, frameStep, stepOf}
+use Rattle.join_steps.specs.Steps.{LineStep, Passes, Opens, Extends, Completes, Frees, Refuses, cancelled, differs, lengthAfter, continued}
+use Rattle.join_steps.specs.Steps.{fragmentOf, startingOf, withId, byId, messageStep, frameStep, stepOf}
 use Rattle.joining.specs.Answers.{messageWritten, roomed, stepWithin, recordAfter, placesAfter}
 use Rattle.join_laws.specs.Sequence.{acceptedLine, partsFrom, Fresh}
 use Rattle.join_places.proofs.PlaceOfId.{Placed, place-is}
@@ -65,7 +65,7 @@ module _ (r : Record) (p q : List ℕ) (a : Alike r p q) where
     unfolding withId
     same-by-id NoId = refl
     same-by-id (Id x) =
-        ap (λ (step : Step).
+        ap (λ (step : LineStep).
         cond (isCancel (h .kind)) (cancelled (placeOfId r x))
         (cond (isFragment (h .kind)) step (startingOf r h x (placeOfId r x))))
         (same-fragment x (placeOfId r x) (place-is r x))
@@ -74,7 +74,7 @@ module _ (r : Record) (p q : List ℕ) (a : Alike r p q) where
     unfolding messageStep
     same-message-step =
         ap (λ bad. cond bad (Refuses BadRecord) (byId r p n h (h .id))) same-bad
-        ∙ ap (λ (step : Step). cond (badRecord r (length q)) (Refuses BadRecord) step) (same-by-id (h .id))
+        ∙ ap (λ (step : LineStep). cond (badRecord r (length q)) (Refuses BadRecord) step) (same-by-id (h .id))
 
   same-frame : (n : ℕ) (f : Frame) → frameStep r p n f ≡ frameStep r q n f
   same-frame n (Accepted h) = same-message-step n h
@@ -85,7 +85,7 @@ module _ (r : Record) (p q : List ℕ) (a : Alike r p q) where
   same-step v = same-frame (length v) (frameOf v)
 
   module _ (v : List ℕ) (room : ℕ) where
-    message-by : (step : Step) → Facts v r (length p) room step → messageWritten step r v p ≡ messageWritten step r v q
+    message-by : (step : LineStep) → Facts v r (length p) room step → messageWritten step r v p ≡ messageWritten step r v q
     message-by Passes f = refl
     message-by (Opens i id) f = refl
     message-by (Extends i) f = refl
@@ -93,13 +93,13 @@ module _ (r : Record) (p q : List ℕ) (a : Alike r p q) where
     message-by (Frees i) f = refl
     message-by (Refuses why) f = refl
 
-    abbrev step : Step
+    abbrev step : LineStep
     step = stepWithin v r p room
 
     pub alike-step : stepWithin v r p room ≡ stepWithin v r q room
     alike-step =
         ap (λ (m : List ℕ). roomed room (stepOf v r p) m) (message-by (stepOf v r p) (step-says v r p room))
-        ∙ ap (λ (s : Step). roomed room s (messageWritten s r v q)) (same-step v)
+        ∙ ap (λ (s : LineStep). roomed room s (messageWritten s r v q)) (same-step v)
 
     pub alike-message : messageWritten step r v p ≡ messageWritten step r v q
     alike-message = message-by step (within-says v r p room)

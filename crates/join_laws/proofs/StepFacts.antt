@@ -18,7 +18,7 @@ use Rattle.frame.specs.Messages.{isCancel, isFragment}
 use Rattle.frame.specs.Header.{minorAt, messageTypeAt, moreAt, sizeAt, idAt, headerOf}
 use Rattle.frame.specs.Frames.{messageLimit, frameOf}
 use Rattle.frame.proofs.Accepts.{Accepts, frame-accepts}
-use Rattle.frame.proofs.Rows.{id-fits}
+use Rattle.frame.proofs.RowsPassed.{id-fits}
 use Rattle.join_places.specs.declared.Record.{Record}
 use Rattle.join_places.specs.declared.Found.{Found}
 use Rattle.join_places.specs.declared.Found.the-variants.{At, Nowhere}
@@ -26,8 +26,8 @@ use Rattle.join_answers.specs.declared.Refusal.{Refusal}
 use Rattle.join_answers.specs.declared.Refusal.the-variants.{Frame as Row, BadRecord, IdOpen, NoPlaceFree, IdNotOpen, FirstDiffers, TooLong, NoRoom}
 use Rattle.join_places.specs.Places.{placesCount, placeSize, isOpen, idOf, lengthOf, heldIn, placeOfId, lowestFree, openCount, badRecord}
 use Rattle.join_message.specs.Message.{idEnd, bodyAfterId, corrected}
-use Rattle.joining.specs.Steps.{Step, Passes, Opens, Extends, Completes, Frees, Refuses, cancelled, differs, lengthAfter, continued}
-use Rattle.joining.specs.Steps.{fragmentOf, opensAt, firstOf, startingOf, withId, byId, messageStep, frameStep, stepOf}
+use Rattle.join_steps.specs.Steps.{LineStep, Passes, Opens, Extends, Completes, Frees, Refuses, cancelled, differs, lengthAfter, continued}
+use Rattle.join_steps.specs.Steps.{fragmentOf, opensAt, firstOf, startingOf, withId, byId, messageStep, frameStep, stepOf}
 use Rattle.joining.specs.Answers.{messageWritten, roomed, stepWithin}
 use Rattle.join_laws.specs.Sequence.{isId, withOne, partsWith, partsAfter}
 use Rattle.join_places.proofs.PlaceOfId.{FoundAt, OpenNowhere, Placed, place-is}
@@ -117,7 +117,7 @@ Refusing r lent room TooLong = Unit {0}
 Refusing r lent room NoRoom = room < placeSize
 Refusing r lent room BadRecord = badRecord r lent ≡ true
 
-abbrev pub Facts : List ℕ → Record → ℕ → ℕ → Step → Type 0
+abbrev pub Facts : List ℕ → Record → ℕ → ℕ → LineStep → Type 0
 Facts v r lent room Passes = Passed v r
 Facts v r lent room (Opens i id) = Opened v r i id
 Facts v r lent room (Extends i) = Extended v r i
@@ -130,7 +130,7 @@ has-id true x y e = refl
 has-id false x y e = clash cc
 
 module _ (v : List ℕ) (r : Record) (places : List ℕ) (room : ℕ) where
-  abbrev Said : Step → Type 0
+  abbrev Said : LineStep → Type 0
   Said = Facts v r (length places) room
 
   id-less-says : length v ≤ messageLimit → idAt v ≡ NoId → Said Passes
@@ -226,7 +226,7 @@ module _ (v : List ℕ) (r : Record) (places : List ℕ) (room : ℕ) where
       let d = length-drop idEnd v in
       omega arith
 
-  message-most : (step : Step) → Said step → length (messageWritten step r v places) ≤ placeSize
+  message-most : (step : LineStep) → Said step → length (messageWritten step r v places) ≤ placeSize
   message-most Passes f = f .most
   message-most (Opens i id) f = zero-le
   message-most (Extends i) f = zero-le
@@ -234,7 +234,7 @@ module _ (v : List ℕ) (r : Record) (places : List ℕ) (room : ℕ) where
   message-most (Frees i) f = f .most
   message-most (Refuses why) f = zero-le
 
-  roomed-says : (step : Step) → Said step → Said (roomed room step (messageWritten step r v places))
+  roomed-says : (step : LineStep) → Said step → Said (roomed room step (messageWritten step r v places))
   roomed-says step f =
       chosen Said (ltb room (length (messageWritten step r v places))) _ _
       (λ e. let l = ltb-true room (length (messageWritten step r v places)) e in let m = message-most step f in omega arith)

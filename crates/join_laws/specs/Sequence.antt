@@ -1,7 +1,7 @@
 -- Lines one after another. What a place holds is told by the accepted lines alone: "the first one's octets and each fragment's body after
 -- the id" of the message that is open.
 --   Call            a line's octets, and the output lent with it
---   State           the record of a recording, and its places
+--   JoinState       the record of a recording, and its places
 --   stepIn          what a call does in a state,
 --   messageIn       the message that it writes,
 --   stateAfter      and the state that it leaves
@@ -34,35 +34,35 @@ use Rattle.frame.specs.Header.{messageTypeAt, moreAt, idAt}
 use Rattle.join_places.specs.declared.Record.{Record}
 use Rattle.join_places.specs.Places.{placesCount, placesSize, isOpen, idOf, heldIn}
 use Rattle.join_message.specs.Message.{parts, joinedOf}
-use Rattle.joining.specs.Steps.{Step, Passes, Opens, Extends, Completes, Frees, Refuses}
+use Rattle.join_steps.specs.Steps.{LineStep, Passes, Opens, Extends, Completes, Frees, Refuses}
 use Rattle.joining.specs.Answers.{messageWritten, stepWithin, recordAfter, placesAfter}
 
 pub record Call : Type 0 where
   pub octets : List ℕ
   pub out : List ℕ
 
-pub record State : Type 0 where
+pub record JoinState : Type 0 where
   pub messages : Record
   pub places : List ℕ
 
-abbrev pub stepIn : State → Call → Step
+abbrev pub stepIn : JoinState → Call → LineStep
 stepIn s c = stepWithin (c .octets) (s .messages) (s .places) (length (c .out))
 
-abbrev pub messageIn : State → Call → List ℕ
+abbrev pub messageIn : JoinState → Call → List ℕ
 messageIn s c = messageWritten (stepIn s c) (s .messages) (c .octets) (s .places)
 
-abbrev pub stateAfter : State → Call → State
+abbrev pub stateAfter : JoinState → Call → JoinState
 stateAfter s c =
     record {
       messages = recordAfter (stepIn s c) (s .messages) (c .octets);
       places = placesAfter (stepIn s c) (s .messages) (c .octets) (s .places);
     }
 
-unfoldable pub afterAll : State → List Call → State
+unfoldable pub afterAll : JoinState → List Call → JoinState
 afterAll s [] = s
 afterAll s (c ∷ calls) = afterAll (stateAfter s c) calls
 
-abbrev pub acceptedLine : Step → List ℕ → List (List ℕ)
+abbrev pub acceptedLine : LineStep → List ℕ → List (List ℕ)
 acceptedLine Passes v = v ∷ []
 acceptedLine (Opens i id) v = v ∷ []
 acceptedLine (Extends i) v = v ∷ []
@@ -70,7 +70,7 @@ acceptedLine (Completes i) v = v ∷ []
 acceptedLine (Frees i) v = v ∷ []
 acceptedLine (Refuses why) v = []
 
-unfoldable pub accepted : State → List Call → List (List ℕ)
+unfoldable pub accepted : JoinState → List Call → List (List ℕ)
 accepted s [] = []
 accepted s (c ∷ calls) = acceptedLine (stepIn s c) (c .octets) ++ accepted (stateAfter s c) calls
 
@@ -102,18 +102,18 @@ abbrev pub heldOf : List (List ℕ) → List ℕ
 heldOf [] = []
 heldOf (first ∷ fragments) = parts first fragments
 
-pub record Fresh (s : State) : Type 0 where
+pub record Fresh (s : JoinState) : Type 0 where
   pub ids : length (s .messages .ids) ≡ placesCount
   pub lengths : length (s .messages .lengths) ≡ placesCount
   pub opened : length (s .messages .opened) ≡ placesCount
   pub none : (i : ℕ) → i < placesCount → isOpen (s .messages) i ≡ false
   pub lent : placesSize ≤ length (s .places)
 
-pub record HoldsParts (s : State) (lines : List (List ℕ)) (i : ℕ) : Type 0 where
+pub record HoldsParts (s : JoinState) (lines : List (List ℕ)) (i : ℕ) : Type 0 where
   pub held : heldIn (s .messages) (s .places) i ≡ heldOf (partsOf (idOf (s .messages) i) lines)
   pub some : partsOf (idOf (s .messages) i) lines ≡ [] → ⊥
 
-pub record JoinsParts (s : State) (lines : List (List ℕ)) (c : Call) (i : ℕ) : Type 0 where
+pub record JoinsParts (s : JoinState) (lines : List (List ℕ)) (c : Call) (i : ℕ) : Type 0 where
   pub id : idAt (c .octets) ≡ Id (idOf (s .messages) i)
   pub first : List ℕ
   pub fragments : List (List ℕ)

@@ -13,7 +13,7 @@ use Rattle.cdr_write.specs.declared.Written.the-variants.{Upto}
 use Rattle.cdr.specs.Number.{octetsOf}
 use Rattle.cdr_write.specs.Write.{Stored}
 use Rattle.cdr_write.proofs.BufferHolds.{stored-upto, stored-fits, sets-append}
-use Rattle.cdr.proofs.Numbers.{octets-length}
+use Rattle.cdr.proofs.NumbersGivenBack.{octets-length}
 use Rattle.frame.specs.Header.{flagsOffset, sizeOffset, headerSize, flagsAt, orderAt, orderFlag}
 use Rattle.join_message.specs.declared.Assembled.the-variants.{Message, NoRoom, NoHeader}
 use Rattle.join_message.specs.Written.{assembledOf, Assembles}

@@ -14,7 +14,7 @@ use Rattle.join_places.specs.declared.Found.{Found}
 use Rattle.join_places.specs.declared.Found.the-variants.{At, Nowhere}
 use Rattle.join_places.specs.Places.{placesCount, isOpen, lengthOf, sumOver, firstWith, lowestFree, openAt, openCount, openLength, openLengths}
 use Rattle.join_places.specs.Places.{closed, opened, lengthened}
-use Rattle.join_places.proofs.Folds.{sum-changed, sum-most, sum-full, sum-of-ones, FirstOf, first-is}
+use Rattle.join_places.proofs.FoldsChanged.{sum-changed, sum-most, sum-full, sum-of-ones, FirstOf, first-is}
 
 -- a flag as a number
 pub flag-is : (b : Bool) → boolByte b ≡ cond b 1 0

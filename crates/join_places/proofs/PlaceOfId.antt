@@ -9,7 +9,7 @@ use Rattle.join_places.specs.declared.Record.{Record}
 use Rattle.join_places.specs.declared.Found.{Found}
 use Rattle.join_places.specs.declared.Found.the-variants.{At, Nowhere}
 use Rattle.join_places.specs.Places.{placesCount, isOpen, idOf, isOpenWith, firstWith, placeOfId}
-use Rattle.join_places.proofs.Folds.{FirstOf, first-is}
+use Rattle.join_places.proofs.FoldsChanged.{FirstOf, first-is}
 
 pub record FoundAt (r : Record) (x i : ℕ) : Type 0 where
   pub place : i < placesCount

@@ -10,7 +10,7 @@ use Rattle.join_places.specs.declared.Found.{Found}
 use Rattle.join_places.specs.declared.Found.the-variants.{At, Nowhere}
 use Rattle.join_places.specs.Places.{placesCount, placeSize, placesSize, leastLength, isOpen, lengthOf, isAt, IsPlace}
 use Rattle.join_places.specs.Places.{firstWith, lowestFree, idOpenTwice, placeShort, lengthWrong, someLengthWrong, badRecord}
-use Rattle.join_places.proofs.Folds.{some-none, FirstOf, first-is}
+use Rattle.join_places.proofs.FoldsChanged.{some-none, FirstOf, first-is}
 
 pub is-at : (f : Found) → isAt f ≡ false → f ≡ Nowhere
 is-at (At i) e = clash cc

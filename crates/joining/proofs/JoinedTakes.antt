@@ -19,10 +19,11 @@ use Rattle.join_message.specs.Written.{assembledOf, assembledIn, Assembles}
 use Rattle.join_answers.specs.declared.Refusal.the-variants.{NoRoom as RefusedRoom}
 use Rattle.join_answers.specs.declared.Answer.the-variants.{Joined}
 use Rattle.joining.specs.declared.Outcome.{Outcome}
-use Rattle.joining.specs.Steps.{Completes}
+use Rattle.join_steps.specs.Steps.{Completes}
 use Rattle.joining.specs.Answers.{refusedOutcome, Takes}
-use Rattle.joining.specs.Inner.{Continues}
-use Rattle.joining.proofs.Takes.{body-rest, part-of, no-room, completes}
+use Rattle.join_steps.specs.Inner.{Continues}
+use Rattle.join_steps.proofs.StepIs.{part-of}
+use Rattle.joining.proofs.StepsTake.{body-rest, no-room, completes}
 
 -- the octets that a place has of its open message
 held-length : (v : List ℕ) (r : Record) (places : List ℕ) (i : ℕ) → Continues v r places i → length (heldIn r places i) ≡ lengthOf r i

@@ -27,9 +27,9 @@ use Rattle.join_answers.specs.declared.Answer.the-variants.{Whole, Held, Joined
 use Rattle.joining.specs.declared.Outcome.{Outcome}
 use Rattle.join_places.specs.Places.{placeStart, lengthOf, heldIn, closed, opened, lengthened}
 use Rattle.join_message.specs.Message.{bodyAfterId, corrected}
-use Rattle.joining.specs.Steps.{Step, Passes, Opens, Extends, Completes, Frees, Refuses, lengthAfter, stepOf}
+use Rattle.join_steps.specs.Steps.{LineStep, Passes, Opens, Extends, Completes, Frees, Refuses, lengthAfter, stepOf}
 
-abbrev pub messageWritten : Step → Record → List ℕ → List ℕ → List ℕ
+abbrev pub messageWritten : LineStep → Record → List ℕ → List ℕ → List ℕ
 messageWritten Passes r v places = v
 messageWritten (Opens i id) r v places = []
 messageWritten (Extends i) r v places = []
@@ -37,13 +37,13 @@ messageWritten (Completes i) r v places = corrected (heldIn r places i ++ bodyAf
 messageWritten (Frees i) r v places = v
 messageWritten (Refuses why) r v places = []
 
-abbrev pub roomed : ℕ → Step → List ℕ → Step
+abbrev pub roomed : ℕ → LineStep → List ℕ → LineStep
 roomed room step message = cond (ltb room (length message)) (Refuses NoRoom) step
 
-abbrev pub stepWithin : List ℕ → Record → List ℕ → ℕ → Step
+abbrev pub stepWithin : List ℕ → Record → List ℕ → ℕ → LineStep
 stepWithin v r places room = roomed room (stepOf v r places) (messageWritten (stepOf v r places) r v places)
 
-abbrev pub answerOfStep : Step → ℕ → Answer
+abbrev pub answerOfStep : LineStep → ℕ → Answer
 answerOfStep Passes n = Whole n
 answerOfStep (Opens i id) n = Held
 answerOfStep (Extends i) n = Held
@@ -51,10 +51,10 @@ answerOfStep (Completes i) n = Joined n
 answerOfStep (Frees i) n = Cancelled n
 answerOfStep (Refuses why) n = Refused why
 
-abbrev pub answerTo : Step → Record → List ℕ → List ℕ → Answer
+abbrev pub answerTo : LineStep → Record → List ℕ → List ℕ → Answer
 answerTo step r v places = answerOfStep step (length (messageWritten step r v places))
 
-abbrev pub recordAfter : Step → Record → List ℕ → Record
+abbrev pub recordAfter : LineStep → Record → List ℕ → Record
 recordAfter Passes r v = r
 recordAfter (Opens i id) r v = opened r i id (length v)
 recordAfter (Extends i) r v = lengthened r i (lengthAfter r i (length v))
@@ -62,7 +62,7 @@ recordAfter (Completes i) r v = closed r i
 recordAfter (Frees i) r v = closed r i
 recordAfter (Refuses why) r v = r
 
-abbrev pub placesAfter : Step → Record → List ℕ → List ℕ → List ℕ
+abbrev pub placesAfter : LineStep → Record → List ℕ → List ℕ → List ℕ
 placesAfter Passes r v places = places
 placesAfter (Opens i id) r v places = sets places (placeStart i) v
 placesAfter (Extends i) r v places = sets places (placeStart i + lengthOf r i) (bodyAfterId v)
@@ -70,19 +70,19 @@ placesAfter (Completes i) r v places = places
 placesAfter (Frees i) r v places = places
 placesAfter (Refuses why) r v places = places
 
-abbrev pub writtenInto : Step → Record → List ℕ → List ℕ → List ℕ → List ℕ
+abbrev pub writtenInto : LineStep → Record → List ℕ → List ℕ → List ℕ → List ℕ
 writtenInto step r v places out = sets out 0 (messageWritten step r v places)
 
 abbrev pub refusedOutcome : Record → Refusal → Outcome
 refusedOutcome before why = record { answer = Refused why; after = before }
 
-pub record Does (step : Step) (v : List ℕ) (before : Record) (places out : List ℕ) (r : Outcome) (placesLast outLast : List ℕ) : Type 0 where
+pub record Does (step : LineStep) (v : List ℕ) (before : Record) (places out : List ℕ) (r : Outcome) (placesLast outLast : List ℕ) : Type 0 where
   pub answer : r .answer ≡ answerTo step before v places
   pub after : r .after ≡ recordAfter step before v
   pub stored : placesLast ≡ placesAfter step before v places
   pub output : outLast ≡ writtenInto step before v places out
 
-abbrev pub Takes : Step → List ℕ → Record → List ℕ → List ℕ → Outcome → List ℕ → List ℕ → Type 0
+abbrev pub Takes : LineStep → List ℕ → Record → List ℕ → List ℕ → Outcome → List ℕ → List ℕ → Type 0
 Takes step v before places out r placesLast outLast =
     Does (roomed (length out) step (messageWritten step before v places)) v before places out r placesLast outLast
 

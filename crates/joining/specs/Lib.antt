@@ -1,4 +1,2 @@
--- Joining: what a line does, and what it leaves.
-pub mod Steps
+-- What a step answers, and what it leaves.
 pub mod Answers
-pub mod Inner

@@ -1,26 +1,19 @@
 // Joining of 1.2 fragments: what each line of a recording is answered, by the record of the messages that are open.
 ghost use mathlib.Core.Path.{_≡_};
 ghost use mathlib.Core.List.{List};
-ghost use Prim.Native.Nat.{ℕ, _≤_};
+ghost use Prim.Native.Nat.{ℕ, _≤_, _<_};
 ghost use lib.ListN.{length};
-ghost use Rattle.frame.specs.declared.Frame.the-variants.{Accepted};
-ghost use Rattle.frame.specs.Frames.{frameOf};
-ghost use Rattle.join_places.specs.Places.{placeSize, IsPlace, lowestFree};
-ghost use Rattle.joining.specs.Steps.{Passes, Extends, Completes, cancelled, lengthAfter, continued, opensAt, startingOf, withId};
-ghost use Rattle.joining.specs.Steps.{messageStep};
+ghost use Rattle.join_places.specs.Places.{placesCount, placeSize};
+ghost use Rattle.join_steps.specs.Steps.{Passes, Opens, Extends, Completes, Frees, lengthAfter};
+ghost use Rattle.join_steps.specs.Inner.{Opening, Continues};
 ghost use Rattle.joining.specs.Answers.{refusedOutcome, Takes, Joins};
-ghost use Rattle.joining.specs.Inner.{Sound, Opening, Continues};
-use frame::Frame;
-use frame::Header;
-use frame::RequestId;
 use join_answers::Answer;
 use join_answers::Refusal;
 use join_message::Assembled;
-use join_places::Found;
 use join_places::Record;
+use join_steps::LineStep;
 
 mod change;
-mod message;
 
 // The answer, and the record after the line.
 pub struct Outcome {
@@ -34,9 +27,13 @@ pub fn join(octets: &[u8], before: Record, places: &mut [u8], out: &mut [u8]) ->
         Joins (now (octets .entry)) before (now (places .entry)) (now (out .entry)) r (now (places .exit)) (now (out .exit))
         ⌝ }
 {
-    match frame::judge(octets) {
-        Frame::Accepted(h) => accepted(octets, h, before, places, out),
-        Frame::Refused(row) => refused(before, Refusal::Frame(row)),
+    match join_steps::step_of(octets, before, places) {
+        LineStep::Passes => whole(octets, before, out),
+        LineStep::Opens { place, id } => first(octets, place, id, before, places),
+        LineStep::Extends(i) => extend(octets, i, before, places),
+        LineStep::Completes(i) => complete(octets, i, before, places, out),
+        LineStep::Frees(i) => cancel(octets, i, before, out),
+        LineStep::Refuses(why) => refused(before, why),
     }
 }
 
@@ -48,52 +45,6 @@ fn refused(before: Record, why: Refusal) -> Outcome
         answer: Answer::Refused(why),
         after: before,
     }
-}
-
-// Answers an accepted message.
-fn accepted(octets: &[u8], h: Header, before: Record, places: &mut [u8], out: &mut [u8]) -> Outcome
-    requires { ⌜ frameOf (now octets) ≡ Accepted h ⌝ }
-    ensures { λ r. ⌜
-        Takes (messageStep before (now (places .entry)) (length (now (octets .entry))) h)
-        (now (octets .entry)) before (now (places .entry)) (now (out .entry)) r (now (places .exit)) (now (out .exit))
-        ⌝ }
-{
-    if join_places::bad_record(before, places.len()) {
-        return refused(before, Refusal::BadRecord);
-    }
-    let id = h.id;
-    match id {
-        RequestId::Id(x) => identified(octets, h, x, before, places, out),
-        RequestId::NoId => whole(octets, before, out),
-    }
-}
-
-// Answers a message that has a request id.
-fn identified(
-    octets: &[u8],
-    h: Header,
-    id: u32,
-    before: Record,
-    places: &mut [u8],
-    out: &mut [u8],
-) -> Outcome
-    requires { ⌜ Sound (now octets) h before (now places) ⌝ }
-    ensures { λ r. ⌜
-        Takes (withId before (now (places .entry)) (length (now (octets .entry))) h id)
-        (now (octets .entry)) before (now (places .entry)) (now (out .entry)) r (now (places .exit)) (now (out .exit))
-        ⌝ }
-{
-    let found = join_places::place_of(before, id);
-    if h.kind == frame::CANCEL_REQUEST {
-        return cancel(octets, found, before, out);
-    }
-    if h.kind == frame::FRAGMENT {
-        let Found::At(i) = found else {
-            return refused(before, Refusal::IdNotOpen);
-        };
-        return fragment(octets, h, i, before, places, out);
-    }
-    start(octets, h, id, found, before, places, out)
 }
 
 // Writes a message as it is.
@@ -110,16 +61,11 @@ fn whole(octets: &[u8], before: Record, out: &mut [u8]) -> Outcome
     }
 }
 
-// Answers a CancelRequest: it frees the place of its id, where there is one.
-fn cancel(request: &[u8], found: Found, before: Record, out: &mut [u8]) -> Outcome
-    requires { ⌜ IsPlace found ⌝ }
-    ensures { λ r. ⌜
-        ((places : List ℕ) → Takes (cancelled found) (now (request .entry)) before places (now (out .entry)) r places (now (out .exit)))
-        ⌝ }
+// Writes a CancelRequest as it is, and frees the place of its id.
+fn cancel(request: &[u8], i: usize, before: Record, out: &mut [u8]) -> Outcome
+    requires { ⌜ i < placesCount ⌝ }
+    ensures { λ r. ⌜ ((places : List ℕ) → Takes (Frees i) (now (request .entry)) before places (now (out .entry)) r places (now (out .exit))) ⌝ }
 {
-    let Found::At(i) = found else {
-        return whole(request, before, out);
-    };
     if out.len() < request.len() {
         return refused(before, Refusal::NoRoom);
     }
@@ -130,85 +76,16 @@ fn cancel(request: &[u8], found: Found, before: Record, out: &mut [u8]) -> Outco
     }
 }
 
-// Answers a message that starts, whole or as a first fragment.
-fn start(
-    octets: &[u8],
-    h: Header,
-    id: u32,
-    found: Found,
-    before: Record,
-    places: &mut [u8],
-    out: &mut [u8],
-) -> Outcome
-    requires { ⌜ Sound (now octets) h before (now places) ⌝ }
-    ensures { λ r. ⌜
-        Takes (startingOf before h id found)
-        (now (octets .entry)) before (now (places .entry)) (now (out .entry)) r (now (places .exit)) (now (out .exit))
-        ⌝ }
+// Opens a place for a first fragment.
+fn first(octets: &[u8], i: usize, id: u32, before: Record, places: &mut [u8]) -> Outcome
+    requires { ⌜ Opening (now octets) (now places) i ⌝ }
+    ensures { λ r. ⌜ ((out : List ℕ) → Takes (Opens i id) (now (octets .entry)) before (now (places .entry)) out r (now (places .exit)) out) ⌝ }
 {
-    let open = join_places::is_at(found);
-    let full = join_places::PLACES_COUNT as u64 <= join_places::open_count(before);
-    if open {
-        return refused(before, Refusal::IdOpen);
-    }
-    if !h.more {
-        return whole(octets, before, out);
-    }
-    if full {
-        return refused(before, Refusal::NoPlaceFree);
-    }
-    first(octets, id, before, places)
-}
-
-// Opens the lowest free place for a first fragment.
-fn first(octets: &[u8], id: u32, before: Record, places: &mut [u8]) -> Outcome
-    requires { ⌜ Opening (now octets) (now places) ⌝ }
-    ensures { λ r. ⌜
-        ((out : List ℕ) → Takes (opensAt id (lowestFree before)) (now (octets .entry)) before (now (places .entry)) out r (now (places .exit)) out)
-        ⌝ }
-{
-    let i = match join_places::lowest_free(before) {
-        Found::At(i) => i,
-        // Never here: fewer open messages than places leave a place free.
-        Found::Nowhere => return refused(before, Refusal::NoPlaceFree),
-    };
     cdr_write::write_octets(places, i * join_places::PLACE_SIZE, octets);
     Outcome {
         answer: Answer::Held,
         after: change::opened(before, i, id, octets.len()),
     }
-}
-
-// Answers a fragment of the message that is open in a place.
-fn fragment(
-    octets: &[u8],
-    h: Header,
-    i: usize,
-    before: Record,
-    places: &mut [u8],
-    out: &mut [u8],
-) -> Outcome
-    requires { ⌜ Continues (now octets) before (now places) i ⌝ }
-    ensures { λ r. ⌜
-        Takes (continued before (now (places .entry)) (length (now (octets .entry))) h i)
-        (now (octets .entry)) before (now (places .entry)) (now (out .entry)) r (now (places .exit)) (now (out .exit))
-        ⌝ }
-{
-    let begin = i * join_places::PLACE_SIZE;
-    let held = before.lengths[i];
-    let total = held + (octets.len() - message::ID_END);
-    let differs = message::differs(&places[begin..begin + held], h);
-    let long = join_places::PLACE_SIZE < total;
-    if differs {
-        return refused(before, Refusal::FirstDiffers);
-    }
-    if long {
-        return refused(before, Refusal::TooLong);
-    }
-    if h.more {
-        return extend(octets, i, before, places);
-    }
-    complete(octets, i, before, places, out)
 }
 
 // Adds a middle fragment's body to its place.
@@ -218,10 +95,10 @@ fn extend(octets: &[u8], i: usize, before: Record, places: &mut [u8]) -> Outcome
 {
     let held = before.lengths[i];
     let at = i * join_places::PLACE_SIZE + held;
-    cdr_write::write_octets(places, at, &octets[message::ID_END..]);
+    cdr_write::write_octets(places, at, &octets[join_steps::ID_END..]);
     Outcome {
         answer: Answer::Held,
-        after: change::lengthened(before, i, held + (octets.len() - message::ID_END)),
+        after: change::lengthened(before, i, held + (octets.len() - join_steps::ID_END)),
     }
 }
 
@@ -236,7 +113,7 @@ fn complete(octets: &[u8], i: usize, before: Record, places: &[u8], out: &mut [u
     let held = before.lengths[i];
     let freed = change::closed(before, i);
     let end = begin + held;
-    match join_message::write_joined(&places[begin..end], &octets[message::ID_END..], out) {
+    match join_message::write_joined(&places[begin..end], &octets[join_steps::ID_END..], out) {
         Assembled::Message(n) => Outcome {
             answer: Answer::Joined(n),
             after: freed,

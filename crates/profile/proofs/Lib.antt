@@ -1,4 +1,3 @@
 -- Laws that other crates cite.
 pub mod StageAnswers
-pub mod Within
-pub mod PartNone
+pub mod PartsInBody

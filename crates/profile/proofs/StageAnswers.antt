@@ -17,7 +17,7 @@ use Rattle.profile_parts.specs.declared.OctetsPart.{OctetsPart}
 use Rattle.profile_parts.specs.declared.NumberPart.{NumberPart}
 use Rattle.profile_parts.specs.declared.ComponentPart.{ComponentPart}
 use Rattle.profile_parts.specs.declared.ComponentPart.the-variants.{Refused as noComponent}
-use Rattle.profile_parts.specs.Parts.{orderPartAt, versionAt, hostAt, portAt, keyAt, countAt, componentAt, componentPart}
+use Rattle.profile_parts.specs.Parts.{orderPartAt, versionAt, hostAt, portAt, keyAt, componentCountAt, componentAt, componentPart}
 use Rattle.version.specs.Versions.{hasComponents}
 use Rattle.cdr_fields.specs.declared.Skipped.{Skipped}
 use Rattle.cdr_fields.specs.declared.Skipped.the-variants.{Upto, TooFew}
@@ -33,7 +33,7 @@ use Rattle.profile.specs.declared.ProfileAnswer.the-variants.{Read, Refu
 use Rattle.profile.specs.declared.ComponentAnswer.{ComponentAnswer}
 use Rattle.profile.specs.declared.ComponentAnswer.the-variants.{Refused as notFound}
 use Rattle.profile.specs.List.{listed, listFrom, onComponentCount, countedList, listAt, componentFrom}
-use Rattle.profile.specs.Profile.{onOrderPart, onVersion, onSpan, onNumber, onList, profileOf, hostIn, hostExtent, keyIn, keyExtent, foundFrom, componentThen, componentIn, componentOf, foundIn, componentExtent}
+use Rattle.profile.specs.Profile.{onOrderPart, onVersion, onSpan, onNumber, onList, profileOf, foundFrom, componentThen, componentIn, componentOf}
 use Rattle.profile.specs.Inner.{listThen, keyThen, portThen, hostThen, versionThen}
 
 module _ (v : List ℕ) (order : Order) where
@@ -41,7 +41,7 @@ module _ (v : List ℕ) (order : Order) where
   unfolding listFrom
   list-is first count s e = ap (listed v count first) e
 
-  pub counted-is : (i : Index) (p : NumberPart) → countAt v i order ≡ p → countedList v i order ≡ onComponentCount p (λ n next. listFrom v next n order)
+  pub counted-is : (i : Index) (p : NumberPart) → componentCountAt v i order ≡ p → countedList v i order ≡ onComponentCount p (λ n next. listFrom v next n order)
   unfolding countedList
   counted-is i p e = ap (λ (x : NumberPart). onComponentCount x (λ n next. listFrom v next n order)) e
 
@@ -102,14 +102,6 @@ module _ (v : List ℕ) where
   unfolding profileOf choose versionThen hostThen portThen keyThen listThen
   profile-is h p e = rw (le-ltb octetsLimit (length v) h, e)
 
-  pub host-is : (a : ProfileAnswer) → profileOf v ≡ a → hostExtent v ≡ hostIn a
-  unfolding hostExtent
-  host-is a e = ap hostIn e
-
-  pub key-is : (a : ProfileAnswer) → profileOf v ≡ a → keyExtent v ≡ keyIn a
-  unfolding keyExtent
-  key-is a e = ap keyIn e
-
   module _ (number : ℕ) where
     pub component-is : (a : ProfileAnswer) → profileOf v ≡ a → componentOf v number ≡ componentIn v number a
     unfolding componentOf
@@ -123,7 +115,3 @@ module _ (v : List ℕ) where
         → componentThen v p number ≡ foundFrom c
     unfolding componentThen choose
     component-there p h c e = rw (lt-leb (p .components) number h, e)
-
-    pub component-octets-are : (a : ComponentAnswer) → componentOf v number ≡ a → componentExtent v number ≡ foundIn a
-    unfolding componentExtent
-    component-octets-are a e = ap foundIn e

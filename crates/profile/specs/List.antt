@@ -22,7 +22,7 @@ use Rattle.profile.specs.declared.list.Components.{Components}
 use Rattle.profile.specs.declared.list.Components.the-variants.{Listed, Refused as noList}
 use Rattle.version.specs.Versions.{hasComponents}
 use Rattle.cdr_fields.specs.Tagged.{skipTagged, taggedBehind}
-use Rattle.profile_parts.specs.Parts.{countAt, componentPart}
+use Rattle.profile_parts.specs.Parts.{componentCountAt, componentPart}
 
 abbrev pub listed : List ℕ → ℕ → Index → Skipped → Components
 listed v count first (Upto e) = Listed count first (length v - e .0)
@@ -36,7 +36,7 @@ onComponentCount (Number n next) f = f n next
 onComponentCount (noNumber r) f = noList r
 
 unfoldable pub countedList : List ℕ → Index → Order → Components
-countedList v i order = onComponentCount (countAt v i order) (λ n next. listFrom v next n order)
+countedList v i order = onComponentCount (componentCountAt v i order) (λ n next. listFrom v next n order)
 
 unfoldable pub listAt : List ℕ → Index → ℕ → Order → Components
 listAt v i minor order =

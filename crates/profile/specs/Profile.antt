@@ -11,16 +11,10 @@
 --   onOrderPart, onVersion, onSpan, onNumber, onList
 --                      what follows a part, or its refusal
 --   profileOf          the reading of a body, part by part
---   hostIn             the host of a body that was read, no octets of a refused one
---   hostExtent         "host (without its zero)"
---   keyIn              the key of a body that was read, no octets of a refused one
---   keyExtent          the key
 --   foundFrom          what a component that was read is told as
 --   componentThen      the component of a number in a body that was read: 69 "for a number not below their count"
 --   componentIn        the component of an answer about a body
 --   componentOf        "a component by number from 0, with its tag; 69, last"
---   foundIn            the octets of a component that is there, none where it is refused
---   componentExtent    the octets of the component of a number
 use Prim.Native.Nat.{ℕ}
 use mathlib.Core.List.{List, [], _∷_}
 use lib.Dec.{ltb, leb}
@@ -123,20 +117,6 @@ profileOf v =
       extra = extra;
     }))))))))
 
-abbrev pub hostIn : ProfileAnswer → Extent
-hostIn (Read p) = p .host
-hostIn (Refused r) = noExtent
-
-unfoldable pub hostExtent : List ℕ → Extent
-hostExtent v = hostIn (profileOf v)
-
-abbrev pub keyIn : ProfileAnswer → Extent
-keyIn (Read p) = p .key
-keyIn (Refused r) = noExtent
-
-unfoldable pub keyExtent : List ℕ → Extent
-keyExtent v = keyIn (profileOf v)
-
 abbrev pub foundFrom : ComponentPart → ComponentAnswer
 foundFrom (Component tag octets next) = Found tag octets
 foundFrom (noComponent r) = notFound r
@@ -151,10 +131,3 @@ componentIn v number (Refused r) = notFound r
 
 unfoldable pub componentOf : List ℕ → ℕ → ComponentAnswer
 componentOf v number = componentIn v number (profileOf v)
-
-abbrev pub foundIn : ComponentAnswer → Extent
-foundIn (Found tag octets) = octets
-foundIn (notFound r) = noExtent
-
-unfoldable pub componentExtent : List ℕ → ℕ → Extent
-componentExtent v number = foundIn (componentOf v number)

@@ -1,9 +1,7 @@
 // An IIOP profile body: order, version, host, port, key, components and extra octets, or 01's refusal, 42 and 60 to 64; and a component by
-// number, 69. Parts of the body come back as the caller's own octets.
+// number, 69.
 ghost use mathlib.Core.Path.{_≡_};
 ghost use Rattle.profile.specs.Profile.{profileNumber, componentNumber, profileOf, componentOf, componentThen};
-ghost use Rattle.profile.specs.Profile.{hostExtent, keyExtent, componentExtent};
-ghost use Rattle.cdr_fields.specs.Extents.{PartOf};
 ghost use Rattle.profile.specs.Inner.{versionThen, hostThen, portThen, keyThen, listThen};
 use cdr::Index;
 use cdr::Order;
@@ -191,35 +189,5 @@ fn component_then(s: &[u8], profile: Profile, number: u64) -> ComponentAnswer
             next: _,
         } => ComponentAnswer::Found { tag, octets },
         ComponentPart::Refused(refusal) => ComponentAnswer::Refused(refusal),
-    }
-}
-
-// The host of a body, without its final zero; no octets of a refused body.
-pub fn host<'a>(s: &'a [u8]) -> &'a [u8]
-    ensures { λ r. ⌜ PartOf (s .entry) (hostExtent (now (s .entry))) r ⌝ }
-{
-    match read(s) {
-        ProfileAnswer::Read(profile) => cdr_fields::octets_in(s, profile.host),
-        ProfileAnswer::Refused(_) => &s[0..0], // no host
-    }
-}
-
-// The key of a body; no octets of a refused body.
-pub fn key<'a>(s: &'a [u8]) -> &'a [u8]
-    ensures { λ r. ⌜ PartOf (s .entry) (keyExtent (now (s .entry))) r ⌝ }
-{
-    match read(s) {
-        ProfileAnswer::Read(profile) => cdr_fields::octets_in(s, profile.key),
-        ProfileAnswer::Refused(_) => &s[0..0], // no key
-    }
-}
-
-// The octets of the component of a body that has a number; none where it is refused.
-pub fn component_octets<'a>(s: &'a [u8], number: u64) -> &'a [u8]
-    ensures { λ r. ⌜ PartOf (s .entry) (componentExtent (now (s .entry)) number) r ⌝ }
-{
-    match component(s, number) {
-        ComponentAnswer::Found { tag: _, octets } => cdr_fields::octets_in(s, octets),
-        ComponentAnswer::Refused(_) => &s[0..0],
     }
 }

@@ -15,7 +15,7 @@
 --   portAt                 the port, an unsigned short
 --   keyFrom                what counted octets give as a key
 --   keyAt                  the key: its octets behind their count
---   countAt                the number of components, an unsigned long
+--   componentCountAt       the number of components, an unsigned long
 --   componentPart          what tagged octets give as a component
 --   componentAt            a component: its tag, an unsigned long, then its octets
 use Prim.Native.Nat.{ℕ, _+_}
@@ -117,8 +117,8 @@ keyFrom NoOctets = noSpan Ends
 unfoldable pub keyAt : List ℕ → Index → Order → OctetsPart
 keyAt v i order = keyFrom (countedOf v i order)
 
-abbrev pub countAt : List ℕ → Index → Order → NumberPart
-countAt v i order = numberPartAt v i Four order
+abbrev pub componentCountAt : List ℕ → Index → Order → NumberPart
+componentCountAt v i order = numberPartAt v i Four order
 
 abbrev pub componentPart : Tagged → ComponentPart
 componentPart (Tag tag octets next) = Component tag octets next

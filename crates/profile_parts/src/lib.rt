@@ -1,7 +1,7 @@
 // The parts of an IIOP profile body, an encapsulation: each is read where it stands. Every function answers for any octets and index.
 ghost use mathlib.Core.Path.{_≡_};
 ghost use Rattle.profile_parts.specs.Parts.{profileRefusalNumber, orderPartAt, minorPartAt, versionAt, hostAt};
-ghost use Rattle.profile_parts.specs.Parts.{numberPartAt, portAt, keyAt, countAt, componentAt};
+ghost use Rattle.profile_parts.specs.Parts.{numberPartAt, portAt, keyAt, componentCountAt, componentAt};
 use cdr::Index;
 use cdr::Named;
 use cdr::Order;
@@ -164,7 +164,7 @@ pub fn key_at(s: &[u8], at: Index, order: Order) -> OctetsPart
 
 // The number of components that follow, at an index.
 pub fn count_at(s: &[u8], at: Index, order: Order) -> NumberPart
-    ensures { λ r. ⌜ r ≡ countAt (now (s .entry)) at order ⌝ }
+    ensures { λ r. ⌜ r ≡ componentCountAt (now (s .entry)) at order ⌝ }
 {
     number_at(s, at, Size::Four, order)
 }

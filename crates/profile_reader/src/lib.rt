@@ -3,7 +3,7 @@
 ghost use mathlib.Core.Path.{_≡_};
 ghost use Rattle.cdr.specs.Align.{indexOf};
 ghost use Rattle.cdr.specs.declared.Order.the-variants.{Big};
-ghost use Rattle.profile_parts.specs.Parts.{orderPartAt, versionAt, hostAt, portAt, keyAt, countAt, componentAt};
+ghost use Rattle.profile_parts.specs.Parts.{orderPartAt, versionAt, hostAt, portAt, keyAt, componentCountAt, componentAt};
 use cdr::Index;
 use cdr::Order;
 use profile_parts::ComponentPart;
@@ -78,7 +78,7 @@ pub fn key<'a>(r: Reader<'a>) -> OctetsPart
 
 // The number of components.
 pub fn count<'a>(r: Reader<'a>) -> NumberPart
-    ensures { λ p. ⌜ p ≡ countAt (now (r .entry .octets)) (r .entry .at) (r .entry .order) ⌝ }
+    ensures { λ p. ⌜ p ≡ componentCountAt (now (r .entry .octets)) (r .entry .at) (r .entry .order) ⌝ }
 {
     profile_parts::count_at(r.octets, r.at, r.order)
 }

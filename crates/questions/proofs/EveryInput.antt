@@ -8,10 +8,10 @@ use lib.ListN.{length, take, drop, length-drop}
 use Rattle.choices.proofs.Choices.{by-test}
 use Rattle.choices.specs.Branch.{choose}
 use Rattle.lines.specs.Lines.{lf, hasLF, linesFrom, linesOf, takenOf}
-use Rattle.ask_answers.specs.Answers.{tableRoom, answerMost}
+use Rattle.ask_room.specs.Room.{tableRoom, answerMost}
 use Rattle.questions.specs.Blocks.{askRoom, AskWork, askGoesOn, askTurn, askTurns, askWork, askStart, answersOf, answersAfter, QuestionsAnswered}
-use Rattle.questions.specs.Calls.{QuestionCalls, next, ended, last, TakesSome, AnsweredThrough}
-use Rattle.questions.proofs.Blocks.{GoesWith, on-is, goes, block-on, Going, going-start, going-turn, going-done}
+use Rattle.questions.specs.Calls.{QuestionCalls, askNext, askEnded, askLast, TakesSome, AnsweredThrough}
+use Rattle.questions.proofs.TurnsOfBlock.{GoesWith, on-is, goes, block-on, Going, going-start, going-turn, going-done}
 use Rattle.questions.proofs.TurnsAnswer.{turn-of, block-answered}
 use Rattle.questions.proofs.TableUnseen.{table-size}
 
@@ -25,12 +25,12 @@ unfolding linesFrom answersOf
 none-left begun e = rw e
 
 pub calls-text : (kept : ℕ) (line input text : List ℕ) → QuestionCalls kept line input text → text ≡ answersAfter kept line input
-calls-text kept line input _ (next _ _ out table _ block from rest r lineLast outLast tableLast text e b c) =
+calls-text kept line input _ (askNext _ _ out table _ block from rest r lineLast outLast tableLast text e b c) =
     ap (λ (t : List ℕ). take (r .filled) outLast ++ t) (calls-text (r .kept) lineLast _ text c)
     ∙ sym (b .answered rest) ∙ ap (answersAfter kept line) (sym e)
-calls-text kept line _ text (ended _ _ c rest _ e d) =
+calls-text kept line _ text (askEnded _ _ c rest _ e d) =
     calls-text kept line (lf ∷ []) text d ∙ ap answersOf (lf-ends (take kept line) c rest e)
-calls-text kept line _ _ (last _ _ e) = none-left (take kept line) e
+calls-text kept line _ _ (askLast _ _ e) = none-left (take kept line) e
 
 -- of a whole input
 pub input-text : (line input text : List ℕ) → QuestionCalls 0 line input text → text ≡ answersOf (linesOf input)
@@ -63,7 +63,7 @@ gone (suc n) block start w h g =
 -- the end of an input whose lines are answered
 ended-input : (outs tables kept : ℕ) (line input : List ℕ) → length input ≤ 0 → take kept line ≡ [] → AnsweredThrough outs tables kept line input
 unfolding TakesSome
-ended-input outs tables kept line [] h e = record { text = []; calls = last kept line e; onward = tt }
+ended-input outs tables kept line [] h e = record { text = []; calls = askLast kept line e; onward = tt }
 ended-input outs tables kept line (c ∷ rest) h e = absurd (omega arith)
 
 -- with room for any line, its items and its answer
@@ -103,7 +103,7 @@ module _ (out : List ℕ) (enough : answerMost ≤ length out) where
     called more =
         record {
           text = take (done .at .filled) (done .out) ++ more .text;
-          calls = next kept line out table input input 0 [] (done .at) (done .line) (done .out) (done .table) (more .text)
+          calls = askNext kept line out table input input 0 [] (done .at) (done .line) (done .out) (done .table) (more .text)
               (sym (append-nil input)) answered (more .calls);
           onward = (onward, refl, refl, more .onward);
         }
@@ -134,12 +134,12 @@ module _ (out : List ℕ) (enough : answerMost ≤ length out) where
 
     closed : (begun : List ℕ) → take kept line ≡ begun → AnsweredThrough (length out) (length table) kept line []
     unfolding TakesSome
-    closed [] e = record { text = []; calls = last kept line e; onward = tt }
+    closed [] e = record { text = []; calls = askLast kept line e; onward = tt }
     closed (c ∷ rest) e =
         let n = less kept line table lone l t one in
         let w = done kept line table lone l t one in
         let m = called kept line table lone l t one (ended-input (length out) (length table) (w .at .kept) (w .line) (left kept line table lone l t one) (omega (arith, n)) (rw lone-kept)) in
-        record { text = m .text; calls = ended kept line c rest (m .text) e (m .calls); onward = m .onward }
+        record { text = m .text; calls = askEnded kept line c rest (m .text) e (m .calls); onward = m .onward }
 
   -- every input of at most n characters
   abbrev Through : ℕ → Type 0

@@ -7,17 +7,17 @@ use lib.Seq.{length-sets}
 use Rattle.choices.proofs.Choices.{by-test}
 use Rattle.choices.specs.Branch.{choose}
 use Rattle.lines.specs.Lines.{takenOf}
-use Rattle.value_meaning.specs.Value.{flat}
+use Rattle.value_meaning.specs.Value.{itemRows}
 use Rattle.questions.specs.declared.Progress.{Progress}
 use Rattle.ask_answers.specs.Questions.{Question}
 use Rattle.ask_answers.specs.Replies.{itemsIn}
 use Rattle.ask_answers.specs.Answers.{tableFor}
 use Rattle.questions.specs.Blocks.{AskWork, askGoesOn, askTurn, askTurns, askWork, askStart, askBlock, QuestionsAnswered}
-use Rattle.questions.proofs.Blocks.{block-on, block-stops}
+use Rattle.questions.proofs.TurnsOfBlock.{block-on, block-stops}
 
 pub table-size : (q : Question) (table : List ℕ) → length (tableFor q table) ≡ length table
 unfolding tableFor
-table-size q table = length-sets table 0 (flat (itemsIn q))
+table-size q table = length-sets table 0 (itemRows (itemsIn q))
 
 abbrev withTable : AskWork → List ℕ → AskWork
 withTable w table = askWork (w .at) (w .line) (w .out) table

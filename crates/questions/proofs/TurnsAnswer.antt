@@ -11,7 +11,7 @@ use borrow.Author.Tests.{ltb-true, ltb-false}
 use Rattle.choices.proofs.Choices.{by-test, clash}
 use Rattle.lines.specs.declared.Taken.{Taken}
 use Rattle.lines.specs.Lines.{upToLF, linesOf, takenOf, keptInto, LineTaken}
-use Rattle.lines.proofs.Cuts.{begun-cut}
+use Rattle.lines.proofs.BegunCut.{begun-cut}
 use Rattle.lines.proofs.LinesOfBlocks.{block-ended, block-open, next-open, next-more, next-most, kept-most, kept-is, drop-within}
 use Rattle.cdr_write.specs.declared.Written.{Written}
 use Rattle.cdr_write.specs.declared.Written.the-variants.{Upto, NoRoom}
@@ -19,13 +19,15 @@ use Rattle.cdr_write.proofs.BufferHolds.{take-stored, drop-stored}
 use Rattle.questions.specs.declared.Progress.{Progress}
 use Rattle.ask_answers.specs.Questions.{lineMost, questionOf}
 use Rattle.ask_answers.specs.Replies.{answerLine}
-use Rattle.ask_answers.specs.Answers.{tableFor, answerRoom, LineAnswered}
+use Rattle.ask_room.specs.Room.{answerRoom}
+use Rattle.ask_answers.specs.Answers.{tableFor, LineAnswered}
 use Rattle.questions.specs.Blocks.{AskWork, askTurn, askTurns, askWork, askStart, askBlock, answersOf, answersAfter, QuestionsAnswered}
 use Rattle.questions.specs.Turns.{Goes, Onto, Turned}
 use Rattle.ask_answers.proofs.WordsAnswered.{answer-most}
-use Rattle.ask_answers.proofs.RoomTested.{roomy, line-roomed}
-use Rattle.ask_answers.proofs.Cuts.{answer-same}
-use Rattle.questions.proofs.Blocks.{GoesWith, begun-is, answered-is, Going, going-done}
+use Rattle.ask_room.proofs.RoomTested.{roomy}
+use Rattle.ask_answers.proofs.LineByRoom.{line-roomed}
+use Rattle.ask_answers.proofs.AnswersCut.{answer-same}
+use Rattle.questions.proofs.TurnsOfBlock.{GoesWith, begun-is, answered-is, Going, going-done}
 
 -- the answers of lines see no more of the first than is kept
 answers-first : (n : ℕ) → lineMost < n → (a b : List ℕ) (rest : List (List ℕ)) → take n a ≡ take n b → answersOf (a ∷ rest) ≡ answersOf (b ∷ rest)

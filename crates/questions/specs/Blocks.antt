@@ -26,7 +26,8 @@ use Rattle.lines.specs.Lines.{linesFrom, takenOf, keptInto}
 use Rattle.questions.specs.declared.Progress.{Progress}
 use Rattle.ask_answers.specs.Questions.{lineMost, questionOf}
 use Rattle.ask_answers.specs.Replies.{answerLine}
-use Rattle.ask_answers.specs.Answers.{tableRoom, answerMost, tableFor, answerRoom}
+use Rattle.ask_room.specs.Room.{tableRoom, answerMost, answerRoom}
+use Rattle.ask_answers.specs.Answers.{tableFor}
 
 abbrev pub askRoom : ℕ
 askRoom = lineMost + 1

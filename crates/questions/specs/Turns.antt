@@ -7,7 +7,7 @@ use mathlib.Core.List.{List, _++_}
 use Prim.Native.Nat.{ℕ, _+_, _<_, _≤_}
 use lib.ListN.{length, take, drop}
 use Rattle.questions.specs.declared.Progress.{Progress}
-use Rattle.ask_answers.specs.Answers.{tableRoom, answerMost}
+use Rattle.ask_room.specs.Room.{tableRoom, answerMost}
 use Rattle.questions.specs.Blocks.{askRoom, AskWork, askTurn, answersAfter}
 
 pub record Goes (block line out table : ℕ) (at : Progress) : Type 0 where

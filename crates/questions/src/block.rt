@@ -19,7 +19,7 @@ pub(crate) fn goes_on(block: usize, line: usize, out: usize, table: usize, at: P
     if line < LINE_ROOM {
         return false;
     }
-    ask_answers::has_room(table, out, at.filled)
+    ask_room::has_room(table, out, at.filled)
 }
 
 // Takes the characters up to the next LF, and answers the line if the LF was met.

@@ -26,10 +26,10 @@ use Rattle.recording_text.specs.declared.State.{State}
 use Rattle.recording_text.specs.declared.Progress.{Progress}
 use Rattle.decimals.specs.Decimal.{decimal}
 use Rattle.recording_text.specs.Text.{space, lineText}
-use Rattle.recording_text.specs.Listing.{octetsMost, messageMost, shownOf, Entry, entryFrom, entryOf, numberAfter, entryText, longest, listingFrom}
-use Rattle.recording_text.specs.Blocks.{lineRoom, Work, goesOn, ended, begun, turnOf, blockFrom, workOf, blockStart, blockOf, listingAfter, BlockAnswered}
-use Rattle.decimals.proofs.Puts.{number-most}
-use Rattle.recording_text.proofs.Cuts.{entry-same, begun-cut}
+use Rattle.recording_text.specs.Listing.{octetsMost, messageMost, shownOf, LineEntry, entryFrom, entryOf, numberAfter, entryText, longest, listingFrom}
+use Rattle.recording_text.specs.Blocks.{lineRoom, Work, goesOn, lineEnded, lineBegun, turnOf, blockFrom, workOf, blockStart, blockOf, listingAfter, BlockAnswered}
+use Rattle.decimals.proofs.CharactersPut.{number-most}
+use Rattle.recording_text.proofs.ListingCut.{entry-same, begun-cut}
 use Rattle.recording_text.proofs.TurnEquations.{Goes, goes, taken, kept, turn-ended, turn-begun, turn-goes, block-on, block-stops, block-done, on-with}
 
 -- no answer is longer than the longest
@@ -127,7 +127,7 @@ module _ (block : List ℕ) (w : Work) (g : Goes block w) where
   held : take (taken block w .kept) (kept block w) ≡ take size line
   held = kept-is block (w .at .next) (w .line) (state .kept)
 
-  abbrev entry : Entry
+  abbrev entry : LineEntry
   entry = entryOf (take (taken block w .kept) (kept block w)) (state .messages) (w .places)
 
   abbrev text : List ℕ
@@ -155,7 +155,7 @@ module _ (block : List ℕ) (w : Work) (g : Goes block w) where
   further-next : w .at .next ≤ taken block w .next
   further-next = omega (arith, next-more block (w .at .next) (length (w .line)) (state .kept) (g .more))
 
-  onto-ended : taken block w .ended ≡ true → Onto block w (ended (taken block w) (kept block w) w)
+  onto-ended : taken block w .ended ≡ true → Onto block w (lineEnded (taken block w) (kept block w) w)
   unfolding owed
   onto-ended e =
       record {
@@ -173,7 +173,7 @@ module _ (block : List ℕ) (w : Work) (g : Goes block w) where
         inside = λ h. next-most block (w .at .next) (length (w .line)) (state .kept);
       }
 
-  onto-begun : taken block w .ended ≡ false → Onto block w (begun (taken block w) (kept block w) w)
+  onto-begun : taken block w .ended ≡ false → Onto block w (lineBegun (taken block w) (kept block w) w)
   unfolding owed
   onto-begun e =
       record {

@@ -22,7 +22,7 @@ use Rattle.recording_text.specs.Listing.{entryOf, numberAfter, entryText
 use Rattle.recording_text.specs.Listing.{longest}
 use Rattle.recording_text.specs.Blocks.{closing, storedFrom, endOf, endRoom, EndAnswered}
 use Rattle.recording_text.specs.Inner.{Lists}
-use Rattle.decimals.proofs.Puts.{put-then, take-written, number-most}
+use Rattle.decimals.proofs.CharactersPut.{put-then, take-written, number-most}
 use Rattle.recording_text.proofs.BlockListed.{entry-most}
 
 -- the line that was begun

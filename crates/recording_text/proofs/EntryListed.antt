@@ -22,16 +22,16 @@ use Rattle.join_places.specs.declared.Record.{Record}
 use Rattle.join_answers.specs.declared.Output.{Output}
 use Rattle.join_answers.specs.declared.Output.the-variants.{Message, Nothing}
 use Rattle.joining.specs.declared.Outcome.{Outcome}
-use Rattle.joining.specs.Steps.{Step, Passes, Opens, Extends, Completes, Frees, Refuses}
+use Rattle.join_steps.specs.Steps.{LineStep, Passes, Opens, Extends, Completes, Frees, Refuses}
 use Rattle.join_answers.specs.Answers.{outputIn, answerNumber}
 use Rattle.joining.specs.Answers.{messageWritten, stepWithin, answerOfStep, answerTo, Does, Joins}
 use Rattle.join_laws.proofs.MessageFits.{message-fits}
 use Rattle.decimals.specs.Decimal.{decimal}
 use Rattle.decimals.specs.Puts.{Put}
 use Rattle.recording_text.specs.Text.{space, dash, lineText}
-use Rattle.recording_text.specs.Listing.{octetsMost, messageMost, shownOf, Entry, refusedEntry, joinedEntry, entryFrom, entryOf, longest}
+use Rattle.recording_text.specs.Listing.{octetsMost, messageMost, shownOf, LineEntry, refusedEntry, joinedEntry, entryFrom, entryOf, longest}
 use Rattle.recording_text.specs.Inner.{Lists}
-use Rattle.decimals.proofs.Puts.{take-written, number-most}
+use Rattle.decimals.proofs.CharactersPut.{take-written, number-most}
 
 -- the numbers of a line's answer, then what is shown
 pub line-text : (line answer : ℕ) (shown : List ℕ)
@@ -52,7 +52,7 @@ shown-none : (o : Output) (message : List ℕ) → o ≡ Nothing → shownOf o m
 shown-none (Message m) message e = clash cc
 shown-none Nothing message e = refl
 
-shown-count : (step : Step) (m n : ℕ) → outputIn (answerOfStep step m) ≡ Message n → n ≡ m
+shown-count : (step : LineStep) (m n : ℕ) → outputIn (answerOfStep step m) ≡ Message n → n ≡ m
 shown-count Passes m n e = cc
 shown-count (Opens i id) m n e = clash cc
 shown-count (Extends i) m n e = clash cc
@@ -64,7 +64,7 @@ shown-count (Refuses why) m n e = clash cc
 module _ (v : List ℕ) (before : Record) (places message : List ℕ) (r : Outcome) (placesLast messageLast : List ℕ)
     (room : length message ≡ messageMost) (j : Joins v before places message r placesLast messageLast)
   where
-    abbrev step : Step
+    abbrev step : LineStep
     step = stepWithin v before places messageMost
 
     abbrev shown : List ℕ
@@ -175,7 +175,7 @@ room-by size at h =
     (λ t. t ∙ sym (lt-leb (at + longest) size (omega (arith, leb-false at (size - longest) t))))
 
 -- a line that is no message
-pub lists-refused : (e : Entry) (before : Record) (places : List ℕ) (number code x : ℕ) (out : List ℕ) (at end : ℕ) (outLast : List ℕ) → code ≡ x
+pub lists-refused : (e : LineEntry) (before : Record) (places : List ℕ) (number code x : ℕ) (out : List ℕ) (at end : ℕ) (outLast : List ℕ) → code ≡ x
     → e ≡ refusedEntry x before places → Put out at (lineText number code dash) end outLast
     → Lists e number out at (record { after = before; end = end }) places outLast
 lists-refused e before places number code x out at end outLast c q p =

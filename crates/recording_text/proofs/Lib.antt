@@ -3,7 +3,7 @@
 pub mod MessagePut
 pub mod EntryListed
 pub mod TurnEquations
-pub mod Cuts
+pub mod ListingCut
 pub mod BlockListed
 pub mod EndListed
 pub mod RecordingListed

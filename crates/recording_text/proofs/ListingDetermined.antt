@@ -9,18 +9,18 @@ use Rattle.hexline.specs.Decoding.{lineOctets, decodedOf}
 use Rattle.lines.specs.Lines.{linesOf}
 use Rattle.join_places.specs.declared.Record.{Record}
 use Rattle.join_places.specs.Places.{placesSize, freshRecord}
-use Rattle.joining.specs.Steps.{Step}
+use Rattle.join_steps.specs.Steps.{LineStep}
 use Rattle.join_answers.specs.Answers.{outputIn, answerNumber}
 use Rattle.joining.specs.Answers.{stepWithin, answerOfStep}
 use Rattle.join_laws.proofs.PartsHeld.{fresh-start}
 use Rattle.join_laws.proofs.SameFromAlike.{Alike, fresh-alike, alike-step, alike-message, alike-after}
-use Rattle.recording_text.specs.Listing.{octetsMost, messageMost, shownOf, Entry, joinedEntry, entryFrom, entryOf, numberAfter, entryText, listingFrom, listingOf}
+use Rattle.recording_text.specs.Listing.{octetsMost, messageMost, shownOf, LineEntry, joinedEntry, entryFrom, entryOf, numberAfter, entryText, listingFrom, listingOf}
 use Rattle.recording_text.specs.Blocks.{freshState}
 use Rattle.recording_text.specs.Calls.{Calls}
 use Rattle.recording_text.proofs.RecordingListed.{recording-text}
 
 -- two entries that say the same, and leave the same record and places that hold the same
-record Agree (e f : Entry) : Type 0 where
+record Agree (e f : LineEntry) : Type 0 where
   number : e .number ≡ f .number
   shown : e .shown ≡ f .shown
   after : e .after ≡ f .after
@@ -31,7 +31,7 @@ module _ (r : Record) (p q : List ℕ) (a : Alike r p q) where
   joined-agree v =
       let step = stepWithin v r p messageMost in
       let m = alike-message r p q a v messageMost in
-      subst (λ (s : Step). Agree (joinedEntry step v r p) (joinedEntry s v r q)) (alike-step r p q a v messageMost)
+      subst (λ (s : LineStep). Agree (joinedEntry step v r p) (joinedEntry s v r q)) (alike-step r p q a v messageMost)
       (record {
         number = ap (λ (l : List ℕ). answerNumber (answerOfStep step (length l))) m;
         shown = ap (λ (l : List ℕ). shownOf (outputIn (answerOfStep step (length l))) l) m;

@@ -13,7 +13,7 @@ use Rattle.lines.specs.Lines.{lf, linesFrom}
 use Rattle.recording_text.specs.declared.State.{State}
 use Rattle.recording_text.specs.Listing.{longest, listingOf}
 use Rattle.recording_text.specs.Blocks.{lineRoom, closing, listingAfter, freshState, storedFrom, endOf, endRoom, EndAnswered}
-use Rattle.recording_text.specs.Calls.{Calls, next, ended, last, ReadThrough}
+use Rattle.recording_text.specs.Calls.{Calls, listNext, listEnded, listLast, ReadsSome, ReadThrough}
 use Rattle.recording_text.proofs.BlockListed.{done, block-answered, block-lined}
 use Rattle.recording_text.proofs.EndListed.{end-text}
 
@@ -24,9 +24,9 @@ unfolding linesFrom choose
 ended-by-lf state line places c rest e = rw e
 
 pub calls-text : {state : State} {line places input text : List ℕ} → Calls state line places input text → text ≡ listingAfter state line places input
-calls-text (ended state line places c rest text e d) = calls-text d ∙ ended-by-lf state line places c rest e
-calls-text (last state line places out n placesLast outLast a) = end-text line places out state n placesLast outLast a
-calls-text (next state line places out input block from rest r lineLast placesLast outLast text e a c) =
+calls-text (listEnded state line places c rest text e d) = calls-text d ∙ ended-by-lf state line places c rest e
+calls-text (listLast state line places out n placesLast outLast a) = end-text line places out state n placesLast outLast a
+calls-text (listNext state line places out input block from rest r lineLast placesLast outLast text e a c) =
     ap (λ (t : List ℕ). take (r .filled) outLast ++ t) (calls-text c) ∙ sym (a .listed rest)
     ∙ ap (listingAfter state line places) (sym e)
 
@@ -37,19 +37,22 @@ recording-text line places input text c = calls-text c
 
 -- with room for any line and any text, every input is read through: each call takes some of it, and the last one closes the listing
 module _ (out : List ℕ) (enough : longest + closing ≤ length out) where
-  closed : (state : State) (line places : List ℕ) → ReadThrough state line places []
+  closed : (state : State) (line places : List ℕ) → ReadThrough (length out) state line places []
+  unfolding ReadsSome
   closed state line places =
       let text = endOf line places state in
       let stored = storedFrom (state .messages) places (linesFrom (take (state .kept) line) []) in
       let has : endRoom out ≡ true = le-leb (longest + closing) (length out) enough in
       let a : EndAnswered line places out state (Upto (length text)) stored (sets out 0 text) = record { written = rw has; stored = rw has; output = rw has } in
-      record { text = take (length text) (sets out 0 text); calls = last state line places out (length text) stored (sets out 0 text) a }
+      record { text = take (length text) (sets out 0 text); calls = listLast state line places out (length text) stored (sets out 0 text) a; onward = refl }
 
   -- every input of at most n characters
   abbrev Through : ℕ → Type 0
-  Through n = (state : State) (line places input : List ℕ) → length input ≤ n → lineRoom ≤ length line → ReadThrough state line places input
+  Through n = (state : State) (line places input : List ℕ) → length input ≤ n → lineRoom ≤ length line
+      → ReadThrough (length out) state line places input
 
   one-more : (n : ℕ) → Through n → Through (suc n)
+  unfolding ReadsSome
   one-more n again state line places [] h l = closed state line places
   one-more n again state line places (c ∷ rest) h l =
       let input = c ∷ rest in
@@ -61,7 +64,8 @@ module _ (out : List ℕ) (enough : longest + closing ≤ length out) where
       let more = again (w .at .state) (w .line) (w .places) left less (omega (arith, block-lined input 0 line places out state)) in
       record {
         text = take (w .at .filled) (w .out) ++ more .text;
-        calls = next state line places out input input 0 [] (w .at) (w .line) (w .places) (w .out) (more .text) (sym (append-nil input)) a (more .calls);
+        calls = listNext state line places out input input 0 [] (w .at) (w .line) (w .places) (w .out) (more .text) (sym (append-nil input)) a (more .calls);
+        onward = (on, refl, more .onward);
       }
 
   none-left : Through 0
@@ -72,5 +76,11 @@ module _ (out : List ℕ) (enough : longest + closing ≤ length out) where
   through zero = none-left
   through (suc n) = one-more n (through n)
 
-  pub every-input : (line places input : List ℕ) → lineRoom ≤ length line → ReadThrough freshState line places input
+  pub every-input : (line places input : List ℕ) → lineRoom ≤ length line → ReadThrough (length out) freshState line places input
   every-input line places input l = through (length input) freshState line places input (omega arith) l
+
+  -- and so each of its lines is listed
+  pub every-listing : (line places input : List ℕ) (l : lineRoom ≤ length line) → every-input line places input l .text ≡ listingOf places input
+  every-listing line places input l =
+      let a = every-input line places input l in
+      recording-text line places input (a .text) (a .calls)

@@ -14,7 +14,7 @@ use Rattle.hexline.specs.Digit.{isDigit, digitValue, upperDigit}
 use Rattle.hexline.specs.Decoding.{octetOf, allDigits, lineOctets, digitsDecoded, decodedOf}
 use Rattle.hexline.specs.Encoding.{octetDigits}
 use Rattle.join_message.specs.Message.{corrected}
-use Rattle.joining.specs.Steps.{differs, continued, firstOf, withId, messageStep, stepOf}
+use Rattle.join_steps.specs.Steps.{differs, continued, firstOf, withId, messageStep, stepOf}
 use Rattle.lines.specs.Lines.{linesFrom}
 use Rattle.join_places.specs.Places.{placesSize, sumOver, someWith, firstWith, isOpenWith, placeOfId, lowestFree, openCount}
 use Rattle.join_places.specs.Places.{bothOpen, openBefore, idOpenTwice, lengthWrong, someLengthWrong, badRecord}

@@ -15,7 +15,7 @@ use Rattle.lines.proofs.LinesOfBlocks.{next-more}
 use Rattle.recording_text.specs.declared.line.Listed.{Listed}
 use Rattle.recording_text.specs.Listing.{entryOf, numberAfter}
 use Rattle.recording_text.specs.Listing.{longest}
-use Rattle.recording_text.specs.Blocks.{lineRoom, Work, goesOn, ended, begun, turnOf, blockFrom, workOf}
+use Rattle.recording_text.specs.Blocks.{lineRoom, Work, goesOn, lineEnded, lineBegun, turnOf, blockFrom, workOf}
 use Rattle.recording_text.specs.Inner.{Lists}
 
 -- whether a block goes on, in the order of the tests
@@ -53,11 +53,11 @@ module _ (block : List ℕ) (w : Work) where
   abbrev pub kept : List ℕ
   kept = keptInto block (w .at .next) (w .line) (w .at .state .kept)
 
-  pub turn-ended : taken .ended ≡ true → turnOf block w ≡ ended taken kept w
+  pub turn-ended : taken .ended ≡ true → turnOf block w ≡ lineEnded taken kept w
   unfolding turnOf choose
   turn-ended e = rw e
 
-  pub turn-begun : taken .ended ≡ false → turnOf block w ≡ begun taken kept w
+  pub turn-begun : taken .ended ≡ false → turnOf block w ≡ lineBegun taken kept w
   unfolding turnOf choose
   turn-begun e = rw e
 
@@ -79,14 +79,14 @@ module _ (block : List ℕ) (w : Work) where
 
 -- the steps of a turn amount to it
 module _ (block : List ℕ) (w : Work) (t : Taken) (l : List ℕ) (k : LineTaken block (w .at .next) (w .line) (w .at .state .kept) t l) where
-  pub begun-is : t .ended ≡ false → begun t l w ≡ turnOf block w
+  pub begun-is : t .ended ≡ false → lineBegun t l w ≡ turnOf block w
   begun-is e =
-      ap (λ (x : Taken). begun x l w) (k .answered) ∙ ap (λ (x : List ℕ). begun (taken block w) x w) (k .filled)
+      ap (λ (x : Taken). lineBegun x l w) (k .answered) ∙ ap (λ (x : List ℕ). lineBegun (taken block w) x w) (k .filled)
       ∙ sym (turn-begun block w (sym (ap (λ (x : Taken). x .ended) (k .answered)) ∙ e))
 
-  ended-is : t .ended ≡ true → ended t l w ≡ turnOf block w
+  ended-is : t .ended ≡ true → lineEnded t l w ≡ turnOf block w
   ended-is e =
-      ap (λ (x : Taken). ended x l w) (k .answered) ∙ ap (λ (x : List ℕ). ended (taken block w) x w) (k .filled)
+      ap (λ (x : Taken). lineEnded x l w) (k .answered) ∙ ap (λ (x : List ℕ). lineEnded (taken block w) x w) (k .filled)
       ∙ sym (turn-ended block w (sym (ap (λ (x : Taken). x .ended) (k .answered)) ∙ e))
 
   pub answered-is : t .ended ≡ true → (number : ℕ) → number ≡ numberAfter (w .at .state .lines) → (r : Listed) (placesLast outLast : List ℕ)

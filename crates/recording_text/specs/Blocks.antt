@@ -5,8 +5,8 @@
 --   Work             where a call stands in the block and the output, and the lent memory as it is then
 --   goesOn           whether characters are left in the block, and the line's memory and the output have room for any line and its answer
 --   answering        a line's answer is written behind those before it, and the next line is begun
---   ended            a line whose LF was met is answered,
---   begun            and any other goes on in the next block
+--   lineEnded        a line whose LF was met is answered,
+--   lineBegun        and any other goes on in the next block
 --   byTaken          by whether the LF was met
 --   turnOf           the characters up to the next LF are taken
 --   blockFrom        turn by turn, as long as it goes on
@@ -30,16 +30,17 @@ use lib.Seq.{sets}
 use Rattle.choices.specs.Branch.{choose}
 use Rattle.cdr_write.specs.declared.Written.{Written}
 use Rattle.cdr_write.specs.declared.Written.the-variants.{Upto, NoRoom}
+use Rattle.hexline.specs.Decoding.{lineLimit}
 use Rattle.lines.specs.declared.Taken.{Taken}
 use Rattle.lines.specs.Lines.{linesFrom, takenOf, keptInto}
 use Rattle.join_places.specs.declared.Record.{Record}
 use Rattle.join_places.specs.Places.{freshRecord}
 use Rattle.recording_text.specs.declared.State.{State}
 use Rattle.recording_text.specs.declared.Progress.{Progress}
-use Rattle.recording_text.specs.Listing.{Entry, entryOf, numberAfter, entryText, longest, listingFrom}
+use Rattle.recording_text.specs.Listing.{LineEntry, entryOf, numberAfter, entryText, longest, listingFrom}
 
 abbrev pub lineRoom : ℕ
-lineRoom = 8193
+lineRoom = lineLimit + 1
 
 abbrev pub closing : ℕ
 closing = 46
@@ -56,7 +57,7 @@ pub record Work : Type 0 where
 unfoldable pub goesOn : List ℕ → Work → Bool
 goesOn block w = ltb (w .at .next) (length block) && (leb lineRoom (length (w .line)) && hasRoom (w .out) (w .at .filled))
 
-abbrev pub answering : ℕ → Entry → ℕ → List ℕ → Work → Work
+abbrev pub answering : ℕ → LineEntry → ℕ → List ℕ → Work → Work
 answering number e next line w =
     record {
       at = record {
@@ -69,12 +70,12 @@ answering number e next line w =
       out = sets (w .out) (w .at .filled) (entryText number e);
     }
 
-abbrev pub ended : Taken → List ℕ → Work → Work
-ended t line w =
+abbrev pub lineEnded : Taken → List ℕ → Work → Work
+lineEnded t line w =
     answering (numberAfter (w .at .state .lines)) (entryOf (take (t .kept) line) (w .at .state .messages) (w .places)) (t .next) line w
 
-abbrev pub begun : Taken → List ℕ → Work → Work
-begun t line w =
+abbrev pub lineBegun : Taken → List ℕ → Work → Work
+lineBegun t line w =
     record {
       at = record {
         state = record { messages = w .at .state .messages; lines = w .at .state .lines; kept = t .kept };
@@ -87,7 +88,7 @@ begun t line w =
     }
 
 abbrev pub byTaken : Taken → List ℕ → Work → Work
-byTaken t line w = choose (t .ended) (λ _. ended t line w) (λ _. begun t line w)
+byTaken t line w = choose (t .ended) (λ _. lineEnded t line w) (λ _. lineBegun t line w)
 
 unfoldable pub turnOf : List ℕ → Work → Work
 turnOf block w =

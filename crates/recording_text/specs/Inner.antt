@@ -8,7 +8,7 @@ use Prim.Native.Nat.{ℕ, _+_, _≤_}
 use lib.ListN.{length}
 use Rattle.decimals.specs.Puts.{Put}
 use Rattle.recording_text.specs.declared.line.Listed.{Listed}
-use Rattle.recording_text.specs.Listing.{octetsMost, messageMost, Entry, entryText, longest}
+use Rattle.recording_text.specs.Listing.{octetsMost, messageMost, LineEntry, entryText, longest}
 
 pub record Memory (octets message : List ℕ) : Type 0 where
   pub decoded : length octets ≡ octetsMost
@@ -18,7 +18,7 @@ pub record Room (out : List ℕ) (at : ℕ) (octets message : List ℕ) : Type 0
   pub text : at + longest ≤ length out
   pub memory : Memory octets message
 
-pub record Lists (e : Entry) (number : ℕ) (out : List ℕ) (at : ℕ) (r : Listed) (placesLast outLast : List ℕ) : Type 0 where
+pub record Lists (e : LineEntry) (number : ℕ) (out : List ℕ) (at : ℕ) (r : Listed) (placesLast outLast : List ℕ) : Type 0 where
   pub after : r .after ≡ e .after
   pub stored : placesLast ≡ e .stored
   pub text : Put out at (entryText number e) (r .end) outLast

@@ -2,7 +2,7 @@
 --   octetsMost      "at most 4,096 octets" of a line
 --   messageMost     the octets of the longest message
 --   shownOf         "the message, in upper case, or `-`"
---   Entry           what a line is answered: the answer's number, what is shown, and the record and its places afterwards
+--   LineEntry       what a line is answered: the answer's number, what is shown, and the record and its places afterwards
 --   refusedEntry    a line that is no message changes nothing
 --   joinedEntry     a line's octets by the step that they take
 --   entryFrom       a line by what decoding it gives
@@ -24,7 +24,7 @@ use Rattle.join_places.specs.declared.Record.{Record}
 use Rattle.join_places.specs.Places.{placeSize, freshRecord, openCount}
 use Rattle.join_answers.specs.declared.Output.{Output}
 use Rattle.join_answers.specs.declared.Output.the-variants.{Message, Nothing}
-use Rattle.joining.specs.Steps.{Step}
+use Rattle.join_steps.specs.Steps.{LineStep}
 use Rattle.join_answers.specs.Answers.{outputIn, answerNumber}
 use Rattle.joining.specs.Answers.{messageWritten, stepWithin, answerTo, recordAfter, placesAfter}
 use Rattle.recording_text.specs.Text.{dash, lineText, endText}
@@ -39,16 +39,16 @@ abbrev pub shownOf : Output → List ℕ → List ℕ
 shownOf (Message n) message = octetDigits message
 shownOf Nothing message = dash
 
-pub record Entry : Type 0 where
+pub record LineEntry : Type 0 where
   pub number : ℕ
   pub shown : List ℕ
   pub after : Record
   pub stored : List ℕ
 
-abbrev pub refusedEntry : ℕ → Record → List ℕ → Entry
+abbrev pub refusedEntry : ℕ → Record → List ℕ → LineEntry
 refusedEntry number r places = record { number = number; shown = dash; after = r; stored = places }
 
-abbrev pub joinedEntry : Step → List ℕ → Record → List ℕ → Entry
+abbrev pub joinedEntry : LineStep → List ℕ → Record → List ℕ → LineEntry
 joinedEntry step v r places =
     record {
       number = answerNumber (answerTo step r v places);
@@ -57,20 +57,20 @@ joinedEntry step v r places =
       stored = placesAfter step r v places;
     }
 
-abbrev pub entryFrom : Decoded → List ℕ → Record → List ℕ → Entry
+abbrev pub entryFrom : Decoded → List ℕ → Record → List ℕ → LineEntry
 entryFrom (Octets n) v r places = joinedEntry (stepWithin v r places messageMost) v r places
 entryFrom TooLong v r places = refusedEntry (decodedNumber TooLong) r places
 entryFrom NotDigits v r places = refusedEntry (decodedNumber NotDigits) r places
 -- never given: at most 8,192 digits have at most 4,096 octets
 entryFrom NoRoom v r places = refusedEntry (decodedNumber NoRoom) r places
 
-unfoldable pub entryOf : List ℕ → Record → List ℕ → Entry
+unfoldable pub entryOf : List ℕ → Record → List ℕ → LineEntry
 entryOf line r places = entryFrom (decodedOf line octetsMost) (lineOctets line) r places
 
 abbrev pub numberAfter : ℕ → ℕ
 numberAfter k = (k + 1) % 2 ^ 64
 
-abbrev pub entryText : ℕ → Entry → List ℕ
+abbrev pub entryText : ℕ → LineEntry → List ℕ
 entryText number e = lineText number (e .number) (e .shown)
 
 abbrev pub longest : ℕ

@@ -12,7 +12,7 @@ mod text;
 pub const LONGEST: usize = 32811;
 
 // The characters that are kept of a line: one more than a line may have tells an over-long one.
-pub const LINE_ROOM: usize = 8193;
+pub const LINE_ROOM: usize = hexline::LINE_LIMIT + 1;
 
 // The characters of the longest closing line: two numbers of at most 20 digits, `end`, two spaces and an LF.
 pub const CLOSING: usize = 46;

@@ -16,15 +16,15 @@ use Rattle.cdr.specs.declared.Size.the-variants.{One}
 use Rattle.value_meaning.specs.Visit.{sizeOf}
 use Rattle.cdr.specs.Align.{octets, gap, behindGap}
 use Rattle.cdr.specs.Number.{octetsOf}
-use Rattle.cdr.proofs.Alignment.{octets-small, gap-small}
-use Rattle.cdr.proofs.Numbers.{octets-length}
+use Rattle.cdr.proofs.GapsBounded.{octets-small, gap-small}
+use Rattle.cdr.proofs.NumbersGivenBack.{octets-length}
 use Rattle.cdr.specs.Limit.{octetsLimit}
 use Rattle.value_meaning.specs.Sinks.{Item, item}
 use Rattle.cdr_write.specs.declared.Written.{Written}
 use Rattle.cdr_write.specs.Write.{Stored}
 use Rattle.cdr_write.proofs.BufferHolds.{sets-append, one-octet, stored-fits}
 use Rattle.rewrite_meaning.specs.Written.{Target}
-use Rattle.rewrite_meaning.proofs.Pieces.{part-length}
+use Rattle.rewrite_meaning.proofs.SameOctets.{part-length}
 use Rattle.rewrite.specs.Inner.{widthOf, Octet, headOf, tailOf, itemEnd, itemOctets, upTo, reach, rowOf, Sized, Rows}
 
 -- the next item, and how far it reaches

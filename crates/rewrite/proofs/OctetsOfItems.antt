@@ -16,8 +16,8 @@ use Rattle.cdr.specs.declared.Read.{Read}
 use Rattle.cdr.specs.declared.Read.the-variants.{Number, Ends}
 use Rattle.cdr.specs.Align.{octets, gap}
 use Rattle.cdr.specs.Number.{Octets, octetsOf, signExtended}
-use Rattle.cdr.proofs.Alignment.{read-facts}
-use Rattle.cdr.proofs.Numbers.{number-small, octets-extended}
+use Rattle.cdr.proofs.GapsBounded.{read-facts}
+use Rattle.cdr.proofs.NumbersGivenBack.{number-small, octets-extended}
 use Rattle.value_items.specs.Items.{signedKind}
 use Rattle.type_kinds.specs.declared.Form.the-variants.{Plain}
 use Rattle.type_kinds.specs.declared.Inner.{Inner}
@@ -28,7 +28,7 @@ use Rattle.type_unions.specs.Shapes.Shape.{flat}
 use Rattle.type_kinds.specs.Forms.{formOf}
 use Rattle.cdr_text.specs.Text.{overBound, endsText}
 use Rattle.value_meaning.specs.Sinks.{Source, Item, item, Piece, number, run, St, failed, onRead, taken, putIn, done, readAt, tookNumber}
-use Rattle.value_meaning.specs.Sinks.{numberStep, octetsAt, tookOctets, octetsStep}
+use Rattle.value_meaning.specs.Sinks.{numberTaken, octetsAt, tookOctets, octetsStep}
 use Rattle.value_meaning.specs.Visit.{Checked, sizeOf, contentOf, leafDone, leafAt, enumDone, enumAt, textDone, textGot, textAt, countDone}
 use Rattle.value_meaning.specs.Visit.{countAt, tagDone, tagAt, runDone, runGot, runAt}
 use Rattle.value_meaning.specs.Reading.{Log, logging, levels, atStart, topOf, reading}
@@ -198,8 +198,8 @@ module _ (to : Target) (full : ℕ → Bool) (x : Source) (ok : Octets (x .octet
 
     number-tells : (z : Size) (f : ℕ → ℕ → St Log → St Log)
         → ((p n : ℕ) → readAt (logging full) x z s ≡ Number p n → Tells (f p n (tookNumber (logging full) z p n s)))
-        → Tells (numberStep (logging full) x z f s)
-    unfolding numberStep
+        → Tells (numberTaken (logging full) x z f s)
+    unfolding numberTaken
     number-tells z f g = read-tells z f g (readAt (logging full) x z s) refl
 
     -- a number that is an item of its own

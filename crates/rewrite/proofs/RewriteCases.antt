@@ -24,10 +24,10 @@ use Rattle.value_meaning.specs.Visit.{checked}
 use Rattle.value_meaning.specs.Reading.{anyRoom, reading}
 use Rattle.value_meaning.specs.Value.{readingOf}
 use Rattle.value_meaning.proofs.VisitsBounded.{items-bound}
-use Rattle.value.specs.declared.Judged.{Judged}
-use Rattle.value.specs.declared.Judged.the-variants.{Accepted as acceptedType, Refused as refusedType}
-use Rattle.value.specs.Typed.{Typed, typedFor}
-use Rattle.value.proofs.AnswerCases.{onJudged, under, answer-judged, bounded}
+use Rattle.value_typed.specs.declared.Judged.{Judged}
+use Rattle.value_typed.specs.declared.Judged.the-variants.{Accepted as acceptedType, Refused as refusedType}
+use Rattle.value_typed.specs.Typed.{Typed, typedFor}
+use Rattle.value_typed.proofs.TypedCases.{onJudged, under, answer-judged, bounded}
 use Rattle.rewrite_meaning.specs.declared.RewriteAnswer.{RewriteAnswer}
 use Rattle.rewrite_meaning.specs.declared.RewriteAnswer.the-variants.{Refused}
 use Rattle.rewrite_meaning.specs.Written.{Target, written}

@@ -12,27 +12,27 @@ use Rattle.cdr.specs.Number.{Octets}
 use Rattle.value_meaning.specs.Sinks.{Source, Item, St}
 use Rattle.value_meaning.specs.Visit.{Checked}
 use Rattle.value_meaning.specs.Reading.{Log, anyRoom, reads, levels, topOf, reading}
-use Rattle.value_meaning.specs.Value.{flat, itemNo}
+use Rattle.value_meaning.specs.Value.{itemRows, itemNo}
 use Rattle.value_cursor.specs.declared.Cursor.{Cursor}
 use Rattle.value_cursor.specs.Lent.{lentSink}
 use Rattle.value_cursor.specs.Walk.{stateOf, cursorStart}
 use Rattle.value_leaves.proofs.ItemsInTable.{filled}
-use Rattle.value.proofs.WalksLeaveReading.{After, after-walk}
+use Rattle.value_typed.proofs.AfterWalk.{After, after-walk}
 use Rattle.rewrite_meaning.specs.declared.RewriteAnswer.the-variants.{Accepted, Refused}
 use Rattle.rewrite_meaning.specs.Written.{Target, written}
 use Rattle.rewrite_meaning.specs.Rewriting.{rewriteOf}
-use Rattle.rewrite.specs.Inner.{tailOf, upTo, reach, rowOf, Rows, Readable, Holds, Rewrites}
+use Rattle.rewrite.specs.Inner.{tailOf, upTo, reach, rowOf, Rows, Readable, RoomForItems, Rewrites}
 use Rattle.rewrite.proofs.ItemsWritten.{up-length}
 use Rattle.rewrite.proofs.OctetsOfItems.{up-same, Told, reading-told}
 
 -- items as numbers, three each
-flat-length : (is : List Item) → length (flat is) ≡ length is * 3
-unfolding flat
+flat-length : (is : List Item) → length (itemRows is) ≡ length is * 3
+unfolding itemRows
 flat-length [] = refl
 flat-length (i ∷ is) = let e = flat-length is in omega arith
 
-flat-row : (is : List Item) (k : ℕ) → k < length is → rowOf (flat is) k ≡ itemNo is k
-unfolding flat itemNo
+flat-row : (is : List Item) (k : ℕ) → k < length is → rowOf (itemRows is) k ≡ itemNo is k
+unfolding itemRows itemNo
 flat-row [] k h = absurd (omega arith)
 flat-row (i ∷ is) zero h = refl
 flat-row (i ∷ is) (suc k) h =
@@ -46,15 +46,15 @@ same-row : (l m : List ℕ) (k : ℕ) → k * 3 + 2 < length l → rowOf (l ++ m
 same-row l m k h =
     rw (List·getD-append l m 0 (k * 3) (omega arith), List·getD-append l m 0 (k * 3 + 1) (omega arith), List·getD-append l m 0 (k * 3 + 2) h)
 
-table-row : (is : List Item) (table : List ℕ) → length is * 3 ≤ length table → (k : ℕ) → k < length is → rowOf (sets table 0 (flat is)) k ≡ itemNo is k
+table-row : (is : List Item) (table : List ℕ) → length is * 3 ≤ length table → (k : ℕ) → k < length is → rowOf (sets table 0 (itemRows is)) k ≡ itemNo is k
 table-row is table fits k h =
     let n = flat-length is in
-    ap (λ (l : List ℕ). rowOf l k) (sets-eq (flat is) table 0 (omega arith))
-    ∙ same-row (flat is) (drop (0 + length (flat is)) table) k (omega arith)
+    ap (λ (l : List ℕ). rowOf l k) (sets-eq (itemRows is) table 0 (omega arith))
+    ∙ same-row (itemRows is) (drop (0 + length (itemRows is)) table) k (omega arith)
     ∙ flat-row is k h
 
 -- a walk that fills a table with room for all items
-module _ (t : Checked) (x : Source) (to : Target) (ok : Octets (x .octets)) (readable : Readable t x) (table : List ℕ) (holds : Holds table (x .octets))
+module _ (t : Checked) (x : Source) (to : Target) (ok : Octets (x .octets)) (readable : Readable t x) (table : List ℕ) (holds : RoomForItems table (x .octets))
     (c : Cursor) (after : List ℕ)
     (walked : stateOf c after ≡ reads (lentSink false true 0) x t levels (topOf t) (stateOf cursorStart table)) where
   abbrev whole : St Log
@@ -69,7 +69,7 @@ module _ (t : Checked) (x : Source) (to : Target) (ok : Octets (x .octets)) (rea
   fit : length items * 3 ≤ length table
   fit = let f = readable .few anyRoom in omega (arith, holds)
 
-  rows-are : after ≡ sets table 0 (flat items)
+  rows-are : after ≡ sets table 0 (itemRows items)
   rows-are = walk-left .rows ∙ filled items table (let f = fit in omega arith)
 
   module _ (out : List ℕ) where
@@ -97,7 +97,7 @@ module _ (t : Checked) (x : Source) (to : Target) (ok : Octets (x .octets)) (rea
           let n : c .items ≡ length items = walk-left .items in
           let s = readable .short in
           let f = readable .few anyRoom in
-          let l : length after ≡ length table = ap length rows-are ∙ length-sets table 0 (flat items) in
+          let l : length after ≡ length table = ap length rows-are ∙ length-sets table 0 (itemRows items) in
           let g = fit in
           record {
             sized = record {

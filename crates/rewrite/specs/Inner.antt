@@ -13,7 +13,7 @@
 --   Rows         a table whose first n rows are items of a value
 --   Readable     a value that is not too long, under an accepted type: a machine word holds its visits, it has no more items than octets,
 --                and kinds without parameters are null, void and primitives
---   Holds        a table with room for as many items as a value has octets
+--   RoomForItems  a table with room for as many items as a value has octets
 --   Rewrites     an answer and an output that are those of a reading
 use Rattle.choices.specs.{_≡_, Bool, cond, _||_, List, [], _++_, ℕ, zero, suc, _+_, _*_, _≤_, _<_, eqb, length, getD, take, drop}
 use Rattle.choices.specs.{replicate}
@@ -22,7 +22,7 @@ use Rattle.type_kinds.specs.{Plain, Inner, Leaf, Forms.formOf}
 use Rattle.type_unions.specs.{flat}
 use Rattle.type_numbers.specs.Kinds.{enumKind, stringKind, sequenceKind, runKind}
 use Rattle.value_meaning.specs.{Source, Item, item, anyRoom, reading, Visit.Checked, Visit.sizeOf}
-use Rattle.value.specs.Typed.{Bounded}
+use Rattle.value_typed.specs.Typed.{FitsWords}
 use Rattle.rewrite_meaning.specs.{declared.RewriteAnswer.RewriteAnswer, Written.Target, Written.written, Rewriting.rewriteOf, Rewriting.writtenBy}
 
 unfoldable pub widthOf : ℕ → Size
@@ -69,13 +69,13 @@ pub record Rows (v rows : List ℕ) (n : ℕ) : Type 0 where
   pub inside : (k : ℕ) → k < n → rowOf rows k .place + tailOf (rowOf rows k .kind) (rowOf rows k .content) ≤ length v
 
 pub record Readable (t : Checked) (x : Source) : Type 0 where
-  pub bounded : Bounded t x
+  pub bounded : FitsWords t x
   pub short : length (x .octets) ≤ octetsLimit
   pub few : (full : ℕ → Bool) → length (reading full x t .kept .items) ≤ length (x .octets)
   pub plain : (y : Inner) (kind : ℕ) → t .look y ≡ flat (Leaf kind) → formOf kind ≡ Plain
 
-abbrev pub Holds : List ℕ → List ℕ → Type 0
-Holds table v = length v * 3 ≤ length table
+abbrev pub RoomForItems : List ℕ → List ℕ → Type 0
+RoomForItems table v = length v * 3 ≤ length table
 
 pub record Rewrites (t : Checked) (x : Source) (to : Target) (out : List ℕ) (r : RewriteAnswer) (last : List ℕ) : Type 0 where
   pub answer : r ≡ rewriteOf (reading anyRoom x t) to (length out)

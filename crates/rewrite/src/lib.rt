@@ -7,13 +7,13 @@ ghost use Rattle.value_meaning.specs.Visit.{checked};
 ghost use Rattle.rewrite_meaning.specs.Written.{target, unnamedOrder};
 ghost use Rattle.rewrite_meaning.specs.Rewriting.{rewriteAnswer, outputAfter};
 ghost use Rattle.type_list.specs.Arrays.{kindsMet};
-ghost use Rattle.rewrite.specs.Inner.{Readable, Holds, Rewrites};
+ghost use Rattle.rewrite.specs.Inner.{Readable, RoomForItems, Rewrites};
 use cdr::Index;
 use cdr::Order;
 use rewrite_meaning::RewriteAnswer;
 use type_list::Met;
-use value::Judged;
 use value_cursor::Mode;
+use value_typed::Judged;
 
 mod rows;
 
@@ -45,7 +45,7 @@ pub fn rewrite(
         (now (out .entry)))
         ⌝ }
 {
-    let c = value::check(types, torder, value.len());
+    let c = value_typed::check(types, torder, value.len());
     let met = c.met;
     let judged = c.judged;
     match judged {
@@ -132,7 +132,7 @@ fn rewrite_with(
     table: &mut [u64],
     out: &mut [u8],
 ) -> RewriteAnswer
-    requires { ⌜ (Readable (checked (now types) (kindsMet met)) (source (now value) order start)) × (Holds (now table) (now value)) ⌝ }
+    requires { ⌜ (Readable (checked (now types) (kindsMet met)) (source (now value) order start)) × (RoomForItems (now table) (now value)) ⌝ }
     ensures { λ r. ⌜
         Rewrites (checked (now (types .entry)) (kindsMet met)) (source (now (value .entry)) order start) (target chosen index) (now (out .entry))
         r (now (out .exit))

@@ -10,8 +10,8 @@ use Rattle.cdr.specs.declared.Size.{Size}
 use Rattle.cdr.specs.declared.Order.{Order}
 use Rattle.cdr.specs.Align.{octets, gap, behindGap}
 use Rattle.cdr.specs.Number.{Octets, octetsOf, numberAt}
-use Rattle.cdr.proofs.Alignment.{NumberRead}
-use Rattle.cdr.proofs.Numbers.{part-octets, octets-of-number}
+use Rattle.cdr.proofs.GapsBounded.{NumberRead}
+use Rattle.cdr.proofs.NumbersGivenBack.{part-octets, octets-of-number}
 use Rattle.value_meaning.specs.Sinks.{Source, Piece, number, run}
 use Rattle.value_meaning.specs.Visit.{Checked}
 use Rattle.value_meaning.specs.Reading.{reading}
@@ -19,7 +19,7 @@ use Rattle.rewrite_meaning.specs.Written.{wrote, writes, written, gapZer
 use Rattle.rewrite_meaning.specs.RoundTrip.{firstTarget}
 use Rattle.rewrite_meaning.proofs.PiecesKeep.{EachKeeps, reading-keeps}
 use Rattle.cdr_write.proofs.PiecesWritten.{writes-more, writes-none, number-length}
-use Rattle.rewrite_meaning.proofs.Pieces.{part-length}
+use Rattle.rewrite_meaning.proofs.SameOctets.{part-length}
 
 -- one piece more
 gapsZeroed-more : (v : List ℕ) (ps : List Piece) (p : Piece) → gapsZeroed v (ps ++ (p ∷ [])) ≡ gapZeroed (gapsZeroed v ps) p

@@ -1,6 +1,6 @@
 -- Laws that other crates cite.
 pub mod PiecesKeep
-pub mod Pieces
+pub mod SameOctets
 pub mod SevenMore
 pub mod AcceptedAnyRoom
 pub mod ReadBeside

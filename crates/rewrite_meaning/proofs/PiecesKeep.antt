@@ -6,7 +6,7 @@ use Prim.Native.Nat.{ℕ, _+_, _-_, _≤_}
 use lib.ListN.{length, take, drop}
 use Rattle.cdr.specs.declared.Size.{Size}
 use Rattle.cdr.specs.Align.{octets}
-use Rattle.cdr.proofs.Alignment.{NumberRead, read-facts}
+use Rattle.cdr.proofs.GapsBounded.{NumberRead, read-facts}
 use Rattle.value_meaning.specs.Sinks.{Source, Piece, number, run, St, taken}
 use Rattle.value_meaning.specs.Visit.{Checked}
 use Rattle.value_meaning.specs.Reading.{Log, logging, levels, atStart, topOf, reading}

@@ -10,15 +10,15 @@ use Rattle.cdr.specs.declared.Size.{Size}
 use Rattle.cdr.specs.declared.Read.the-variants.{Number}
 use Rattle.cdr.specs.Align.{octets, behindGap}
 use Rattle.cdr.specs.Number.{Octets, readOf}
-use Rattle.cdr.proofs.Alignment.{read-facts}
-use Rattle.cdr.proofs.Numbers.{number-small}
+use Rattle.cdr.proofs.GapsBounded.{read-facts}
+use Rattle.cdr.proofs.NumbersGivenBack.{number-small}
 use Rattle.value_meaning.specs.Sinks.{Source, source, item, Piece, number, run, St, taken, readAt, tookNumber, tookOctets}
 use Rattle.value_meaning.specs.Visit.{Checked}
 use Rattle.value_meaning.specs.Reading.{Log, logging, levels, atStart, topOf, reading}
 use Rattle.value_meaning.proofs.SideBySide.{Steps, SameNumber, SameOctets, reads-step}
 use Rattle.rewrite_meaning.specs.Written.{Target, wrote, writes, written, unplaced, bare}
 use Rattle.cdr_write.proofs.PiecesWritten.{writes-more, writes-none, number-length, middle, number-back}
-use Rattle.rewrite_meaning.proofs.Pieces.{part-length}
+use Rattle.rewrite_meaning.proofs.SameOctets.{part-length}
 
 -- two lists that f maps to the same: as long as one another, and with one more each
 module _ {A B : Type 0} (f : A → B) where

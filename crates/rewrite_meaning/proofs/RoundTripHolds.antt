@@ -23,7 +23,7 @@ use Rattle.rewrite_meaning.specs.declared.RewriteAnswer.the-variants.{Ac
 use Rattle.rewrite_meaning.specs.Written.{Target, written, usedZeroed}
 use Rattle.rewrite_meaning.specs.Rewriting.{rewriteAnswer, rewritten, writtenBy, outputAfter}
 use Rattle.rewrite_meaning.specs.RoundTrip.{result, firstTarget, ReadBack, RewrittenBack, ReadsBack, RewritesBack}
-use Rattle.rewrite_meaning.proofs.Pieces.{same-octets}
+use Rattle.rewrite_meaning.proofs.SameOctets.{same-octets}
 use Rattle.rewrite_meaning.proofs.AcceptedAnyRoom.{accepted-any}
 use Rattle.rewrite_meaning.proofs.ReadBeside.{Beside, same-count, reads-beside}
 use Rattle.rewrite_meaning.proofs.GapsAreZeroed.{own-octets, own-count}

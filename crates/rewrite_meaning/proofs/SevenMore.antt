@@ -8,14 +8,14 @@ use lib.ListN.{length, take, drop}
 use Rattle.cdr.specs.declared.Size.{Size}
 use Rattle.cdr.specs.declared.Size.the-variants.{One, Two, Four, Eight}
 use Rattle.cdr.specs.Align.{octets, aligned}
-use Rattle.cdr.proofs.Alignment.{gap-modulo-8}
+use Rattle.cdr.proofs.GapsBounded.{gap-modulo-8}
 use Rattle.value_meaning.specs.Sinks.{Source, Piece, number, run}
 use Rattle.value_meaning.specs.Visit.{Checked}
 use Rattle.value_meaning.specs.Reading.{reading}
 use Rattle.rewrite_meaning.specs.Written.{Target, writes, written}
 use Rattle.rewrite_meaning.proofs.PiecesKeep.{EachKeeps, reading-keeps}
 use Rattle.cdr_write.proofs.PiecesWritten.{writes-more, writes-none, number-length, run-length}
-use Rattle.rewrite_meaning.proofs.Pieces.{part-length}
+use Rattle.rewrite_meaning.proofs.SameOctets.{part-length}
 
 -- an index at most another and some eights is so when both are aligned
 aligned-near : (size : Size) (i j k : ℕ) → i ≤ j + 8 * k → aligned i (octets size) ≤ aligned j (octets size) + 8 * k

@@ -19,7 +19,8 @@ use Rattle.rewrite_meaning.specs.Written.{Target, target, unnamedOrder}
 use Rattle.rewrite_meaning.specs.Rewriting.{writtenCount, rewriteAnswer, outputAfter}
 use Rattle.profile.specs.Profile.{profileOf, componentOf}
 use Rattle.c_messages.specs.Answers.{decodedCount, encodedCount, headerAfter, joinedCount}
-use Rattle.c_values.specs.Types.{orderOfFlag, usedAfter}
+use Rattle.cdr.specs.Orders.{orderOfFlag}
+use Rattle.c_types.specs.Types.{usedAfter}
 use Rattle.c_values.specs.Values.{valueAt}
 use Rattle.c_profiles.specs.Answers.{rowAfter, foundAfter}
 use Rattle.samples.specs.Tables.{paper, Sample, sample, allAnswered}

@@ -15,7 +15,7 @@ use Rattle.hexline.specs.Encoding.{octetDigits, encodedOf, encodedInto, encoded
 use Rattle.lines.specs.Lines.{linesFrom}
 use Rattle.decimals.specs.Decimal.{decimalWithin, decimal}
 use Rattle.join_places.specs.Places.{freshRecord, opened}
-use Rattle.joining.specs.Steps.{stepOf}
+use Rattle.join_steps.specs.Steps.{stepOf}
 use Rattle.recording_text.specs.declared.State.{State}
 use Rattle.recording_text.specs.Text.{lineText, endText}
 use Rattle.recording_text.specs.Listing.{entryOf, listingFrom}

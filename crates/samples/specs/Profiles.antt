@@ -14,7 +14,8 @@ use Rattle.cdr_fields.specs.Extents.{extentOctets, stringAt}
 use Rattle.cdr_fields.specs.Tagged.{taggedAt, skipTagged, taggedBehind}
 use Rattle.profile_parts.specs.Parts.{orderPartAt, minorPartAt, versionAt, hostAt, numberPartAt, keyAt, componentAt}
 use Rattle.profile.specs.List.{listFrom, countedList, listAt, componentFrom}
-use Rattle.profile.specs.Profile.{profileNumbers, profileOf, hostExtent, keyExtent, componentNumbers, componentThen, componentOf, componentExtent}
+use Rattle.profile.specs.Profile.{profileNumbers, profileOf, componentNumbers, componentThen, componentOf}
+use Rattle.profile_octets.specs.Octets.{hostExtent, keyExtent, componentExtent}
 use Rattle.samples.specs.Tables.{paper, Sample, sample, allAnswered}
 use Rattle.samples.specs.Frames.{frameAnswered}
 

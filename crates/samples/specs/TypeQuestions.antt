@@ -22,7 +22,7 @@ use Rattle.choices.specs.Lists.{anyOf}
 use Rattle.cdr.specs.{Order, Size, indexOf, octets}
 use Rattle.cdr.specs.Orders.{orderOctet}
 use Rattle.type_kinds.specs.{Form, Unlisted, Plain, Bounded, Composite, Layout, Inert, Leaf, Text, Objref, Enum, Inner, Here, There, Kind, Fields}
-use Rattle.type_kinds.specs.{Labels, Of, NoLabels, Target, LeadsTo, Outside, Spot, TypeAt, NoType, Member, placeOf}
+use Rattle.type_kinds.specs.{Labels, Of, NoLabels, Lead, LeadsTo, Outside, Spot, TypeAt, NoType, Member, placeOf}
 use Rattle.type_kinds.specs.declared.Layout.the-variants.{Objref as objref, Struct as struct, Union as union, Enum as enum}
 use Rattle.type_kinds.specs.declared.Layout.the-variants.{Sequence as sequence, Array as array, Alias as alias, Exception as exception}
 use Rattle.type_parameters.specs.declared.Parameters.{Parameters}
@@ -123,7 +123,7 @@ formNumbers Plain = 1 ∷ []
 formNumbers Bounded = 2 ∷ []
 formNumbers (Composite layout) = 3 ∷ layoutKind layout ∷ []
 
-abbrev pub targetNumbers : Target → List ℕ
+abbrev pub targetNumbers : Lead → List ℕ
 targetNumbers (LeadsTo place) = 1 ∷ place .0 ∷ []
 targetNumbers Outside = 0 ∷ []
 

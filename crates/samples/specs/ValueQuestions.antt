@@ -12,22 +12,22 @@ use Rattle.cdr.specs.{Order, Big, indexOf, octets}
 use Rattle.type_kinds.specs.{Inert, Inner}
 use Rattle.type_unions.specs.{Shape}
 use Rattle.value_meaning.specs.{Source, source, St}
-use Rattle.value_meaning.specs.Sinks.{failed, begun, andThen, repeats, taken, done, numberStep, octetsStep}
+use Rattle.value_meaning.specs.Sinks.{failed, begun, andThen, repeats, taken, done, numberTaken, octetsStep}
 use Rattle.value_meaning.specs.Visit.{Checked, sizeOf, contentOf, leafDone, leafAt, textDone, textGot, textAt, countDone, countAt, enumDone, enumAt}
 use Rattle.value_meaning.specs.Visit.{tagDone, tagAt, runDone, runGot, runAt, profileAt, profilesAt, objrefAt, inertAt}
 use Rattle.value_meaning.specs.Opens.{readsNode, enterNode, ownOf, opens, closes, shuts, next, entries}
 use Rattle.value_meaning.specs.Reading.{reads, reading}
-use Rattle.value_meaning.specs.Value.{roomIn, valueAnswerNumbers, readingOf, valueAnswer, flat, tableAfter, itemNo}
+use Rattle.value_meaning.specs.Value.{roomIn, valueAnswerNumbers, readingOf, valueAnswer, itemRows, tableAfter, itemNo}
 use Rattle.value_cursor.specs.{declared.Mode.Mode, declared.Cursor.Cursor}
 use Rattle.value_cursor.specs.Lent.{Lent, rowPut}
 use Rattle.value_cursor.specs.Walk.{sinkOf, sourceOf, stateOf, cursorStart, leafVisit}
 use Rattle.value_plans.specs.declared.Plan.{Plan}
 use Rattle.value_plans.specs.Plans.{planSteps, planVisit, inertKind, leafKind, plannable, laid, planOf}
 use Rattle.value_items.specs.Items.{itemOf}
-use Rattle.value.specs.declared.Judged.{Judged}
-use Rattle.value.specs.declared.Judged.the-variants.{Accepted, Refused}
+use Rattle.value_typed.specs.declared.Judged.{Judged}
+use Rattle.value_typed.specs.declared.Judged.the-variants.{Accepted, Refused}
 use Rattle.value.specs.Single.{itemNumber, givenIn, givenBy, itemAnswer}
-use Rattle.value.specs.Typed.{typedFor}
+use Rattle.value_typed.specs.Typed.{typedFor}
 use Rattle.samples.specs.Tables.{bit}
 use Rattle.samples.specs.TypeQuestions.{typeAnswered}
 
@@ -80,11 +80,11 @@ abbrev pub planNumbers : Plan → List ℕ
 planNumbers p = bit (p .found) ∷ p .count ∷ p .kinds
 
 unfoldable pub valueAnswered : ValueQuestion → List ℕ
-unfolding typeAnswered andThen repeats taken done numberStep octetsStep
+unfolding typeAnswered andThen repeats taken done numberTaken octetsStep
     sizeOf contentOf leafDone leafAt textDone textGot textAt countDone countAt enumDone enumAt
     tagDone tagAt runDone runGot runAt profileAt profilesAt objrefAt inertAt
     readsNode enterNode ownOf opens closes shuts next entries reads reading
-    readingOf valueAnswer flat tableAfter itemNo rowPut planSteps inertKind leafKind plannable laid planOf
+    readingOf valueAnswer itemRows tableAfter itemNo rowPut planSteps inertKind leafKind plannable laid planOf
     itemOf givenBy itemAnswer typedFor
 valueAnswered (value table v x) =
     valueAnswerNumbers (valueAnswer v Big (fromStart x) (roomIn table)) ++ tableAfter v Big (fromStart x) table

@@ -1,11 +1,8 @@
-// The texts, numbers, counts and encapsulations of a type's parameters, checked, and the refusals of a type. Every function answers for any
-// octets.
+// The texts, numbers and counts of a type's parameters, checked, and the refusals of a type. Every function answers for any octets.
 ghost use mathlib.Core.Path.{_≡_};
 ghost use Rattle.type_counts.specs.Refusals.{typeRefusalNumber};
 ghost use Rattle.type_counts.specs.Counts.{textStep, namesStep, numberStep, countStep, anyCount, headStep, exceptionStep, lengthStep};
-ghost use Rattle.type_counts.specs.Counts.{textsStep, enumStep, partOf};
 use cdr::Index;
-use cdr::Named;
 use cdr::Order;
 use cdr::Size;
 use cdr_fields::Field;
@@ -70,10 +67,10 @@ pub enum Part {
 }
 
 // A text.
-pub fn text_step(s: &[u8], at: Index, order: Order) -> Step
-    ensures { λ r. ⌜ r ≡ textStep (now (s .entry)) at order ⌝ }
+pub fn text_step(part: &[u8], at: Index, order: Order) -> Step
+    ensures { λ r. ⌜ r ≡ textStep (now (part .entry)) at order ⌝ }
 {
-    match cdr_fields::read_string(s, at, order) {
+    match cdr_fields::read_string(part, at, order) {
         Str::Characters { from, length } => Step::Next(Index(from.0 + length + 1)),
         Str::BadText => Step::Refused(Refusal::BadText),
         Str::NoText => Step::Refused(Refusal::Ends),
@@ -81,30 +78,30 @@ pub fn text_step(s: &[u8], at: Index, order: Order) -> Step
 }
 
 // Id and name.
-pub fn names_step(s: &[u8], order: Order) -> Step
-    ensures { λ r. ⌜ r ≡ namesStep (now (s .entry)) order ⌝ }
+pub fn names_step(part: &[u8], order: Order) -> Step
+    ensures { λ r. ⌜ r ≡ namesStep (now (part .entry)) order ⌝ }
 {
-    match text_step(s, Index(1), order) {
+    match text_step(part, Index(1), order) {
         Step::Refused(refusal) => Step::Refused(refusal),
-        Step::Next(i) => text_step(s, i, order),
+        Step::Next(i) => text_step(part, i, order),
     }
 }
 
 // An unsigned long.
-pub fn number_step(s: &[u8], at: Index, order: Order) -> Step
-    ensures { λ r. ⌜ r ≡ numberStep (now (s .entry)) at order ⌝ }
+pub fn number_step(part: &[u8], at: Index, order: Order) -> Step
+    ensures { λ r. ⌜ r ≡ numberStep (now (part .entry)) at order ⌝ }
 {
-    match cdr_fields::read_field(s, at, Size::Four, order) {
+    match cdr_fields::read_field(part, at, Size::Four, order) {
         Field::Value { value: _, next } => Step::Next(next),
         Field::NoField => Step::Refused(Refusal::Ends),
     }
 }
 
 // A count that is not 0.
-pub fn count_step(s: &[u8], at: Index, order: Order) -> Count
-    ensures { λ r. ⌜ r ≡ countStep (now (s .entry)) at order ⌝ }
+pub fn count_step(part: &[u8], at: Index, order: Order) -> Count
+    ensures { λ r. ⌜ r ≡ countStep (now (part .entry)) at order ⌝ }
 {
-    let Field::Value { value: count, next } = cdr_fields::read_field(s, at, Size::Four, order)
+    let Field::Value { value: count, next } = cdr_fields::read_field(part, at, Size::Four, order)
     else {
         return Count::Wrong(Refusal::Ends);
     };
@@ -115,96 +112,41 @@ pub fn count_step(s: &[u8], at: Index, order: Order) -> Count
 }
 
 // A count that may be 0.
-fn any_count(s: &[u8], at: Index, order: Order) -> Count
-    ensures { λ r. ⌜ r ≡ anyCount (now (s .entry)) at order ⌝ }
+fn any_count(part: &[u8], at: Index, order: Order) -> Count
+    ensures { λ r. ⌜ r ≡ anyCount (now (part .entry)) at order ⌝ }
 {
-    match cdr_fields::read_field(s, at, Size::Four, order) {
+    match cdr_fields::read_field(part, at, Size::Four, order) {
         Field::Value { value: count, next } => Count::Stands { count, next },
         Field::NoField => Count::Wrong(Refusal::Ends),
     }
 }
 
 // Id, name and count.
-pub fn head_step(s: &[u8], order: Order) -> Count
-    ensures { λ r. ⌜ r ≡ headStep (now (s .entry)) order ⌝ }
+pub fn head_step(part: &[u8], order: Order) -> Count
+    ensures { λ r. ⌜ r ≡ headStep (now (part .entry)) order ⌝ }
 {
-    match names_step(s, order) {
+    match names_step(part, order) {
         Step::Refused(refusal) => Count::Wrong(refusal),
-        Step::Next(i) => count_step(s, i, order),
+        Step::Next(i) => count_step(part, i, order),
     }
 }
 
 // Id, name and count of an exception.
-pub fn exception_step(s: &[u8], order: Order) -> Count
-    ensures { λ r. ⌜ r ≡ exceptionStep (now (s .entry)) order ⌝ }
+pub fn exception_step(part: &[u8], order: Order) -> Count
+    ensures { λ r. ⌜ r ≡ exceptionStep (now (part .entry)) order ⌝ }
 {
-    match names_step(s, order) {
+    match names_step(part, order) {
         Step::Refused(refusal) => Count::Wrong(refusal),
-        Step::Next(i) => any_count(s, i, order),
+        Step::Next(i) => any_count(part, i, order),
     }
 }
 
 // An array's length.
-pub fn length_step(s: &[u8], at: Index, order: Order) -> Step
-    ensures { λ r. ⌜ r ≡ lengthStep (now (s .entry)) at order ⌝ }
+pub fn length_step(part: &[u8], at: Index, order: Order) -> Step
+    ensures { λ r. ⌜ r ≡ lengthStep (now (part .entry)) at order ⌝ }
 {
-    match count_step(s, at, order) {
+    match count_step(part, at, order) {
         Count::Wrong(refusal) => Step::Refused(refusal),
         Count::Stands { count: _, next } => Step::Next(next),
-    }
-}
-
-// So many names.
-fn texts_step(s: &[u8], order: Order, count: u64, at: Index) -> Step
-    ensures { λ r. ⌜ r ≡ textsStep (now (s .entry)) order count at ⌝ }
-{
-    let mut next = at;
-    let mut k: u64 = 0;
-    while k < count {
-        match text_step(s, next, order) {
-            Step::Refused(refusal) => {
-                return Step::Refused(refusal);
-            }
-            Step::Next(i) => {
-                next = i;
-            }
-        }
-        k += 1;
-    }
-    Step::Next(next)
-}
-
-// What an enum holds.
-pub fn enum_step(s: &[u8], order: Order) -> Step
-    ensures { λ r. ⌜ r ≡ enumStep (now (s .entry)) order ⌝ }
-{
-    match head_step(s, order) {
-        Count::Wrong(refusal) => Step::Refused(refusal),
-        Count::Stands { count, next } => texts_step(s, order, count, next),
-    }
-}
-
-// The encapsulation whose length stands at an index.
-pub fn part_at(s: &[u8], at: Index, order: Order) -> Part
-    ensures { λ r. ⌜ r ≡ partOf (now (s .entry)) at order ⌝ }
-{
-    let Field::Value {
-        value: length,
-        next,
-    } = cdr_fields::read_field(s, at, Size::Four, order)
-    else {
-        return Part::NoPart(Refusal::Ends);
-    };
-    let start = next.0;
-    if length == 0 {
-        return Part::NoPart(Refusal::BadEncapsulation);
-    }
-    if ((s.len() - start) as u64) < length {
-        return Part::NoPart(Refusal::BadEncapsulation);
-    }
-    let end = start + length as usize;
-    match Order::named(s[start]) {
-        Named::Is(order) => Part::Inside { start, end, order },
-        Named::NoOrder => Part::NoPart(Refusal::BadEncapsulation),
     }
 }

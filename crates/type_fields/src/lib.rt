@@ -101,17 +101,17 @@ fn bad_default(default: u64, count: u64) -> bool
 }
 
 // Default and count of a union.
-pub fn switch_step(s: &[u8], at: Index, order: Order) -> Switch
-    ensures { λ r. ⌜ r ≡ switchStep (now (s .entry)) at order ⌝ }
+pub fn switch_step(part: &[u8], at: Index, order: Order) -> Switch
+    ensures { λ r. ⌜ r ≡ switchStep (now (part .entry)) at order ⌝ }
 {
     let Field::Value {
         value: default,
         next: i,
-    } = cdr_fields::read_field(s, at, Size::Four, order)
+    } = cdr_fields::read_field(part, at, Size::Four, order)
     else {
         return Switch::NoSwitch(Refusal::Ends);
     };
-    match type_counts::count_step(s, i, order) {
+    match type_counts::count_step(part, i, order) {
         Count::Wrong(refusal) => Switch::NoSwitch(refusal),
         Count::Stands { count, next } => {
             if bad_default(default, count) {
@@ -129,7 +129,7 @@ pub fn switch_step(s: &[u8], at: Index, order: Order) -> Switch
 // Whether a label is that of one of the first members.
 fn label_before(
     labels: Labels,
-    v: &[u8],
+    types: &[u8],
     start: Place,
     order: Order,
     default: u64,
@@ -137,7 +137,7 @@ fn label_before(
     first: Index,
     label: u64,
 ) -> bool
-    ensures { λ r. ⌜ r ≡ labelBefore labels (now (v .entry)) start order default done first label ⌝ }
+    ensures { λ r. ⌜ r ≡ labelBefore labels (now (types .entry)) start order default done first label ⌝ }
 {
     let fields = Fields {
         start,
@@ -145,7 +145,7 @@ fn label_before(
         count: done,
         first,
     };
-    match type_unions::case_of(labels, v, fields, default, label) {
+    match type_unions::case_of(labels, types, fields, default, label) {
         Arm::Chosen(_) => true,
         Arm::NoneChosen => false,
     }
@@ -154,8 +154,8 @@ fn label_before(
 // The label before a member, where members have labels: `done` members stand before it from `first` on.
 pub fn label_step(
     labels: Labels,
-    v: &[u8],
-    s: &[u8],
+    types: &[u8],
+    part: &[u8],
     start: Place,
     order: Order,
     default: u64,
@@ -163,19 +163,19 @@ pub fn label_step(
     first: Index,
     at: Index,
 ) -> Step
-    ensures { λ r. ⌜ r ≡ labelStep labels (now (v .entry)) (now (s .entry)) start order default done first at ⌝ }
+    ensures { λ r. ⌜ r ≡ labelStep labels (now (types .entry)) (now (part .entry)) start order default done first at ⌝ }
 {
     let Labels::Of { size, limit } = labels else {
         return Step::Next(at);
     };
-    let Field::Value { value: label, next } = cdr_fields::read_field(s, at, size, order) else {
+    let Field::Value { value: label, next } = cdr_fields::read_field(part, at, size, order) else {
         return Step::Refused(Refusal::Ends);
     };
     if type_unions::counts(default, done) {
         if type_unions::out_of_kind(limit, label) {
             return Step::Refused(Refusal::BadUnion);
         }
-        if label_before(labels, v, start, order, default, done, first, label) {
+        if label_before(labels, types, start, order, default, done, first, label) {
             return Step::Refused(Refusal::BadUnion);
         }
         return Step::Next(next);

@@ -16,8 +16,8 @@ use Rattle.cdr_fields.specs.declared.Counted.the-variants.{NoOctets}
 use Rattle.cdr.specs.Align.{octets}
 use Rattle.cdr_fields.specs.Encapsulation.{start, fieldOf, countedOf}
 use Rattle.cdr_fields.proofs.FieldsRead.{field-facts, field-none, counted-none}
-use Rattle.cdr.proofs.Alignment.{read-ends}
-use Rattle.type_kinds.specs.declared.Target.the-variants.{LeadsTo, Outside}
+use Rattle.cdr.proofs.GapsBounded.{read-ends}
+use Rattle.type_kinds.specs.declared.Lead.the-variants.{LeadsTo, Outside}
 use Rattle.type_kinds.specs.Parts.{placeOf, fieldIn, targetOf}
 
 -- the rest of the octets from a place on

@@ -4,6 +4,6 @@ pub mod Forms
 pub mod Parts
 pub mod Members
 pub use Names.{Fields, Form, Unlisted, Plain, Bounded, Composite, Inert, Leaf, Text, Objref, Enum, Inner, Here}
-pub use Names.{There, Kind, Labels, Of, NoLabels, Layout, Skip, EndsAt, NoEnd, Spot, NoType, TypeAt, Target, LeadsTo, Outside}
+pub use Names.{There, Kind, Labels, Of, NoLabels, Layout, Skip, EndsAt, NoEnd, Spot, NoType, TypeAt, Lead, LeadsTo, Outside}
 pub use Members.{Member, membersOf, typesOf}
 pub use Parts.{longRange, placeOf, writtenAt, placeIn, onField}

@@ -24,7 +24,7 @@
 use Rattle.choices.specs.{ℕ, _+_, _-_, _/_, _^_, List, cond, ltb, eqb, drop}
 use Rattle.cdr.specs.{Index, Place, Order, Size, Four, indexOf}
 use Rattle.cdr_fields.specs.{Field, Value, NoField, Counted, Octets, NoOctets, fieldOf, countedOf}
-use Rattle.type_kinds.specs.Names.{Form, Unlisted, Plain, Bounded, Composite, Skip, EndsAt, NoEnd, Target, LeadsTo, Outside, Kind, Inner, Here}
+use Rattle.type_kinds.specs.Names.{Form, Unlisted, Plain, Bounded, Composite, Skip, EndsAt, NoEnd, Lead, LeadsTo, Outside, Kind, Inner, Here}
 use Rattle.type_kinds.specs.Names.{There, Spot, TypeAt, NoType, Labels, Of, NoLabels}
 use Rattle.type_kinds.specs.Forms.{formOf}
 use Rattle.type_numbers.specs.{indirectionKind}
@@ -76,12 +76,12 @@ placeBefore b next = placeOf (b .0 + (next .0 - 4))
 abbrev pub longRange : ℕ
 longRange = 2 ^ 32
 
-unfoldable pub targetOf : Place → ℕ → Target
+unfoldable pub targetOf : Place → ℕ → Lead
 targetOf p x =
     cond (ltb x (longRange / 2)) (cond (ltb (p .0 + x) (2 ^ 64)) (LeadsTo (placeOf (p .0 + x))) Outside)
     (cond (ltb (p .0) (longRange - x)) Outside (LeadsTo (placeOf (p .0 - (longRange - x)))))
 
-abbrev pub aimedAt : Target → Index → Spot
+abbrev pub aimedAt : Lead → Index → Spot
 aimedAt (LeadsTo p) next = TypeAt (There p) next
 aimedAt Outside next = NoType
 

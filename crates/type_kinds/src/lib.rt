@@ -93,7 +93,7 @@ pub enum Skip {
 }
 
 // Where an offset leads: to a place, or to none that there can be.
-pub enum Target {
+pub enum Lead {
     LeadsTo(Place),
     Outside,
 }
@@ -150,46 +150,46 @@ pub fn place_in(inner: Inner) -> Place
 }
 
 // The number at an index of the encapsulation that starts at a place.
-pub fn field_in(v: &[u8], start: Place, at: Index, size: Size, order: Order) -> Field
-    ensures { λ r. ⌜ r ≡ fieldIn (now (v .entry)) start at size order ⌝ }
+pub fn field_in(types: &[u8], start: Place, at: Index, size: Size, order: Order) -> Field
+    ensures { λ r. ⌜ r ≡ fieldIn (now (types .entry)) start at size order ⌝ }
 {
     let b = start.0;
-    if v.len() < b {
+    if types.len() < b {
         return Field::NoField;
     }
-    cdr_fields::read_field(&v[b..], at, size, order)
+    cdr_fields::read_field(&types[b..], at, size, order)
 }
 
 // Where an offset leads that stands at a place.
-pub fn target_of(at: Place, offset: u64) -> Target
+pub fn target_of(at: Place, offset: u64) -> Lead
     ensures { λ r. ⌜ r ≡ targetOf at offset ⌝ }
 {
     let p = at.0;
     if offset < LONG_HALF {
         return if p <= usize::MAX - offset as usize {
-            Target::LeadsTo(Place(p + offset as usize))
+            Lead::LeadsTo(Place(p + offset as usize))
         } else {
-            Target::Outside
+            Lead::Outside
         };
     }
     let back = parts::back(offset);
     if p < back {
-        return Target::Outside;
+        return Lead::Outside;
     }
-    Target::LeadsTo(Place(p - back))
+    Lead::LeadsTo(Place(p - back))
 }
 
 // The type that stands at an index of the encapsulation that starts at a place, and the index after it.
-pub fn spot_at(v: &[u8], start: Place, at: Index, order: Order) -> Spot
-    ensures { λ r. ⌜ r ≡ spotAt (now (v .entry)) start at order ⌝ }
+pub fn spot_at(types: &[u8], start: Place, at: Index, order: Order) -> Spot
+    ensures { λ r. ⌜ r ≡ spotAt (now (types .entry)) start at order ⌝ }
 {
-    let Field::Value { value: kind, next } = field_in(v, start, at, Size::Four, order) else {
+    let Field::Value { value: kind, next } = field_in(types, start, at, Size::Four, order) else {
         return Spot::NoType;
     };
     if kind == type_numbers::INDIRECTION {
-        return parts::aimed(v, start, next, order);
+        return parts::aimed(types, start, next, order);
     }
-    match parts::skip_kind(form_of(kind), v, start, next, order) {
+    match parts::skip_kind(form_of(kind), types, start, next, order) {
         Skip::EndsAt(over) => Spot::TypeAt {
             inner: Inner::Here(Kind {
                 place: parts::place_before(start, next),
@@ -203,26 +203,26 @@ pub fn spot_at(v: &[u8], start: Place, at: Index, order: Order) -> Spot
 }
 
 // A member at an index, with a label before it or none: its type, and the index after it.
-pub fn member_at(labels: Labels, v: &[u8], start: Place, at: Index, order: Order) -> Spot
-    ensures { λ r. ⌜ r ≡ memberAt labels (now (v .entry)) start at order ⌝ }
+pub fn member_at(labels: Labels, types: &[u8], start: Place, at: Index, order: Order) -> Spot
+    ensures { λ r. ⌜ r ≡ memberAt labels (now (types .entry)) start at order ⌝ }
 {
-    let Skip::EndsAt(name) = parts::lead_in(labels, v, start, at, order) else {
+    let Skip::EndsAt(name) = parts::lead_in(labels, types, start, at, order) else {
         return Spot::NoType;
     };
-    let Skip::EndsAt(i) = parts::skip_counted(v, start, name, order) else {
+    let Skip::EndsAt(i) = parts::skip_counted(types, start, name, order) else {
         return Spot::NoType;
     };
-    spot_at(v, start, i, order)
+    spot_at(types, start, i, order)
 }
 
 // The label at an index, 0 where members have no labels.
-pub fn label_at(labels: Labels, v: &[u8], start: Place, at: Index, order: Order) -> u64
-    ensures { λ r. ⌜ r ≡ labelAt labels (now (v .entry)) start at order ⌝ }
+pub fn label_at(labels: Labels, types: &[u8], start: Place, at: Index, order: Order) -> u64
+    ensures { λ r. ⌜ r ≡ labelAt labels (now (types .entry)) start at order ⌝ }
 {
     let Labels::Of { size, limit: _ } = labels else {
         return 0;
     };
-    match field_in(v, start, at, size, order) {
+    match field_in(types, start, at, size, order) {
         Field::Value { value, next: _ } => value,
         Field::NoField => 0,
     }

@@ -5,9 +5,9 @@ ghost use Rattle.type_kinds.specs.Parts.{longRange, placeBefore, skipFie
 use crate::Form;
 use crate::Inner;
 use crate::Labels;
+use crate::Lead;
 use crate::Skip;
 use crate::Spot;
-use crate::Target;
 use cdr::Index;
 use cdr::Order;
 use cdr::Place;
@@ -26,24 +26,24 @@ pub(crate) fn back(offset: u64) -> usize
 }
 
 // A number is passed over.
-pub(crate) fn skip_field(v: &[u8], start: Place, at: Index, size: Size, order: Order) -> Skip
-    ensures { λ r. ⌜ r ≡ skipField (now (v .entry)) start at size order ⌝ }
+pub(crate) fn skip_field(types: &[u8], start: Place, at: Index, size: Size, order: Order) -> Skip
+    ensures { λ r. ⌜ r ≡ skipField (now (types .entry)) start at size order ⌝ }
 {
-    match crate::field_in(v, start, at, size, order) {
+    match crate::field_in(types, start, at, size, order) {
         Field::Value { value: _, next } => Skip::EndsAt(next),
         Field::NoField => Skip::NoEnd,
     }
 }
 
 // Counted octets are passed over.
-pub(crate) fn skip_counted(v: &[u8], start: Place, at: Index, order: Order) -> Skip
-    ensures { λ r. ⌜ r ≡ skipCounted (now (v .entry)) start at order ⌝ }
+pub(crate) fn skip_counted(types: &[u8], start: Place, at: Index, order: Order) -> Skip
+    ensures { λ r. ⌜ r ≡ skipCounted (now (types .entry)) start at order ⌝ }
 {
     let b = start.0;
-    if v.len() < b {
+    if types.len() < b {
         return Skip::NoEnd;
     }
-    match cdr_fields::read_counted(&v[b..], at, order) {
+    match cdr_fields::read_counted(&types[b..], at, order) {
         Counted::Octets { from, count } => Skip::EndsAt(Index(from.0 + count)),
         Counted::NoOctets => Skip::NoEnd,
     }
@@ -58,49 +58,49 @@ pub(crate) fn place_before(start: Place, next: Index) -> Place
 }
 
 // What follows a kind is passed over.
-pub(crate) fn skip_kind(form: Form, v: &[u8], start: Place, at: Index, order: Order) -> Skip
-    ensures { λ r. ⌜ r ≡ skipKind form (now (v .entry)) start at order ⌝ }
+pub(crate) fn skip_kind(form: Form, types: &[u8], start: Place, at: Index, order: Order) -> Skip
+    ensures { λ r. ⌜ r ≡ skipKind form (now (types .entry)) start at order ⌝ }
 {
     match form {
         Form::Unlisted => Skip::NoEnd,
         Form::Plain => Skip::EndsAt(at),
-        Form::Bounded => skip_field(v, start, at, Size::Four, order),
-        Form::Composite(_) => skip_counted(v, start, at, order),
+        Form::Bounded => skip_field(types, start, at, Size::Four, order),
+        Form::Composite(_) => skip_counted(types, start, at, order),
     }
 }
 
 // Where the indirection leads whose offset is at an index.
-pub(crate) fn aimed(v: &[u8], start: Place, at: Index, order: Order) -> Spot
-    ensures { λ r. ⌜ r ≡ aimed (now (v .entry)) start at order ⌝ }
+pub(crate) fn aimed(types: &[u8], start: Place, at: Index, order: Order) -> Spot
+    ensures { λ r. ⌜ r ≡ aimed (now (types .entry)) start at order ⌝ }
 {
-    let Field::Value { value, next } = crate::field_in(v, start, at, Size::Four, order) else {
+    let Field::Value { value, next } = crate::field_in(types, start, at, Size::Four, order) else {
         return Spot::NoType;
     };
     match crate::target_of(place_before(start, next), value) {
-        Target::LeadsTo(place) => Spot::TypeAt {
+        Lead::LeadsTo(place) => Spot::TypeAt {
             inner: Inner::There(place),
             next,
         },
-        Target::Outside => Spot::NoType,
+        Lead::Outside => Spot::NoType,
     }
 }
 
 // The label before a member's name is passed over.
-pub(crate) fn lead_in(labels: Labels, v: &[u8], start: Place, at: Index, order: Order) -> Skip
-    ensures { λ r. ⌜ r ≡ leadIn labels (now (v .entry)) start at order ⌝ }
+pub(crate) fn lead_in(labels: Labels, types: &[u8], start: Place, at: Index, order: Order) -> Skip
+    ensures { λ r. ⌜ r ≡ leadIn labels (now (types .entry)) start at order ⌝ }
 {
     match labels {
-        Labels::Of { size, limit: _ } => skip_field(v, start, at, size, order),
+        Labels::Of { size, limit: _ } => skip_field(types, start, at, size, order),
         Labels::NoLabels => Skip::EndsAt(at),
     }
 }
 
 // Id and name are passed over.
-pub fn names_in(v: &[u8], start: Place, order: Order) -> Skip
-    ensures { λ r. ⌜ r ≡ namesIn (now (v .entry)) start order ⌝ }
+pub fn names_in(types: &[u8], start: Place, order: Order) -> Skip
+    ensures { λ r. ⌜ r ≡ namesIn (now (types .entry)) start order ⌝ }
 {
-    match skip_counted(v, start, Index(1), order) {
-        Skip::EndsAt(i) => skip_counted(v, start, i, order),
+    match skip_counted(types, start, Index(1), order) {
+        Skip::EndsAt(i) => skip_counted(types, start, i, order),
         Skip::NoEnd => Skip::NoEnd,
     }
 }

@@ -9,7 +9,7 @@ use Rattle.cdr.specs.declared.Order.{Order}
 use Rattle.type_kinds.specs.declared.Kind.{Kind}
 use Rattle.choices.specs.Lists.{Among}
 use Rattle.choices.specs.Lists.Among.{first, later}
-use Rattle.type_laws.specs.Loops.{Ascending, Listed, Count}
+use Rattle.type_laws.specs.Loops.{Ascending, Listed, KindCount}
 use Rattle.type_laws.proofs.InnerKnown.{no-among}
 
 -- an element of a list is its head or lies in its tail
@@ -37,5 +37,5 @@ module _ (v : List ℕ) (order : Order) where
   listed-once ks ls p q =
       same-list ks ls (p .ascending) (q .ascending) (λ a. ((λ y. q .all a .1 (p .all a .0 y)), (λ y. p .all a .1 (q .all a .0 y))))
 
-  pub count-once : (j k : ℕ) → Count v order j → Count v order k → j ≡ k
+  pub count-once : (j k : ℕ) → KindCount v order j → KindCount v order k → j ≡ k
   count-once j k p q = sym (p .many) ∙ ap length (listed-once (p .kinds) (q .kinds) (p .listed) (q .listed)) ∙ q .many

@@ -30,7 +30,7 @@ use Rattle.type_list.specs.Met.{kindNo}
 use Rattle.type_fields.specs.Fields.{nestingLimit}
 use Rattle.type_walk.specs.Walk.{Walk, Walked, nothingMet}
 use Rattle.type_walk.specs.Types.{typeAt, walkedOf}
-use Rattle.type_laws.specs.Written.{typesBy, Tells, Written, Inside}
+use Rattle.type_laws.specs.Written.{typesBy, Tells, KindWritten, Inside}
 use Rattle.type_laws.specs.Written.Inside.{typed, member}
 use Rattle.type_laws.specs.Loops.{NoFault}
 use Rattle.type_laws.proofs.Sound.{Entry}
@@ -251,7 +251,7 @@ module _ (v : List ℕ) (order : Order) where
       spans-by (e .0) (e .1) nothingMet refl (walked-short v order s)
 
   -- what stands directly inside a kind written is one list, in octet order
-  pub row-list : NoFault v order → (a : Kind) → Written v order a → (xs : List Inner) → Row v order a xs → (x : Inner) → Among x xs ↔ Inside v order a x
+  pub row-list : NoFault v order → (a : Kind) → KindWritten v order a → (xs : List Inner) → Row v order a xs → (x : Inner) → Among x xs ↔ Inside v order a x
   row-list h a w xs r x =
       let c = fault-complete v order h in
       let m = walkedOf v order .walk .kinds in

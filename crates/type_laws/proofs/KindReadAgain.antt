@@ -17,8 +17,8 @@ use Rattle.cdr.specs.declared.Order.{Order}
 use Rattle.cdr.specs.declared.Size.the-variants.{Four}
 use Rattle.cdr_fields.specs.declared.Field.the-variants.{Value}
 use Rattle.type_kinds.specs.declared.Inner.the-variants.{Here, There}
-use Rattle.type_kinds.specs.declared.Target.{Target}
-use Rattle.type_kinds.specs.declared.Target.the-variants.{LeadsTo, Outside}
+use Rattle.type_kinds.specs.declared.Lead.{Lead}
+use Rattle.type_kinds.specs.declared.Lead.the-variants.{LeadsTo, Outside}
 use Rattle.type_parameters.specs.declared.Parameters.{Parameters}
 use Rattle.type_kinds.specs.declared.Kind.{Kind}
 use Rattle.type_counts.specs.declared.Refusal.the-variants.{Ends, BadTarget}
@@ -83,7 +83,7 @@ module _ (v : List ℕ) where
                 new = λ n. absurd (omega arith);
               }
 
-      target-by : kind ≡ indirectionKind → (x : ℕ) (j : Index) → fieldOf s next Four order ≡ Value x j → (t : Target) → targetOf (placeBefore b j) x ≡ t
+      target-by : kind ≡ indirectionKind → (x : ℕ) (j : Index) → fieldOf s next Four order ≡ Value x j → (t : Lead) → targetOf (placeBefore b j) x ≡ t
           → Gives (Well v (w .kinds) b order i) (aimedStep t w j)
       target-by k x j q (LeadsTo p) t = target k x j q p t
       target-by k x j q Outside t = tt

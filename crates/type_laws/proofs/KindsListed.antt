@@ -24,8 +24,8 @@ use Rattle.type_kinds.specs.Members.{membersOf, typesOf}
 use Rattle.type_parameters.specs.Parameters.{parametersAt}
 use Rattle.type_list.specs.Met.{findKind, kindNo, parametersOf}
 use Rattle.type_unions.specs.Discriminants.{discriminantOf}
-use Rattle.type_laws.specs.Written.{typesBy, Written, Inside, Tells}
-use Rattle.type_laws.specs.Written.Written.{top, inside}
+use Rattle.type_laws.specs.Written.{typesBy, KindWritten, Inside, Tells}
+use Rattle.type_laws.specs.Written.KindWritten.{top, inside}
 use Rattle.type_laws.specs.Written.Inside.{typed, member}
 use Rattle.type_laws.specs.Written.Tells.{itself, aliased, target}
 use Rattle.type_laws.specs.Loops.{Ascending, Listed}
@@ -148,7 +148,7 @@ module _ (v : List ℕ) (order : Order) (m : List Kind) (c : Complete v order m)
   aliased-agrees a x labels e f k L r = f (alias-known a k x e) L (aliased-resolves a k x e L (a .place) refl r)
 
   -- every kind written is an entry: by what is written, what stands inside, and what is told of labels, together
-  pub written-entry : (a : Kind) → Written v order a → Entry m a
+  pub written-entry : (a : Kind) → KindWritten v order a → Entry m a
   written-entry a w =
       elim w as (λ a w. Entry m a) (λ a x i. Entry m a → Known m x) (λ x labels t. Known m x → (L : Labels) → Resolves v m L (placeIn x) → labels ≡ L) [
         | top ↦ (0, c .some, c .top)
@@ -176,7 +176,7 @@ module _ (v : List ℕ) (order : Order) (m : List Kind) (c : Complete v order m)
   -- ---- every entry is a kind written
 
   -- what a list resolves a type to is what it tells, if the kinds of that list are written
-  module _ (m₁ : List Kind) (g : Grows m₁ m) (all : (i : ℕ) → i < length m₁ → Written v order (kindNo m i)) (L : Labels) where
+  module _ (m₁ : List Kind) (g : Grows m₁ m) (all : (i : ℕ) → i < length m₁ → KindWritten v order (kindNo m i)) (L : Labels) where
     abbrev at-place : Place → Kind
     at-place p = kindNo m (findKind m p)
 
@@ -198,7 +198,7 @@ module _ (v : List ℕ) (order : Order) (m : List Kind) (c : Complete v order m)
         let n : findKind m p < length m = omega (arith, same-spot p l .1, g .count) in
         tells-as x k p q l (aliased e′ (tells-by (placeIn y) r y (alias-known (at-place p) (findKind m p, n, refl) y e′) refl))
 
-  lodged-inside : (a : Kind) (j : ℕ) → j < length m → Lodged v m (parametersAt v a) j → ((i : ℕ) → i < j → Written v order (kindNo m i))
+  lodged-inside : (a : Kind) (j : ℕ) → j < length m → Lodged v m (parametersAt v a) j → ((i : ℕ) → i < j → KindWritten v order (kindNo m i))
       → Inside v order a (Here (kindNo m j))
   lodged-inside a j l (in-types y) w = typed y
   lodged-inside a j l (in-members {d = d} e m₁ g few most s y) w =
@@ -206,11 +206,11 @@ module _ (v : List ℕ) (order : Order) (m : List Kind) (c : Complete v order m)
       (tells-by m₁ g (λ i k. w i (omega arith)) (s .labels) (placeIn d) (resolved-exactly v m₁ most (s .labels) (placeIn d) (s .labelled) .0 (s .said))
       d (known-grows m₁ m g d (s .known)) refl) y
 
-  pub entry-written : (n j : ℕ) → j < n → j < length m → Written v order (kindNo m j)
+  pub entry-written : (n j : ℕ) → j < n → j < length m → KindWritten v order (kindNo m j)
   entry-written zero j a l = absurd (omega arith)
   entry-written (suc n) j a l = go (λ i k. entry-written n i (omega arith) (omega arith))
     where
-      go : ((i : ℕ) → i < j → Written v order (kindNo m i)) → Written v order (kindNo m j)
+      go : ((i : ℕ) → i < j → KindWritten v order (kindNo m i)) → KindWritten v order (kindNo m j)
       go w =
           by-test (ltb 0 j)
           (λ t.
@@ -218,9 +218,9 @@ module _ (v : List ℕ) (order : Order) (m : List Kind) (c : Complete v order m)
           inside (w (d .parent) (d .before)) (lodged-inside (kindNo m (d .parent)) j l (d .lodged) w))
           (λ t.
           let z : 0 ≡ j = omega (arith, ltb-false 0 j t) in
-          subst (λ (x : ℕ). Written v order (kindNo m x)) z (subst (Written v order) (sym (c .top)) top))
+          subst (λ (x : ℕ). KindWritten v order (kindNo m x)) z (subst (KindWritten v order) (sym (c .top)) top))
 
-  pub all-written : (j : ℕ) → j < length m → Written v order (kindNo m j)
+  pub all-written : (j : ℕ) → j < length m → KindWritten v order (kindNo m j)
   all-written j l = entry-written (suc j) j (omega arith) l
 
   -- ---- the list
@@ -230,7 +230,7 @@ module _ (v : List ℕ) (order : Order) (m : List Kind) (c : Complete v order m)
       record {
         ascending = rises-ascending m (c .rises);
         all = λ a. (
-          (λ y. let z = among-at m a y in subst (Written v order) (z .2) (all-written (z .0) (z .1))),
+          (λ y. let z = among-at m a y in subst (KindWritten v order) (z .2) (all-written (z .0) (z .1))),
           (λ w. let k = written-entry a w in subst (λ (x : Kind). Among x m) (k .2) (at-among m (k .0) (k .1))),
         );
       }

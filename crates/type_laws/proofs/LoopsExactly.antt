@@ -37,7 +37,7 @@ use Rattle.type_steps.specs.Steps.{stands, anyStands, stepsOf, steps}
 use Rattle.typecode.specs.TypeCode.{CheckedType, checkedType}
 use Rattle.type_laws.specs.Written.{typesBy, isSequence, Inside, Tells}
 use Rattle.type_laws.specs.Written.Inside.{typed, member}
-use Rattle.type_laws.specs.Loops.{Step01, Leads, Loops, FirstFault, NoFault, Listed, Count}
+use Rattle.type_laws.specs.Loops.{Step01, Leads, Loops, FirstFault, NoFault, Listed, KindCount}
 use Rattle.type_laws.specs.Loops.Step01.{down, across}
 use Rattle.type_laws.specs.Loops.Leads.{once, then}
 use Rattle.type_laws.proofs.FlatList.{isUnion}
@@ -223,7 +223,7 @@ module _ (v : List ℕ) (order : Order) where
   met-listed h = listed v order met (fault-complete h)
 
   -- so its count is the number of kinds written
-  pub met-count : NoFault v order → Count v order (length met)
+  pub met-count : NoFault v order → KindCount v order (length met)
   met-count h = record { kinds = met; listed = met-listed h; many = refl }
 
   -- 39 exactly when no other type refusal applies and some kind written returns to itself
@@ -250,7 +250,7 @@ module _ (v : List ℕ) (order : Order) where
   refuses-exactly r = (refuses-by r (walkedOf v order .step) refl, (λ e. rw e))
 
   -- an accepted type's k is the number of kinds written
-  accepted-by : (used k : ℕ) (t : Step) → walkedOf v order .step ≡ t → checkedType v order .answer ≡ Accepted used k → Count v order k
+  accepted-by : (used k : ℕ) (t : Step) → walkedOf v order .step ≡ t → checkedType v order .answer ≡ Accepted used k → KindCount v order k
   unfolding checkedType
   accepted-by used k (refused n) e q = let z : Refused n ≡ Accepted used k = rw e at q in clash cc
   accepted-by used k (Next i) e q =
@@ -259,7 +259,7 @@ module _ (v : List ℕ) (order : Order) where
       (λ t.
       let z : Accepted (i .0) (length met) ≡ Accepted used k = sym (ap (λ (c : CheckedType). c .answer) (passes v order i e t)) ∙ q in
       let n : length met ≡ k = cc in
-      subst (Count v order) n (met-count (ends-no-fault i e)))
+      subst (KindCount v order) n (met-count (ends-no-fault i e)))
 
-  pub accepted-count : (used k : ℕ) → checkedType v order .answer ≡ Accepted used k → Count v order k
+  pub accepted-count : (used k : ℕ) → checkedType v order .answer ≡ Accepted used k → KindCount v order k
   accepted-count used k q = accepted-by used k (walkedOf v order .step) refl q

@@ -29,10 +29,10 @@ use Rattle.type_counts.specs.declared.Count.{Count}
 use Rattle.type_counts.specs.declared.Count.the-variants.{Wrong, Stands}
 use Rattle.cdr.specs.Align.{octets, behindGap, indexOf}
 use Rattle.cdr.specs.Number.{numberAt, numberOf}
-use Rattle.cdr_text.proofs.Texts.{run-to}
+use Rattle.cdr_text.proofs.TextEnds.{run-to}
 use Rattle.cdr_fields.specs.Encapsulation.{start, fieldOf, stringOf}
 use Rattle.cdr_fields.proofs.FieldsRead.{field-facts, field-is, counted-is}
-use Rattle.cdr.proofs.Alignment.{read-number}
+use Rattle.cdr.proofs.GapsBounded.{read-number}
 use Rattle.type_kinds.specs.Parts.{onField, fieldIn, skipField, skipOctets, skipCounted, leadIn, spotAt, memberAt, namesIn}
 use Rattle.type_parameters.specs.Parameters.{countIn}
 use Rattle.type_unions.specs.Discriminants.{outOfKind}

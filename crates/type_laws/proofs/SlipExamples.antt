@@ -24,8 +24,8 @@ use Rattle.type_kinds.specs.Parts.{placeOf, writtenAt, fieldIn, skipField, skip
 use Rattle.type_kinds.specs.Members.{membersFrom, membersOf, typesOf}
 use Rattle.type_parameters.specs.Parameters.{memberFields, countIn, typeIn, elementIn, unionIn, encapsulated, parametersAt}
 use Rattle.type_unions.specs.Discriminants.{leafLabels, discriminantOf}
-use Rattle.type_laws.specs.Written.{typesBy, isSequence, Written, Inside}
-use Rattle.type_laws.specs.Written.Written.{top, inside}
+use Rattle.type_laws.specs.Written.{typesBy, isSequence, KindWritten, Inside}
+use Rattle.type_laws.specs.Written.KindWritten.{top, inside}
 use Rattle.type_laws.specs.Written.Inside.{typed, member}
 use Rattle.type_laws.specs.Written.Tells.{itself, target}
 use Rattle.type_laws.specs.Loops.{Loops}
@@ -69,9 +69,9 @@ sequence-stays = refl
 -- from A by its second member to B, from B to A, by the definitions alone
 pub loops-back : Loops loop Big
 loops-back =
-    let a : Written loop Big (at 0 0 Big) = top in
-    let s : Written loop Big (at 40 8 Big) = inside a (by-types loop Big _ _ _ in-a first) in
-    let b : Written loop Big (at 52 48 Big) = inside s (by-types loop Big _ _ _ in-sequence first) in
+    let a : KindWritten loop Big (at 0 0 Big) = top in
+    let s : KindWritten loop Big (at 40 8 Big) = inside a (by-types loop Big _ _ _ in-a first) in
+    let b : KindWritten loop Big (at 52 48 Big) = inside s (by-types loop Big _ _ _ in-sequence first) in
     (at 0 0 Big, a, then (across a-steps (by-types loop Big _ _ _ in-a (later first)) b refl) (once (across b-steps (by-types loop Big _ _ _ in-b first) a refl)))
 
 -- "Reading an indirection's target in the byte order of the pointer": a big-endian discriminant whose target is little-endian
@@ -99,10 +99,10 @@ unfolding littleNumber littleOctets numberOf octetsOf numberAt choose readOf fie
 in-members = refl
 
 -- the union's member is written: its discriminant is an indirection, whose target tells labels of four octets in its own order
-pub member-written : Written turned Big (at 124 76 Big)
+pub member-written : KindWritten turned Big (at 124 76 Big)
 member-written =
-    let a : Written turned Big (at 0 0 Big) = top in
-    let s : Written turned Big (at 40 8 Big) = inside a (by-types turned Big _ _ _ in-top first) in
-    let d : Written turned Big (at 52 48 Little) = inside s (by-types turned Big _ _ _ in-little first) in
-    let u : Written turned Big (at 68 8 Big) = inside a (by-types turned Big _ _ _ in-top (later first)) in
+    let a : KindWritten turned Big (at 0 0 Big) = top in
+    let s : KindWritten turned Big (at 40 8 Big) = inside a (by-types turned Big _ _ _ in-top first) in
+    let d : KindWritten turned Big (at 52 48 Little) = inside s (by-types turned Big _ _ _ in-little first) in
+    let u : KindWritten turned Big (at 68 8 Big) = inside a (by-types turned Big _ _ _ in-top (later first)) in
     inside u (member in-union (target d refl (itself tells-four)) (subst (Among (Here (at 124 76 Big))) (sym in-members) first))

@@ -2,7 +2,7 @@
 --   topKind          the kind of the whole TypeCode
 --   typesBy          "the kinds directly inside it", in octet order, by a kind's parameters; of a union its discriminant alone
 --   isSequence       parameters of a sequence
---   Written          a kind is written in the TypeCode: the top, and what is written inside a kind that is
+--   KindWritten      a kind is written in the TypeCode: the top, and what is written inside a kind that is
 --   Inside           a type stands directly inside a kind: "discriminant type, default, count, then label, name and type for each" of a
 --                    union, whose discriminant tells how long labels are
 --   Tells            what a discriminant tells of labels, "after aliases and indirections"; a target is the kind written at its place
@@ -38,9 +38,9 @@ isSequence (Array x n) = false
 isSequence (Alias x) = false
 
 mutual
-  pub data Written (v : List ℕ) (order : Order) : Kind → Type 0 where
-    top : Written v order (topKind order)
-    inside : {a b : Kind} → Written v order a → Inside v order a (Here b) → Written v order b
+  pub data KindWritten (v : List ℕ) (order : Order) : Kind → Type 0 where
+    top : KindWritten v order (topKind order)
+    inside : {a b : Kind} → KindWritten v order a → Inside v order a (Here b) → KindWritten v order b
 
   pub data Inside (v : List ℕ) (order : Order) : Kind → Inner → Type 0 where
     typed : {a : Kind} {x : Inner} → Among x (typesBy v (parametersAt v a)) → Inside v order a x
@@ -51,4 +51,4 @@ mutual
     itself : {a : Kind} {labels : Labels} → discriminantOf (parametersAt v a) ≡ Says labels → Tells v order (Here a) labels
     aliased : {a : Kind} {x : Inner} {labels : Labels} → discriminantOf (parametersAt v a) ≡ Through x → Tells v order x labels
         → Tells v order (Here a) labels
-    target : {a : Kind} {labels : Labels} {p : Place} → Written v order a → a .place ≡ p → Tells v order (Here a) labels → Tells v order (There p) labels
+    target : {a : Kind} {labels : Labels} {p : Place} → KindWritten v order a → a .place ≡ p → Tells v order (Here a) labels → Tells v order (There p) labels

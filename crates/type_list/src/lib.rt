@@ -125,15 +125,15 @@ pub fn entry_at(met: Met, j: usize) -> Kind
 }
 
 // The parameters of the kind at a position.
-pub fn parameters_of(v: &[u8], met: Met, j: usize) -> Parameters
-    ensures { λ r. ⌜ r ≡ parametersOf (now (v .entry)) (kindsMet met) j ⌝ }
+pub fn parameters_of(types: &[u8], met: Met, j: usize) -> Parameters
+    ensures { λ r. ⌜ r ≡ parametersOf (now (types .entry)) (kindsMet met) j ⌝ }
 {
-    type_parameters::parameters_at(v, entry_at(met, j))
+    type_parameters::parameters_at(types, entry_at(met, j))
 }
 
 // The parameters of the kind at a place, a fault where the list has none there.
-pub fn found_at(v: &[u8], met: Met, place: Place) -> Parameters
-    ensures { λ r. ⌜ r ≡ foundAt (now (v .entry)) (kindsMet met) place ⌝ }
+pub fn found_at(types: &[u8], met: Met, place: Place) -> Parameters
+    ensures { λ r. ⌜ r ≡ foundAt (now (types .entry)) (kindsMet met) place ⌝ }
 {
     let n = held_in(met.count);
     let mut i: usize = 0;
@@ -142,7 +142,7 @@ pub fn found_at(v: &[u8], met: Met, place: Place) -> Parameters
             let start = Place(met.starts[i] as usize);
             let order = order_in(met.orders[i]);
             return type_parameters::parameters_at(
-                v,
+                types,
                 Kind {
                     place,
                     start,
@@ -156,11 +156,11 @@ pub fn found_at(v: &[u8], met: Met, place: Place) -> Parameters
 }
 
 // The parameters of a type inside another. The list is searched for an indirection's target alone.
-pub fn inside_of(v: &[u8], met: Met, inner: Inner) -> Parameters
-    ensures { λ r. ⌜ r ≡ insideOf (now (v .entry)) (kindsMet met) inner ⌝ }
+pub fn inside_of(types: &[u8], met: Met, inner: Inner) -> Parameters
+    ensures { λ r. ⌜ r ≡ insideOf (now (types .entry)) (kindsMet met) inner ⌝ }
 {
     match inner {
-        Inner::Here(kind) => type_parameters::parameters_at(v, kind),
-        Inner::There(place) => found_at(v, met, place),
+        Inner::Here(kind) => type_parameters::parameters_at(types, kind),
+        Inner::There(place) => found_at(types, met, place),
     }
 }

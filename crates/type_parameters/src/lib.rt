@@ -53,15 +53,15 @@ pub enum Parameters {
 }
 
 // The parameters of a kind that is written.
-pub fn parameters_at(v: &[u8], kind: Kind) -> Parameters
-    ensures { λ r. ⌜ r ≡ parametersAt (now (v .entry)) kind ⌝ }
+pub fn parameters_at(types: &[u8], kind: Kind) -> Parameters
+    ensures { λ r. ⌜ r ≡ parametersAt (now (types .entry)) kind ⌝ }
 {
     let start = kind.start;
     let order = kind.order;
     let at = since(kind.place, start);
-    match type_kinds::field_in(v, start, at, Size::Four, order) {
+    match type_kinds::field_in(types, start, at, Size::Four, order) {
         Field::Value { value, next } => {
-            parameters_after(type_kinds::form_of(value), v, start, order, value, next)
+            parameters_after(type_kinds::form_of(value), types, start, order, value, next)
         }
         Field::NoField => Parameters::Fault,
     }
@@ -78,33 +78,33 @@ fn since(place: Place, start: Place) -> Index
 }
 
 // The count after id and name.
-fn count_in(v: &[u8], start: Place, order: Order) -> Field
-    ensures { λ r. ⌜ r ≡ countIn (now (v .entry)) start order ⌝ }
+fn count_in(types: &[u8], start: Place, order: Order) -> Field
+    ensures { λ r. ⌜ r ≡ countIn (now (types .entry)) start order ⌝ }
 {
-    match type_kinds::names_in(v, start, order) {
-        Skip::EndsAt(i) => type_kinds::field_in(v, start, i, Size::Four, order),
+    match type_kinds::names_in(types, start, order) {
+        Skip::EndsAt(i) => type_kinds::field_in(types, start, i, Size::Four, order),
         Skip::NoEnd => Field::NoField,
     }
 }
 
 // The type after id and name.
-fn type_in(v: &[u8], start: Place, order: Order) -> Spot
-    ensures { λ r. ⌜ r ≡ typeIn (now (v .entry)) start order ⌝ }
+fn type_in(types: &[u8], start: Place, order: Order) -> Spot
+    ensures { λ r. ⌜ r ≡ typeIn (now (types .entry)) start order ⌝ }
 {
-    match type_kinds::names_in(v, start, order) {
-        Skip::EndsAt(i) => type_kinds::spot_at(v, start, i, order),
+    match type_kinds::names_in(types, start, order) {
+        Skip::EndsAt(i) => type_kinds::spot_at(types, start, i, order),
         Skip::NoEnd => Spot::NoType,
     }
 }
 
 // The type and the number after it, of a sequence or an array.
-fn element_in(v: &[u8], start: Place, order: Order) -> Element
-    ensures { λ r. ⌜ r ≡ elementIn (now (v .entry)) start order ⌝ }
+fn element_in(types: &[u8], start: Place, order: Order) -> Element
+    ensures { λ r. ⌜ r ≡ elementIn (now (types .entry)) start order ⌝ }
 {
-    let Spot::TypeAt { inner, next } = type_kinds::spot_at(v, start, Index(1), order) else {
+    let Spot::TypeAt { inner, next } = type_kinds::spot_at(types, start, Index(1), order) else {
         return Element::NoElement;
     };
-    match type_kinds::field_in(v, start, next, Size::Four, order) {
+    match type_kinds::field_in(types, start, next, Size::Four, order) {
         Field::Value {
             value: number,
             next: _,
@@ -114,17 +114,17 @@ fn element_in(v: &[u8], start: Place, order: Order) -> Element
 }
 
 // Default and count after a union's discriminant.
-fn union_in(v: &[u8], start: Place, order: Order, discriminant: Inner, at: Index) -> Parameters
-    ensures { λ r. ⌜ r ≡ unionIn (now (v .entry)) start order discriminant at ⌝ }
+fn union_in(types: &[u8], start: Place, order: Order, discriminant: Inner, at: Index) -> Parameters
+    ensures { λ r. ⌜ r ≡ unionIn (now (types .entry)) start order discriminant at ⌝ }
 {
     let Field::Value {
         value: default,
         next: i,
-    } = type_kinds::field_in(v, start, at, Size::Four, order)
+    } = type_kinds::field_in(types, start, at, Size::Four, order)
     else {
         return Parameters::Fault;
     };
-    match type_kinds::field_in(v, start, i, Size::Four, order) {
+    match type_kinds::field_in(types, start, i, Size::Four, order) {
         Field::Value {
             value: count,
             next: first,
@@ -143,10 +143,10 @@ fn union_in(v: &[u8], start: Place, order: Order, discriminant: Inner, at: Index
 }
 
 // What a struct holds.
-fn struct_in(v: &[u8], start: Place, order: Order) -> Parameters
-    ensures { λ r. ⌜ r ≡ parametersIn Struct (now (v .entry)) start order ⌝ }
+fn struct_in(types: &[u8], start: Place, order: Order) -> Parameters
+    ensures { λ r. ⌜ r ≡ parametersIn Struct (now (types .entry)) start order ⌝ }
 {
-    match count_in(v, start, order) {
+    match count_in(types, start, order) {
         Field::Value {
             value: count,
             next: first,
@@ -161,10 +161,10 @@ fn struct_in(v: &[u8], start: Place, order: Order) -> Parameters
 }
 
 // What an exception holds.
-fn exception_in(v: &[u8], start: Place, order: Order) -> Parameters
-    ensures { λ r. ⌜ r ≡ parametersIn Exception (now (v .entry)) start order ⌝ }
+fn exception_in(types: &[u8], start: Place, order: Order) -> Parameters
+    ensures { λ r. ⌜ r ≡ parametersIn Exception (now (types .entry)) start order ⌝ }
 {
-    match count_in(v, start, order) {
+    match count_in(types, start, order) {
         Field::Value {
             value: count,
             next: first,
@@ -179,10 +179,10 @@ fn exception_in(v: &[u8], start: Place, order: Order) -> Parameters
 }
 
 // What an enum holds.
-fn enum_in(v: &[u8], start: Place, order: Order) -> Parameters
-    ensures { λ r. ⌜ r ≡ parametersIn Enum (now (v .entry)) start order ⌝ }
+fn enum_in(types: &[u8], start: Place, order: Order) -> Parameters
+    ensures { λ r. ⌜ r ≡ parametersIn Enum (now (types .entry)) start order ⌝ }
 {
-    match count_in(v, start, order) {
+    match count_in(types, start, order) {
         Field::Value {
             value: count,
             next: _,
@@ -192,10 +192,10 @@ fn enum_in(v: &[u8], start: Place, order: Order) -> Parameters
 }
 
 // What a sequence holds.
-fn sequence_in(v: &[u8], start: Place, order: Order) -> Parameters
-    ensures { λ r. ⌜ r ≡ parametersIn Sequence (now (v .entry)) start order ⌝ }
+fn sequence_in(types: &[u8], start: Place, order: Order) -> Parameters
+    ensures { λ r. ⌜ r ≡ parametersIn Sequence (now (types .entry)) start order ⌝ }
 {
-    match element_in(v, start, order) {
+    match element_in(types, start, order) {
         Element::Holds { inner, number } => Parameters::Sequence {
             element: inner,
             bound: number,
@@ -205,10 +205,10 @@ fn sequence_in(v: &[u8], start: Place, order: Order) -> Parameters
 }
 
 // What an array holds.
-fn array_in(v: &[u8], start: Place, order: Order) -> Parameters
-    ensures { λ r. ⌜ r ≡ parametersIn Array (now (v .entry)) start order ⌝ }
+fn array_in(types: &[u8], start: Place, order: Order) -> Parameters
+    ensures { λ r. ⌜ r ≡ parametersIn Array (now (types .entry)) start order ⌝ }
 {
-    match element_in(v, start, order) {
+    match element_in(types, start, order) {
         Element::Holds { inner, number } => Parameters::Array {
             element: inner,
             length: number,
@@ -218,51 +218,51 @@ fn array_in(v: &[u8], start: Place, order: Order) -> Parameters
 }
 
 // What an alias holds.
-fn alias_in(v: &[u8], start: Place, order: Order) -> Parameters
-    ensures { λ r. ⌜ r ≡ parametersIn Alias (now (v .entry)) start order ⌝ }
+fn alias_in(types: &[u8], start: Place, order: Order) -> Parameters
+    ensures { λ r. ⌜ r ≡ parametersIn Alias (now (types .entry)) start order ⌝ }
 {
-    match type_in(v, start, order) {
+    match type_in(types, start, order) {
         Spot::TypeAt { inner, next: _ } => Parameters::Alias(inner),
         Spot::NoType => Parameters::Fault,
     }
 }
 
 // What a union holds.
-fn switch_in(v: &[u8], start: Place, order: Order) -> Parameters
-    ensures { λ r. ⌜ r ≡ parametersIn Union (now (v .entry)) start order ⌝ }
+fn switch_in(types: &[u8], start: Place, order: Order) -> Parameters
+    ensures { λ r. ⌜ r ≡ parametersIn Union (now (types .entry)) start order ⌝ }
 {
-    match type_in(v, start, order) {
-        Spot::TypeAt { inner, next } => union_in(v, start, order, inner, next),
+    match type_in(types, start, order) {
+        Spot::TypeAt { inner, next } => union_in(types, start, order, inner, next),
         Spot::NoType => Parameters::Fault,
     }
 }
 
 // What an encapsulation of a layout holds.
-fn parameters_in(layout: Layout, v: &[u8], start: Place, order: Order) -> Parameters
-    ensures { λ r. ⌜ r ≡ parametersIn layout (now (v .entry)) start order ⌝ }
+fn parameters_in(layout: Layout, types: &[u8], start: Place, order: Order) -> Parameters
+    ensures { λ r. ⌜ r ≡ parametersIn layout (now (types .entry)) start order ⌝ }
 {
     match layout {
         Layout::Objref => Parameters::Flat(Inert::Objref),
-        Layout::Struct => struct_in(v, start, order),
-        Layout::Union => switch_in(v, start, order),
-        Layout::Enum => enum_in(v, start, order),
-        Layout::Sequence => sequence_in(v, start, order),
-        Layout::Array => array_in(v, start, order),
-        Layout::Alias => alias_in(v, start, order),
-        Layout::Exception => exception_in(v, start, order),
+        Layout::Struct => struct_in(types, start, order),
+        Layout::Union => switch_in(types, start, order),
+        Layout::Enum => enum_in(types, start, order),
+        Layout::Sequence => sequence_in(types, start, order),
+        Layout::Array => array_in(types, start, order),
+        Layout::Alias => alias_in(types, start, order),
+        Layout::Exception => exception_in(types, start, order),
     }
 }
 
 // What an encapsulation holds that starts at a place with its order octet.
-fn encapsulated(layout: Layout, v: &[u8], start: Place) -> Parameters
-    ensures { λ r. ⌜ r ≡ encapsulated layout (now (v .entry)) start ⌝ }
+fn encapsulated(layout: Layout, types: &[u8], start: Place) -> Parameters
+    ensures { λ r. ⌜ r ≡ encapsulated layout (now (types .entry)) start ⌝ }
 {
     let b = start.0;
-    if v.len() <= b {
+    if types.len() <= b {
         return Parameters::Fault;
     }
-    match Order::named(v[b]) {
-        Named::Is(order) => parameters_in(layout, v, start, order),
+    match Order::named(types[b]) {
+        Named::Is(order) => parameters_in(layout, types, start, order),
         Named::NoOrder => Parameters::Fault,
     }
 }
@@ -270,27 +270,27 @@ fn encapsulated(layout: Layout, v: &[u8], start: Place) -> Parameters
 // What follows a kind that was read.
 fn parameters_after(
     form: Form,
-    v: &[u8],
+    types: &[u8],
     start: Place,
     order: Order,
     kind: u64,
     at: Index,
 ) -> Parameters
-    ensures { λ r. ⌜ r ≡ parametersAfter form (now (v .entry)) start order kind at ⌝ }
+    ensures { λ r. ⌜ r ≡ parametersAfter form (now (types .entry)) start order kind at ⌝ }
 {
     match form {
         Form::Unlisted => Parameters::Fault,
         Form::Plain => Parameters::Flat(Inert::Leaf(kind)),
-        Form::Bounded => text_after(v, start, order, at),
-        Form::Composite(layout) => composite_after(layout, v, start, order, at),
+        Form::Bounded => text_after(types, start, order, at),
+        Form::Composite(layout) => composite_after(layout, types, start, order, at),
     }
 }
 
 // The bound that follows the kind of a string.
-fn text_after(v: &[u8], start: Place, order: Order, at: Index) -> Parameters
-    ensures { λ r. ⌜ r ≡ parametersAfter Bounded (now (v .entry)) start order stringKind at ⌝ }
+fn text_after(types: &[u8], start: Place, order: Order, at: Index) -> Parameters
+    ensures { λ r. ⌜ r ≡ parametersAfter Bounded (now (types .entry)) start order stringKind at ⌝ }
 {
-    match type_kinds::field_in(v, start, at, Size::Four, order) {
+    match type_kinds::field_in(types, start, at, Size::Four, order) {
         Field::Value {
             value: bound,
             next: _,
@@ -300,14 +300,20 @@ fn text_after(v: &[u8], start: Place, order: Order, at: Index) -> Parameters
 }
 
 // The encapsulation that follows a kind of a layout.
-fn composite_after(layout: Layout, v: &[u8], start: Place, order: Order, at: Index) -> Parameters
-    ensures { λ r. ⌜ r ≡ parametersAfter (Composite layout) (now (v .entry)) start order 0 at ⌝ }
+fn composite_after(
+    layout: Layout,
+    types: &[u8],
+    start: Place,
+    order: Order,
+    at: Index,
+) -> Parameters
+    ensures { λ r. ⌜ r ≡ parametersAfter (Composite layout) (now (types .entry)) start order 0 at ⌝ }
 {
-    match type_kinds::field_in(v, start, at, Size::Four, order) {
+    match type_kinds::field_in(types, start, at, Size::Four, order) {
         Field::Value {
             value: _,
             next: from,
-        } => encapsulated(layout, v, Place(start.0 + from.0)),
+        } => encapsulated(layout, types, Place(start.0 + from.0)),
         Field::NoField => Parameters::Fault,
     }
 }

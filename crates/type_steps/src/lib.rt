@@ -18,37 +18,44 @@ use type_numbers::KINDS_LIMIT;
 use type_parameters::Parameters;
 
 // Whether some kind of the list returns to itself in one or more steps.
-pub fn loops_back(v: &[u8], met: Met) -> bool
-    ensures { λ r. ⌜ r ≡ loopFound (length (kindsMet met)) (steps (now (v .entry)) (kindsMet met)) ⌝ }
+pub fn loops_back(types: &[u8], met: Met) -> bool
+    ensures { λ r. ⌜ r ≡ loopFound (length (kindsMet met)) (steps (now (types .entry)) (kindsMet met)) ⌝ }
 {
-    let table = step_table(v, met);
+    let table = step_table(types, met);
     type_loops::has_loop(table, type_list::held_in(met.count))
 }
 
 // The steps of every kind of the list.
-fn step_table(v: &[u8], met: Met) -> Steps
-    ensures { λ r. ⌜ RowsFilled (now (v .entry)) (kindsMet met) (length (kindsMet met)) (r .rows) ⌝ }
+fn step_table(types: &[u8], met: Met) -> Steps
+    ensures { λ r. ⌜ RowsFilled (now (types .entry)) (kindsMet met) (length (kindsMet met)) (r .rows) ⌝ }
 {
     let n = type_list::held_in(met.count);
     let mut rows: [u64; KINDS_LIMIT] = [0; KINDS_LIMIT];
     let mut i = 0;
     while i < n {
-        steps_from(v, met, i, &mut rows);
+        steps_from(types, met, i, &mut rows);
         i += 1;
     }
     Steps { rows: rows }
 }
 
 // Puts the steps from kind i into rows.
-fn steps_from(v: &[u8], met: Met, i: usize, rows: &mut [u64])
+fn steps_from(types: &[u8], met: Met, i: usize, rows: &mut [u64])
     requires { ⌜ i < length (now rows) ⌝ }
-    ensures { λ _. ⌜ Noted (length (kindsMet met)) (now (rows .entry)) i (steps (now (v .entry)) (kindsMet met) i) (now (rows .exit)) ⌝ }
+    ensures { λ _. ⌜ Noted (length (kindsMet met)) (now (rows .entry)) i (steps (now (types .entry)) (kindsMet met) i) (now (rows .exit)) ⌝ }
 {
-    match type_list::parameters_of(v, met, i) {
+    match type_list::parameters_of(types, met, i) {
         Parameters::Fault => {}
         Parameters::Flat(_) => {}
-        Parameters::Struct(fields) => member_steps(Labels::NoLabels, v, fields, met, i, rows),
-        Parameters::Exception(fields) => member_steps(Labels::NoLabels, v, fields, met, i, rows),
+        Parameters::Struct(fields) => member_steps(Labels::NoLabels, types, fields, met, i, rows),
+        Parameters::Exception(fields) => member_steps(
+            Labels::NoLabels,
+            types,
+            fields,
+            met,
+            i,
+            rows,
+        ),
         Parameters::Union {
             fields,
             discriminant,
@@ -56,8 +63,8 @@ fn steps_from(v: &[u8], met: Met, i: usize, rows: &mut [u64])
         } => {
             let place = type_kinds::place_in(discriminant);
             note(met, place, i, rows);
-            let labels = type_unions::labels_for(v, met, place);
-            member_steps(labels, v, fields, met, i, rows)
+            let labels = type_unions::labels_for(types, met, place);
+            member_steps(labels, types, fields, met, i, rows)
         }
         Parameters::Sequence {
             element: _,
@@ -74,11 +81,11 @@ fn steps_from(v: &[u8], met: Met, i: usize, rows: &mut [u64])
 }
 
 // Puts the steps from kind i to its members into rows.
-fn member_steps(labels: Labels, v: &[u8], fields: Fields, met: Met, i: usize, rows: &mut [u64])
+fn member_steps(labels: Labels, types: &[u8], fields: Fields, met: Met, i: usize, rows: &mut [u64])
     requires { ⌜ i < length (now rows) ⌝ }
     ensures { λ _. ⌜
         Noted (length (kindsMet met)) (now (rows .entry)) i
-        (λ z. anyStands (kindsMet met) z (typesOf (membersOf labels (now (v .entry)) fields))) (now (rows .exit))
+        (λ z. anyStands (kindsMet met) z (typesOf (membersOf labels (now (types .entry)) fields))) (now (rows .exit))
         ⌝ }
 {
     let start = fields.start;
@@ -87,7 +94,8 @@ fn member_steps(labels: Labels, v: &[u8], fields: Fields, met: Met, i: usize, ro
     let mut at = fields.first;
     let mut k: u64 = 0;
     while k < count {
-        let Spot::TypeAt { inner, next } = type_kinds::member_at(labels, v, start, at, order) else {
+        let Spot::TypeAt { inner, next } = type_kinds::member_at(labels, types, start, at, order)
+        else {
             return;
         };
         note(met, type_kinds::place_in(inner), i, rows);

@@ -88,13 +88,13 @@ fn discriminant_of(parameters: Parameters) -> Discriminant
 }
 
 // The labels of a union whose discriminant stands at a place.
-pub fn labels_for(v: &[u8], met: Met, place: Place) -> Labels
-    ensures { λ r. ⌜ r ≡ labelsFor (now (v .entry)) (kindsMet met) place ⌝ }
+pub fn labels_for(types: &[u8], met: Met, place: Place) -> Labels
+    ensures { λ r. ⌜ r ≡ labelsFor (now (types .entry)) (kindsMet met) place ⌝ }
 {
     let mut at = place;
     let mut left: usize = type_numbers::KINDS_LIMIT;
     while 0 < left {
-        match discriminant_of(type_list::found_at(v, met, at)) {
+        match discriminant_of(type_list::found_at(types, met, at)) {
             Discriminant::Through(next) => {
                 at = type_kinds::place_in(next);
             }

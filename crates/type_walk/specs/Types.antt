@@ -28,7 +28,7 @@
 use Rattle.choices.specs.{ℕ, zero, suc, _+_, _-_, List, false, cond, ltb, eqb, length, getD, take, drop, choose}
 use Rattle.cdr.specs.{octetsLimit, Index, Place, Order, Four, indexOf}
 use Rattle.cdr_fields.specs.{fieldOf}
-use Rattle.type_kinds.specs.{Form, Unlisted, Plain, Bounded, Composite, Layout, Target, LeadsTo, Outside, Labels, Of, NoLabels, Kind, placeOf}
+use Rattle.type_kinds.specs.{Form, Unlisted, Plain, Bounded, Composite, Layout, Lead, LeadsTo, Outside, Labels, Of, NoLabels, Kind, placeOf}
 use Rattle.type_kinds.specs.{placeIn, onField, Forms.formOf, Parts.onSpot, Parts.placeBefore, Parts.targetOf, Parts.spotAt}
 use Rattle.type_numbers.specs.{indirectionKind}
 use Rattle.type_kinds.specs.declared.Layout.the-variants.{Objref, Struct, Union, Enum, Sequence, Array, Alias, Exception}
@@ -46,7 +46,7 @@ targetStep w p next =
     (cond (getD (w .barred) (findKind (w .kinds) p) false) (refusedAs BadTarget w) (goesOnAt next w))
     (refusedAs BadTarget w)
 
-abbrev pub aimedStep : Target → Walk → Index → Walked
+abbrev pub aimedStep : Lead → Walk → Index → Walked
 aimedStep (LeadsTo p) w next = targetStep w p next
 aimedStep Outside w next = refusedAs BadTarget w
 

@@ -22,8 +22,8 @@ use type_fields::Switch;
 use type_kinds::Form;
 use type_kinds::Labels;
 use type_kinds::Layout;
+use type_kinds::Lead;
 use type_kinds::Spot;
-use type_kinds::Target;
 use type_list::Met;
 
 mod walks;
@@ -41,16 +41,16 @@ pub struct Walked {
 }
 
 // Checks octets as a TypeCode in a byte order: where it ends or why it is refused, 42 and 30 to 38 and 40, and the kinds met.
-pub fn walk_type(v: &[u8], order: Order) -> Walked
-    ensures { λ r. ⌜ seenAs r ≡ walkedOf (now (v .entry)) order ⌝ }
+pub fn walk_type(types: &[u8], order: Order) -> Walked
+    ensures { λ r. ⌜ seenAs r ≡ walkedOf (now (types .entry)) order ⌝ }
 {
     let walk = walks::nothing_met();
-    if cdr::OCTETS_LIMIT < v.len() {
+    if cdr::OCTETS_LIMIT < types.len() {
         return walks::refused(Refusal::TooLong, walk);
     }
     check(
-        v,
-        v,
+        types,
+        types,
         Place(0),
         order,
         Index::START,
@@ -68,30 +68,30 @@ fn place_before(start: Place, next: Index) -> Place
 }
 
 // Where an indirection leads whose offset stands at an index.
-fn indirection(s: &[u8], start: Place, order: Order, at: Index, walk: Walk) -> Walked
-    requires { ⌜ start .0 + length (now s) ≤ octetsLimit ⌝ }
-    ensures { λ r. ⌜ seenAs r ≡ indirectionAt (now (s .entry)) start order at (seen walk) ⌝ }
+fn indirection(part: &[u8], start: Place, order: Order, at: Index, walk: Walk) -> Walked
+    requires { ⌜ start .0 + length (now part) ≤ octetsLimit ⌝ }
+    ensures { λ r. ⌜ seenAs r ≡ indirectionAt (now (part .entry)) start order at (seen walk) ⌝ }
 {
     let Field::Value {
         value: offset,
         next,
-    } = cdr_fields::read_field(s, at, Size::Four, order)
+    } = cdr_fields::read_field(part, at, Size::Four, order)
     else {
         return walks::refused(Refusal::Ends, walk);
     };
     match type_kinds::target_of(place_before(start, next), offset) {
-        Target::LeadsTo(place) => walks::target_step(walk, place, next),
-        Target::Outside => walks::refused(Refusal::BadTarget, walk),
+        Lead::LeadsTo(place) => walks::target_step(walk, place, next),
+        Lead::Outside => walks::refused(Refusal::BadTarget, walk),
     }
 }
 
 // What the discriminant at an index says of labels.
-fn labels_at(v: &[u8], met: Met, start: Place, at: Index, order: Order) -> Labels
-    ensures { λ r. ⌜ r ≡ labelsAt (now (v .entry)) (kindsMet met) start at order ⌝ }
+fn labels_at(types: &[u8], met: Met, start: Place, at: Index, order: Order) -> Labels
+    ensures { λ r. ⌜ r ≡ labelsAt (now (types .entry)) (kindsMet met) start at order ⌝ }
 {
-    match type_kinds::spot_at(v, start, at, order) {
+    match type_kinds::spot_at(types, start, at, order) {
         Spot::TypeAt { inner, next: _ } => type_unions::labels_for(
-            v,
+            types,
             met,
             type_kinds::place_in(inner),
         ),
@@ -100,15 +100,24 @@ fn labels_at(v: &[u8], met: Met, start: Place, at: Index, order: Order) -> Label
 }
 
 // A TypeCode at an index, with so many levels left.
-fn check(v: &[u8], s: &[u8], start: Place, order: Order, at: Index, left: u8, walk: Walk) -> Walked
-    requires { ⌜ start .0 + length (now s) ≤ octetsLimit ⌝ }
-    ensures { λ r. ⌜ seenAs r ≡ typeAt (now (v .entry)) left (now (s .entry)) start order at (seen walk) ⌝ }
+fn check(
+    types: &[u8],
+    part: &[u8],
+    start: Place,
+    order: Order,
+    at: Index,
+    left: u8,
+    walk: Walk,
+) -> Walked
+    requires { ⌜ start .0 + length (now part) ≤ octetsLimit ⌝ }
+    ensures { λ r. ⌜ seenAs r ≡ typeAt (now (types .entry)) left (now (part .entry)) start order at (seen walk) ⌝ }
 {
-    let Field::Value { value: kind, next } = cdr_fields::read_field(s, at, Size::Four, order) else {
+    let Field::Value { value: kind, next } = cdr_fields::read_field(part, at, Size::Four, order)
+    else {
         return walks::refused(Refusal::Ends, walk);
     };
     if kind == type_numbers::INDIRECTION {
-        return indirection(s, start, order, next, walk);
+        return indirection(part, start, order, next, walk);
     }
     let form = type_kinds::form_of(kind);
     let here = walks::count(walk);
@@ -117,16 +126,26 @@ fn check(v: &[u8], s: &[u8], start: Place, order: Order, at: Index, left: u8, wa
         Entry::Enters => {
             let place = place_before(start, next);
             let entered = walks::enter(walk, place, start, order, form);
-            inside(v, form, s, start, order, next, left - 1, entered, here)
+            inside(
+                types,
+                form,
+                part,
+                start,
+                order,
+                next,
+                left - 1,
+                entered,
+                here,
+            )
         }
     }
 }
 
 // What follows a kind of a form, which has the position `here`.
 fn inside(
-    v: &[u8],
+    types: &[u8],
     form: Form,
-    s: &[u8],
+    part: &[u8],
     start: Place,
     order: Order,
     at: Index,
@@ -134,14 +153,14 @@ fn inside(
     walk: Walk,
     here: usize,
 ) -> Walked
-    requires { ⌜ (start .0 + length (now s) ≤ octetsLimit) × (here < kindsLimit) ⌝ }
-    ensures { λ r. ⌜ seenAs r ≡ insideAt (now (v .entry)) (typeAt (now (v .entry)) left) form (now (s .entry)) start order at (seen walk) here ⌝ }
+    requires { ⌜ (start .0 + length (now part) ≤ octetsLimit) × (here < kindsLimit) ⌝ }
+    ensures { λ r. ⌜ seenAs r ≡ insideAt (now (types .entry)) (typeAt (now (types .entry)) left) form (now (part .entry)) start order at (seen walk) here ⌝ }
 {
     match form {
         Form::Unlisted => walks::refused(Refusal::NoSuchKind, walk),
         Form::Plain => walks::goes_on(at, walks::close(walk, here)),
-        Form::Bounded => walks::bounded(s, order, at, walk, here),
-        Form::Composite(layout) => match type_counts::part_at(s, at, order) {
+        Form::Bounded => walks::bounded(part, order, at, walk, here),
+        Form::Composite(layout) => match type_parts::part_at(part, at, order) {
             Part::NoPart(refusal) => walks::refused(refusal, walk),
             Part::Inside {
                 start: from,
@@ -149,8 +168,8 @@ fn inside(
                 order: o,
             } => {
                 let first = Place(start.0 + from);
-                let c = parameters(v, layout, &s[from..end], first, o, left, walk);
-                walks::ended(c, here, end - from, end)
+                let walked = parameters(types, layout, &part[from..end], first, o, left, walk);
+                walks::ended(walked, here, end - from, end)
             }
         },
     }
@@ -158,28 +177,28 @@ fn inside(
 
 // What an encapsulation of a layout holds.
 fn parameters(
-    v: &[u8],
+    types: &[u8],
     layout: Layout,
-    s: &[u8],
+    part: &[u8],
     start: Place,
     order: Order,
     left: u8,
     walk: Walk,
 ) -> Walked
-    requires { ⌜ start .0 + length (now s) ≤ octetsLimit ⌝ }
-    ensures { λ r. ⌜ seenAs r ≡ contentsAt (now (v .entry)) (typeAt (now (v .entry)) left) layout (now (s .entry)) start order (seen walk) ⌝ }
+    requires { ⌜ start .0 + length (now part) ≤ octetsLimit ⌝ }
+    ensures { λ r. ⌜ seenAs r ≡ contentsAt (now (types .entry)) (typeAt (now (types .entry)) left) layout (now (part .entry)) start order (seen walk) ⌝ }
 {
     match layout {
-        Layout::Objref => walks::on(type_counts::names_step(s, order), walk),
-        Layout::Enum => walks::on(type_counts::enum_step(s, order), walk),
-        Layout::Struct => match type_counts::head_step(s, order) {
+        Layout::Objref => walks::on(type_counts::names_step(part, order), walk),
+        Layout::Enum => walks::on(type_parts::enum_step(part, order), walk),
+        Layout::Struct => match type_counts::head_step(part, order) {
             Count::Wrong(refusal) => walks::refused(refusal, walk),
             Count::Stands { count, next } => {
                 member_types(
-                    v,
+                    types,
                     Labels::NoLabels,
                     type_unions::NO_DEFAULT,
-                    s,
+                    part,
                     start,
                     order,
                     next,
@@ -189,14 +208,14 @@ fn parameters(
                 )
             }
         },
-        Layout::Exception => match type_counts::exception_step(s, order) {
+        Layout::Exception => match type_counts::exception_step(part, order) {
             Count::Wrong(refusal) => walks::refused(refusal, walk),
             Count::Stands { count, next } => {
                 member_types(
-                    v,
+                    types,
                     Labels::NoLabels,
                     type_unions::NO_DEFAULT,
-                    s,
+                    part,
                     start,
                     order,
                     next,
@@ -207,52 +226,63 @@ fn parameters(
             }
         },
         Layout::Sequence => {
-            let c = check(v, s, start, order, Index(1), left, walk);
-            walks::then_number(s, order, c)
+            let walked = check(types, part, start, order, Index(1), left, walk);
+            walks::then_number(part, order, walked)
         }
         Layout::Array => {
-            let c = check(v, s, start, order, Index(1), left, walk);
-            walks::then_length(s, order, c)
+            let walked = check(types, part, start, order, Index(1), left, walk);
+            walks::then_length(part, order, walked)
         }
-        Layout::Alias => match type_counts::names_step(s, order) {
+        Layout::Alias => match type_counts::names_step(part, order) {
             Step::Refused(refusal) => walks::refused(refusal, walk),
-            Step::Next(i) => check(v, s, start, order, i, left, walk),
+            Step::Next(i) => check(types, part, start, order, i, left, walk),
         },
-        Layout::Union => match type_counts::names_step(s, order) {
+        Layout::Union => match type_counts::names_step(part, order) {
             Step::Refused(refusal) => walks::refused(refusal, walk),
-            Step::Next(i) => switched(v, s, start, order, i, left, walk),
+            Step::Next(i) => switched(types, part, start, order, i, left, walk),
         },
     }
 }
 
 // The discriminant of a union at an index, and what follows it.
 fn switched(
-    v: &[u8],
-    s: &[u8],
+    types: &[u8],
+    part: &[u8],
     start: Place,
     order: Order,
     at: Index,
     left: u8,
     walk: Walk,
 ) -> Walked
-    requires { ⌜ start .0 + length (now s) ≤ octetsLimit ⌝ }
-    ensures { λ r. ⌜ seenAs r ≡ discriminantAt (now (v .entry)) (typeAt (now (v .entry)) left) (now (s .entry)) start order at (seen walk) ⌝ }
+    requires { ⌜ start .0 + length (now part) ≤ octetsLimit ⌝ }
+    ensures { λ r. ⌜ seenAs r ≡ discriminantAt (now (types .entry)) (typeAt (now (types .entry)) left) (now (part .entry)) start order at (seen walk) ⌝ }
 {
-    let c = check(v, s, start, order, at, left, walk);
-    let w = c.walk;
+    let walked = check(types, part, start, order, at, left, walk);
+    let w = walked.walk;
     let met = w.met;
-    let step = c.step;
+    let step = walked.step;
     match step {
         Step::Refused(refusal) => walks::refused(refusal, w),
         Step::Next(i) => {
-            let labels = labels_at(v, met, start, at, order);
-            match walks::switch_head(labels, s, i, order) {
+            let labels = labels_at(types, met, start, at, order);
+            match walks::switch_head(labels, part, i, order) {
                 Switch::NoSwitch(refusal) => walks::refused(refusal, w),
                 Switch::Cases {
                     default,
                     count,
                     next,
-                } => member_types(v, labels, default, s, start, order, next, count, left, w),
+                } => member_types(
+                    types,
+                    labels,
+                    default,
+                    part,
+                    start,
+                    order,
+                    next,
+                    count,
+                    left,
+                    w,
+                ),
             }
         }
     }
@@ -260,10 +290,10 @@ fn switched(
 
 // So many members from an index on, each with a label where there are labels.
 fn member_types(
-    v: &[u8],
+    types: &[u8],
     labels: Labels,
     default: u64,
-    s: &[u8],
+    part: &[u8],
     start: Place,
     order: Order,
     first: Index,
@@ -271,24 +301,25 @@ fn member_types(
     left: u8,
     walk: Walk,
 ) -> Walked
-    requires { ⌜ start .0 + length (now s) ≤ octetsLimit ⌝ }
+    requires { ⌜ start .0 + length (now part) ≤ octetsLimit ⌝ }
     ensures { λ r. ⌜
-        seenAs r ≡ membersAt (now (v .entry)) (typeAt (now (v .entry)) left) labels default (now (s .entry)) start order first count 0 first (seen walk)
+        seenAs r ≡ membersAt (now (types .entry)) (typeAt (now (types .entry)) left) labels default (now (part .entry)) start order first count 0 first
+        (seen walk)
         ⌝ }
 {
     let mut w = walk;
     let mut at = first;
     let mut k: u64 = 0;
     while k < count {
-        let name = walks::name_after(labels, v, s, start, order, default, k, first, at);
+        let name = walks::name_after(labels, types, part, start, order, default, k, first, at);
         match name {
             Step::Refused(refusal) => {
                 return walks::refused(refusal, w);
             }
             Step::Next(i) => {
-                let c = check(v, s, start, order, i, left, w);
-                let step = c.step;
-                w = c.walk;
+                let walked = check(types, part, start, order, i, left, w);
+                let step = walked.step;
+                w = walked.walk;
                 match step {
                     Step::Refused(refusal) => {
                         return walks::refused(refusal, w);

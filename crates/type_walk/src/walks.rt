@@ -148,23 +148,23 @@ pub(crate) fn close(walk: Walk, here: usize) -> Walk
 }
 
 // The bound of a string, the kind at a position.
-pub(crate) fn bounded(s: &[u8], order: Order, at: Index, walk: Walk, here: usize) -> Walked
+pub(crate) fn bounded(part: &[u8], order: Order, at: Index, walk: Walk, here: usize) -> Walked
     requires { ⌜ here < kindsLimit ⌝ }
-    ensures { λ r. ⌜ seenAs r ≡ onStep (numberStep (now (s .entry)) at order) (seen walk) (λ next. goesOnAt next (closedAt (seen walk) here)) ⌝ }
+    ensures { λ r. ⌜ seenAs r ≡ onStep (numberStep (now (part .entry)) at order) (seen walk) (λ next. goesOnAt next (closedAt (seen walk) here)) ⌝ }
 {
-    match type_counts::number_step(s, at, order) {
+    match type_counts::number_step(part, at, order) {
         Step::Refused(refusal) => refused(refusal, walk),
         Step::Next(next) => goes_on(next, close(walk, here)),
     }
 }
 
 // The parameters have to end with their encapsulation.
-pub(crate) fn ended(c: Walked, here: usize, length: usize, end: usize) -> Walked
+pub(crate) fn ended(walked: Walked, here: usize, length: usize, end: usize) -> Walked
     requires { ⌜ here < kindsLimit ⌝ }
-    ensures { λ r. ⌜ seenAs r ≡ endedAt here length end (seenAs c) ⌝ }
+    ensures { λ r. ⌜ seenAs r ≡ endedAt here length end (seenAs walked) ⌝ }
 {
-    let walk = c.walk;
-    let step = c.step;
+    let walk = walked.walk;
+    let step = walked.step;
     match step {
         Step::Refused(refusal) => refused(refusal, walk),
         Step::Next(i) => {
@@ -177,34 +177,34 @@ pub(crate) fn ended(c: Walked, here: usize, length: usize, end: usize) -> Walked
 }
 
 // The bound after a sequence's type.
-pub(crate) fn then_number(s: &[u8], order: Order, c: Walked) -> Walked
-    ensures { λ r. ⌜ seenAs r ≡ afterType (seenAs c) (λ i w. onStep (numberStep (now (s .entry)) i order) w (λ next. goesOnAt next w)) ⌝ }
+pub(crate) fn then_number(part: &[u8], order: Order, walked: Walked) -> Walked
+    ensures { λ r. ⌜ seenAs r ≡ afterType (seenAs walked) (λ i w. onStep (numberStep (now (part .entry)) i order) w (λ next. goesOnAt next w)) ⌝ }
 {
-    let walk = c.walk;
-    let step = c.step;
+    let walk = walked.walk;
+    let step = walked.step;
     match step {
         Step::Refused(refusal) => refused(refusal, walk),
-        Step::Next(i) => on(type_counts::number_step(s, i, order), walk),
+        Step::Next(i) => on(type_counts::number_step(part, i, order), walk),
     }
 }
 
 // The length after an array's type.
-pub(crate) fn then_length(s: &[u8], order: Order, c: Walked) -> Walked
-    ensures { λ r. ⌜ seenAs r ≡ afterType (seenAs c) (λ i w. onStep (lengthStep (now (s .entry)) i order) w (λ next. goesOnAt next w)) ⌝ }
+pub(crate) fn then_length(part: &[u8], order: Order, walked: Walked) -> Walked
+    ensures { λ r. ⌜ seenAs r ≡ afterType (seenAs walked) (λ i w. onStep (lengthStep (now (part .entry)) i order) w (λ next. goesOnAt next w)) ⌝ }
 {
-    let walk = c.walk;
-    let step = c.step;
+    let walk = walked.walk;
+    let step = walked.step;
     match step {
         Step::Refused(refusal) => refused(refusal, walk),
-        Step::Next(i) => on(type_counts::length_step(s, i, order), walk),
+        Step::Next(i) => on(type_counts::length_step(part, i, order), walk),
     }
 }
 
 // A member's name behind its label.
 pub(crate) fn name_after(
     labels: Labels,
-    v: &[u8],
-    s: &[u8],
+    types: &[u8],
+    part: &[u8],
     start: Place,
     order: Order,
     default: u64,
@@ -212,20 +212,20 @@ pub(crate) fn name_after(
     first: Index,
     at: Index,
 ) -> Step
-    ensures { λ r. ⌜ r ≡ nameStep labels (now (v .entry)) (now (s .entry)) start order default done first at ⌝ }
+    ensures { λ r. ⌜ r ≡ nameStep labels (now (types .entry)) (now (part .entry)) start order default done first at ⌝ }
 {
-    match type_fields::label_step(labels, v, s, start, order, default, done, first, at) {
+    match type_fields::label_step(labels, types, part, start, order, default, done, first, at) {
         Step::Refused(refusal) => Step::Refused(refusal),
-        Step::Next(i) => type_counts::text_step(s, i, order),
+        Step::Next(i) => type_counts::text_step(part, i, order),
     }
 }
 
 // Default and count of a union, if its discriminant may be one.
-pub(crate) fn switch_head(labels: Labels, s: &[u8], at: Index, order: Order) -> Switch
-    ensures { λ r. ⌜ r ≡ switchHead labels (now (s .entry)) at order ⌝ }
+pub(crate) fn switch_head(labels: Labels, part: &[u8], at: Index, order: Order) -> Switch
+    ensures { λ r. ⌜ r ≡ switchHead labels (now (part .entry)) at order ⌝ }
 {
     match labels {
         Labels::NoLabels => Switch::NoSwitch(Refusal::BadUnion),
-        Labels::Of { size: _, limit: _ } => type_fields::switch_step(s, at, order),
+        Labels::Of { size: _, limit: _ } => type_fields::switch_step(part, at, order),
     }
 }

@@ -45,10 +45,10 @@ fn refused_with(answer: TypeAnswer) -> CheckedType
 }
 
 // The last test of all: whether some kind returns to itself.
-fn loop_last(v: &[u8], end: Index, met: Met) -> CheckedType
-    ensures { λ r. ⌜ toldBy r ≡ loopLast (now (v .entry)) end (kindsMet met) ⌝ }
+fn loop_last(types: &[u8], end: Index, met: Met) -> CheckedType
+    ensures { λ r. ⌜ toldBy r ≡ loopLast (now (types .entry)) end (kindsMet met) ⌝ }
 {
-    if type_steps::loops_back(v, met) {
+    if type_steps::loops_back(types, met) {
         return refused_with(TypeAnswer::Loop);
     }
     let kinds = type_list::held_in(met.count);
@@ -59,15 +59,15 @@ fn loop_last(v: &[u8], end: Index, met: Met) -> CheckedType
 }
 
 // Checks octets as a TypeCode in a byte order.
-pub fn check_type(v: &[u8], order: Order) -> CheckedType
-    ensures { λ r. ⌜ toldBy r ≡ checkedType (now (v .entry)) order ⌝ }
+pub fn check_type(types: &[u8], order: Order) -> CheckedType
+    ensures { λ r. ⌜ toldBy r ≡ checkedType (now (types .entry)) order ⌝ }
 {
-    let c = type_walk::walk_type(v, order);
-    let walk = c.walk;
+    let walked = type_walk::walk_type(types, order);
+    let walk = walked.walk;
     let met = walk.met;
-    let step = c.step;
+    let step = walked.step;
     match step {
         Step::Refused(refusal) => refused_with(TypeAnswer::Refused(refusal)),
-        Step::Next(end) => loop_last(v, end, met),
+        Step::Next(end) => loop_last(types, end, met),
     }
 }

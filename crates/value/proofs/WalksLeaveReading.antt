@@ -21,32 +21,11 @@ use Rattle.value_cursor.specs.Walk.{stateOf, cursorStart}
 use Rattle.value_leaves.proofs.ItemsInTable.{fullAt, stored, Small, walked, filled, row, picked}
 use Rattle.value.specs.declared.ItemAnswer.the-variants.{Given, Refused as refusedItem}
 use Rattle.value.specs.Single.{givenBy}
-use Rattle.value.specs.Typed.{Bounded}
-use Rattle.value.specs.Inner.{readInto, Read}
+use Rattle.value_typed.specs.Typed.{FitsWords}
+use Rattle.value_typed.proofs.AfterWalk.{After, after-walk}
+use Rattle.value.specs.Inner.{readInto, ReadAs}
 
--- a cursor and a table after a walk
-pub record After (limited fill : Bool) (first : ℕ) (x : Source) (t : Checked) (table : List ℕ) (c : Cursor) (after : List ℕ) : Type 0 where
-  pub at : c .at ≡ reading (fullAt limited table) x t .at
-  pub fault : c .fault ≡ reading (fullAt limited table) x t .fault
-  pub visits : c .visits ≡ reading (fullAt limited table) x t .kept .visits
-  pub items : c .items ≡ length (reading (fullAt limited table) x t .kept .items)
-  pub rows : after ≡ stored fill first table (reading (fullAt limited table) x t .kept .items)
-
-module _ (t : Checked) (x : Source) (bounded : Bounded t x) where
-  pub after-walk : (limited fill : Bool) (first : ℕ) (table : List ℕ) (c : Cursor) (after : List ℕ)
-      → stateOf c after ≡ reads (lentSink limited fill first) x t levels (topOf t) (stateOf cursorStart table) → After limited fill first x t table c after
-  after-walk limited fill first table c after e =
-      let small : Small (reading (fullAt limited table) x t) = record
-      { visits = bounded .visits (fullAt limited table); items = bounded .items (fullAt limited table) } in
-      let b = walked limited fill first x table t small in
-      record {
-        at = ap (λ (s : St Lent). s .at) e ∙ b .at;
-        fault = ap (λ (s : St Lent). s .fault) e ∙ b .fault;
-        visits = ap (λ (s : St Lent). s .kept .visits) e ∙ b .visits;
-        items = ap (λ (s : St Lent). s .kept .items) e ∙ b .items;
-        rows = ap (λ (s : St Lent). s .kept .table) e ∙ b .rows;
-      }
-
+module _ (t : Checked) (x : Source) (bounded : FitsWords t x) where
   module _ (table : List ℕ) where
     abbrev result : St Log
     result = reading (roomFor (roomIn table)) x t
@@ -61,9 +40,9 @@ module _ (t : Checked) (x : Source) (bounded : Bounded t x) where
 
     module _ (c : Cursor) (after : List ℕ) (e : stateOf c after ≡ reads (lentSink true false 0) x t levels (topOf t) (stateOf cursorStart table)) where
       -- a walk that finds a refusal
-      pub found-refusal : (c .fault ≡ 0 → ⊥) → Read t x table (Refused (c .fault) (c .visits)) after
+      pub found-refusal : (c .fault ≡ 0 → ⊥) → ReadAs t x table (Refused (c .fault) (c .visits)) after
       found-refusal z =
-          let w = after-walk true false 0 table c after e in
+          let w = after-walk t x bounded true false 0 table c after e in
           let r = refused (λ y. z (w .fault ∙ y)) in
           let a : Refused (c .fault) (c .visits) ≡ readInto t x table =
           ap (λ (n : ℕ). Refused n (c .visits)) (w .fault) ∙ ap (Refused (result .fault)) (w .visits) ∙ sym r in
@@ -72,11 +51,11 @@ module _ (t : Checked) (x : Source) (bounded : Bounded t x) where
       -- a walk that finds none, and the one that fills the table after it
       pub found-none : c .fault ≡ 0 → (d : Cursor) (last : List ℕ)
           → stateOf d last ≡ reads (lentSink true true 0) x t levels (topOf t) (stateOf cursorStart after)
-          → Read t x table (Accepted (d .at) (d .items) (d .visits)) last
+          → ReadAs t x table (Accepted (d .at) (d .items) (d .visits)) last
       found-none z d last f =
-          let w = after-walk true false 0 table c after e in
+          let w = after-walk t x bounded true false 0 table c after e in
           let g = subst (λ (l : List ℕ). stateOf d last ≡ reads (lentSink true true 0) x t levels (topOf t) (stateOf cursorStart l)) (w .rows) f in
-          let y = after-walk true true 0 table d last g in
+          let y = after-walk t x bounded true true 0 table d last g in
           let r = accepted (sym (w .fault) ∙ z) in
           let a : Accepted (d .at) (d .items) (d .visits) ≡ readInto t x table =
           ap (λ (n : ℕ). Accepted n (d .items) (d .visits)) (y .at)
@@ -98,20 +77,20 @@ module _ (t : Checked) (x : Source) (bounded : Bounded t x) where
     pub picked-refused : (c .fault ≡ 0 → ⊥) → refusedItem (c .fault) ≡ givenBy whole n
     unfolding givenBy choose
     picked-refused z =
-        let w = after-walk false true n (0 ∷ 0 ∷ 0 ∷ []) c after e in
+        let w = after-walk t x bounded false true n (0 ∷ 0 ∷ 0 ∷ []) c after e in
         ap refusedItem (w .fault) ∙ sym (rw (ne-eqb (whole .fault) 0 (λ y. z (w .fault ∙ y))))
 
     pub picked-none : c .fault ≡ 0 → c .items ≤ n → refusedItem 49 ≡ givenBy whole n
     unfolding givenBy choose
     picked-none z h =
-        let w = after-walk false true n (0 ∷ 0 ∷ 0 ∷ []) c after e in
+        let w = after-walk t x bounded false true n (0 ∷ 0 ∷ 0 ∷ []) c after e in
         let l : length (whole .kept .items) ≤ n = let i = w .items in omega arith in
         sym (rw (eq-eqb (whole .fault) 0 (sym (w .fault) ∙ z), le-ltb n (length (whole .kept .items)) l))
 
     pub picked-item : c .fault ≡ 0 → n < c .items → Given (itemOf (getD after 0 0) (getD after 2 0)) ≡ givenBy whole n
     unfolding givenBy choose
     picked-item z h =
-        let w = after-walk false true n (0 ∷ 0 ∷ 0 ∷ []) c after e in
+        let w = after-walk t x bounded false true n (0 ∷ 0 ∷ 0 ∷ []) c after e in
         let l : n < length (whole .kept .items) = let i = w .items in omega arith in
         let p : after ≡ row (itemNo (whole .kept .items) n) = w .rows ∙ picked n (whole .kept .items) l in
         ap (λ (r : List ℕ). Given (itemOf (getD r 0 0) (getD r 2 0))) p

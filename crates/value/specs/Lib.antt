@@ -1,4 +1,3 @@
--- What a value is read under, and a single item by its number.
-pub mod Typed
+-- A single item by its number.
 pub mod Single
 pub mod Inner

@@ -1,45 +1,26 @@
 // Reading a value: its items into a lent table, or a single item by its number. 42 comes first, then the type's refusal, then the value's.
 ghost use mathlib.Core.Path.{_≡_};
-ghost use mathlib.Core.Bool.{_||_};
-ghost use lib.Dec.{ltb};
 ghost use Rattle.value_meaning.specs.Sinks.{source};
 ghost use Rattle.value_meaning.specs.Visit.{checked};
 ghost use Rattle.value_meaning.specs.Reading.{anyRoom, reading};
-ghost use Rattle.cdr.specs.Limit.{octetsLimit};
 ghost use Rattle.value_meaning.specs.Value.{roomIn, valueAnswer, tableAfter};
 ghost use Rattle.type_list.specs.Arrays.{kindsMet};
-ghost use Rattle.value.specs.Typed.{typedBy, judgedBy, typedFor};
 ghost use Rattle.value.specs.Single.{givenBy, itemAnswer};
-ghost use Rattle.value.specs.Typed.{Bounded};
-ghost use Rattle.value.specs.Inner.{Read};
+ghost use Rattle.value_typed.specs.Typed.{FitsWords};
+ghost use Rattle.value.specs.Inner.{ReadAs};
 use cdr::Index;
 use cdr::Order;
 use type_list::Met;
-use typecode::TypeAnswer;
 use value_cursor::Mode;
-use value_items::Item;
+use value_items::ItemValue;
 use value_meaning::ValueAnswer;
-
-// Whether a value may be read under a type, or 01's number of the refusal.
-pub enum Judged {
-    Accepted,
-    Refused(u32),
-}
-
-// What a value is read under: the judgement, and the kinds of an accepted type.
-pub struct Typed {
-    pub judged: Judged,
-    pub met: Met,
-}
+use value_typed::Judged;
 
 // What a single item asked for by its number is, or 01's number of the refusal.
 pub enum ItemAnswer {
-    Given(Item),
+    Given(ItemValue),
     Refused(u32),
 }
-
-// The most octets of a type and of a value.
-const LIMIT: usize = cdr::OCTETS_LIMIT;
 
 // Reads a value into the table, three numbers an item; a refusal leaves it as it was.
 pub fn read_value(
@@ -55,7 +36,7 @@ pub fn read_value(
         × (now (table .exit) ≡ tableAfter (now (types .entry)) torder (source (now (value .entry)) order start) (now (table .entry)))
         ⌝ }
 {
-    let c = check(types, torder, value.len());
+    let c = value_typed::check(types, torder, value.len());
     let met = c.met;
     let judged = c.judged;
     match judged {
@@ -75,53 +56,13 @@ pub fn read_item(
 ) -> ItemAnswer
     ensures { λ r. ⌜ r ≡ itemAnswer (now (types .entry)) torder (source (now (value .entry)) order start) number ⌝ }
 {
-    let c = check(types, torder, value.len());
+    let c = value_typed::check(types, torder, value.len());
     let met = c.met;
     let judged = c.judged;
     match judged {
         Judged::Accepted => pick(types, met, value, order, start, number),
         Judged::Refused(refusal) => ItemAnswer::Refused(refusal),
     }
-}
-
-// Checks the type of a value of so many octets.
-pub fn check(types: &[u8], torder: Order, octets: usize) -> Typed
-    ensures { λ r. ⌜ typedBy r ≡ typedFor (now (types .entry)) torder «octets» ⌝ }
-{
-    if over_long(types.len(), octets) {
-        return Typed {
-            judged: Judged::Refused(refusals::TOO_LONG),
-            met: Met::none(),
-        };
-    }
-    let c = typecode::check_type(types, torder);
-    let met = c.met;
-    let answer = c.answer;
-    Typed {
-        judged: judge(answer),
-        met,
-    }
-}
-
-// Whether a value may be read under a type that was checked.
-fn judge(answer: TypeAnswer) -> Judged
-    ensures { λ r. ⌜ r ≡ judgedBy answer ⌝ }
-{
-    match answer {
-        TypeAnswer::Accepted { used: _, kinds: _ } => Judged::Accepted,
-        TypeAnswer::Refused(refusal) => Judged::Refused(refusal.number()),
-        TypeAnswer::Loop => Judged::Refused(refusals::LOOP),
-    }
-}
-
-// Whether type or value has too many octets.
-fn over_long(t: usize, v: usize) -> bool
-    ensures { λ r. ⌜ r ≡ (ltb octetsLimit t || ltb octetsLimit v) ⌝ }
-{
-    if LIMIT < t {
-        return true;
-    }
-    LIMIT < v
 }
 
 // Reads under a checked type: a first walk finds a refusal, and a second one fills the table.
@@ -133,8 +74,10 @@ fn read_into(
     start: Index,
     table: &mut [u64],
 ) -> ValueAnswer
-    requires { ⌜ Bounded (checked (now types) (kindsMet met)) (source (now value) order start) ⌝ }
-    ensures { λ r. ⌜ Read (checked (now (types .entry)) (kindsMet met)) (source (now (value .entry)) order start) (now (table .entry)) r (now (table .exit)) ⌝ }
+    requires { ⌜ FitsWords (checked (now types) (kindsMet met)) (source (now value) order start) ⌝ }
+    ensures { λ r. ⌜
+        ReadAs (checked (now (types .entry)) (kindsMet met)) (source (now (value .entry)) order start) (now (table .entry)) r (now (table .exit))
+        ⌝ }
 {
     let looking = Mode {
         order,
@@ -167,7 +110,7 @@ fn read_into(
 
 // Reads under a checked type for one item, which goes into a row of its own.
 fn pick(types: &[u8], met: Met, value: &[u8], order: Order, start: Index, number: u64) -> ItemAnswer
-    requires { ⌜ Bounded (checked (now types) (kindsMet met)) (source (now value) order start) ⌝ }
+    requires { ⌜ FitsWords (checked (now types) (kindsMet met)) (source (now value) order start) ⌝ }
     ensures { λ r. ⌜ r ≡ givenBy (reading anyRoom (source (now (value .entry)) order start) (checked (now (types .entry)) (kindsMet met))) number ⌝ }
 {
     let mut row = [0u64; 3];

@@ -1,2 +1,2 @@
 -- Laws that other crates cite.
-pub mod Items
+pub mod BitsBack

@@ -15,8 +15,8 @@ use lib.Dec.{ltb, eqb}
 use lib.IntN.{ℤ, pos, negsuc}
 use lib.Ieee.{binary32, binary64, ofBits}
 use Rattle.type_numbers.specs.Kinds.{shortKind, longKind, longLongKind, floatKind, doubleKind}
-use Rattle.value_items.specs.declared.Item.{Item}
-use Rattle.value_items.specs.declared.Item.the-variants.{Signed, Unsigned, Single, Double}
+use Rattle.value_items.specs.declared.ItemValue.{ItemValue}
+use Rattle.value_items.specs.declared.ItemValue.the-variants.{Signed, Unsigned, Single, Double}
 
 abbrev pub signedKind : ℕ → Bool
 signedKind kind = eqb kind shortKind || eqb kind longKind || eqb kind longLongKind
@@ -28,30 +28,30 @@ abbrev pub complementOf : ℤ → ℕ
 complementOf (pos n) = n
 complementOf (negsuc n) = 2 ^ 64 - suc n
 
-abbrev pub singleOf : ℕ → Item
+abbrev pub singleOf : ℕ → ItemValue
 singleOf content = Single (content % 2 ^ 32) (ofBits binary32 (content % 2 ^ 32))
 
-abbrev pub doubleOf : ℕ → Item
+abbrev pub doubleOf : ℕ → ItemValue
 doubleOf content = Double content (ofBits binary64 content)
 
-unfoldable pub itemOf : ℕ → ℕ → Item
+unfoldable pub itemOf : ℕ → ℕ → ItemValue
 itemOf kind content =
     cond (signedKind kind) (Signed (signedOf content))
     (cond (eqb kind floatKind) (singleOf content)
     (cond (eqb kind doubleKind) (doubleOf content)
     (Unsigned content)))
 
-abbrev pub itemCase : Item → ℕ
+abbrev pub itemCase : ItemValue → ℕ
 itemCase (Signed x) = 0
 itemCase (Unsigned x) = 1
 itemCase (Single bits x) = 2
 itemCase (Double bits x) = 3
 
-abbrev pub bitsOf : Item → ℕ
+abbrev pub bitsOf : ItemValue → ℕ
 bitsOf (Signed x) = complementOf x
 bitsOf (Unsigned x) = x
 bitsOf (Single bits x) = bits
 bitsOf (Double bits x) = bits
 
-abbrev pub caseAndBits : Item → List ℕ
+abbrev pub caseAndBits : ItemValue → List ℕ
 caseAndBits item = itemCase item ∷ bitsOf item ∷ []

@@ -1,2 +1,3 @@
 -- Single items of a value.
 pub mod Items
+pub mod Rows

@@ -5,7 +5,7 @@ ghost use lib.Ieee.{binary32, binary64, ofBits};
 ghost use Rattle.value_items.specs.Items.{signedKind, signedOf, complementOf, singleOf, itemOf, itemCase, bitsOf};
 
 // What an item is; a float has the recorded bits beside it.
-pub enum Item {
+pub enum ItemValue {
     Signed(i64),
     Unsigned(u64),
     Single { bits: u32, value: f32 },
@@ -13,19 +13,19 @@ pub enum Item {
 }
 
 // The item of a kind with this content.
-pub fn item_of(kind: u64, content: u64) -> Item
+pub fn item_of(kind: u64, content: u64) -> ItemValue
     ensures { λ r. ⌜ r ≡ itemOf kind content ⌝ }
 {
     if is_signed(kind) {
-        return Item::Signed(signed(content));
+        return ItemValue::Signed(signed(content));
     }
     match kind {
         type_numbers::FLOAT => single_of(content),
-        type_numbers::DOUBLE => Item::Double {
+        type_numbers::DOUBLE => ItemValue::Double {
             bits: content,
             value: double(content),
         },
-        _ => Item::Unsigned(content),
+        _ => ItemValue::Unsigned(content),
     }
 }
 
@@ -37,11 +37,11 @@ pub fn is_signed(kind: u64) -> bool
 }
 
 // The single float of the content's last 32 bits.
-fn single_of(content: u64) -> Item
+fn single_of(content: u64) -> ItemValue
     ensures { λ r. ⌜ r ≡ singleOf content ⌝ }
 {
     let bits = (content % 4294967296) as u32;
-    Item::Single {
+    ItemValue::Single {
         bits,
         value: single(bits),
     }
@@ -93,16 +93,16 @@ fn double(bits: u64) -> f64
     }
 }
 
-impl Item {
+impl ItemValue {
     // Which case the item is: 0 signed, 1 unsigned, 2 single, 3 double.
     pub fn case(self) -> u64
         ensures { λ r. ⌜ r ≡ itemCase self ⌝ }
     {
         match self {
-            Item::Signed(_) => 0,
-            Item::Unsigned(_) => 1,
-            Item::Single { bits: _, value: _ } => 2,
-            Item::Double { bits: _, value: _ } => 3,
+            ItemValue::Signed(_) => 0,
+            ItemValue::Unsigned(_) => 1,
+            ItemValue::Single { bits: _, value: _ } => 2,
+            ItemValue::Double { bits: _, value: _ } => 3,
         }
     }
 
@@ -111,10 +111,10 @@ impl Item {
         ensures { λ r. ⌜ r ≡ bitsOf self ⌝ }
     {
         match self {
-            Item::Signed(x) => complement(x),
-            Item::Unsigned(x) => x,
-            Item::Single { bits, value: _ } => bits as u64,
-            Item::Double { bits, value: _ } => bits,
+            ItemValue::Signed(x) => complement(x),
+            ItemValue::Unsigned(x) => x,
+            ItemValue::Single { bits, value: _ } => bits as u64,
+            ItemValue::Double { bits, value: _ } => bits,
         }
     }
 }

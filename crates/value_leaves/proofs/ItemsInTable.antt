@@ -13,7 +13,7 @@ use Rattle.cdr.specs.Number.{readOf}
 use Rattle.value_meaning.specs.Sinks.{Source, Item, item, St, st, taken}
 use Rattle.value_meaning.specs.Visit.{Checked}
 use Rattle.value_meaning.specs.Reading.{Log, logging, reads, levels, atStart, topOf, reading}
-use Rattle.value_meaning.specs.Value.{roomIn, flat, itemNo}
+use Rattle.value_meaning.specs.Value.{roomIn, itemRows, itemNo}
 use Rattle.value_meaning.proofs.SideBySide.{Steps, reads-step}
 use Rattle.value_cursor.specs.Lent.{Lent, lentOf, set3, rowPut, lentSink}
 
@@ -189,17 +189,17 @@ set3-sets table i x rest =
     rw (c, a, b)
 
 filled-from : (i : ℕ) (is : List Item) (table : List ℕ) → i + length is ≤ roomIn table
-    → rowsFrom 0 i is table ≡ sets table (i * 3) (flat is)
-unfolding rowsFrom flat
+    → rowsFrom 0 i is table ≡ sets table (i * 3) (itemRows is)
+unfolding rowsFrom itemRows
 filled-from i [] table h = refl
 filled-from i (x ∷ is) table h =
     let row : List ℕ = set3 table (i * 3) (x .kind) (x .place) (x .content) in
     let put : rowPut 0 i x table ≡ row = row-put 0 i i x table (omega arith) (omega arith) in
     let l = set3-long table (i * 3) (x .kind) (x .place) (x .content) in
-    ap (rowsFrom 0 (i + 1) is) put ∙ filled-from (i + 1) is row (omega arith) ∙ set3-sets table i x (flat is)
+    ap (rowsFrom 0 (i + 1) is) put ∙ filled-from (i + 1) is row (omega arith) ∙ set3-sets table i x (itemRows is)
 
 -- a table with room for all items has them from its start
-pub filled : (is : List Item) (table : List ℕ) → length is ≤ roomIn table → rowsFrom 0 0 is table ≡ sets table 0 (flat is)
+pub filled : (is : List Item) (table : List ℕ) → length is ≤ roomIn table → rowsFrom 0 0 is table ≡ sets table 0 (itemRows is)
 filled is table h = filled-from 0 is table (omega arith)
 
 -- the row of an item

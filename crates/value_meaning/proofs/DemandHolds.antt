@@ -14,7 +14,7 @@ use Rattle.type_counts.specs.declared.Refusal.the-variants.{TooLong}
 use Rattle.type_walk.specs.Types.{walkedOf}
 use Rattle.typecode.specs.declared.TypeAnswer.the-variants.{Accepted as accepted, Refused as refused}
 use Rattle.typecode.specs.TypeCode.{checkedType}
-use Rattle.type_laws.specs.Loops.{Count}
+use Rattle.type_laws.specs.Loops.{KindCount}
 use Rattle.type_laws.proofs.Exactly39.{accepted-as}
 use Rattle.type_laws.proofs.LoopsExactly.{loops-exactly, refuses-exactly, accepted-count}
 use Rattle.type_laws.proofs.CountOnce.{count-once}
@@ -79,7 +79,7 @@ module _ (v : List ℕ) (order : Order) where
         }
 
   -- the number of kinds written is the one that the check gives
-  read-counted : Accepts v order → (k : ℕ) → Count v order k → (x : Source) → length (x .octets) ≤ octetsLimit → (table : List ℕ) → ReadUnder k v order x table
+  read-counted : Accepts v order → (k : ℕ) → KindCount v order k → (x : Source) → length (x .octets) ≤ octetsLimit → (table : List ℕ) → ReadUnder k v order x table
   read-counted h k c x short table =
       let e : h .1 ≡ k = count-once v order (h .1) k (accepted-count v order (h .0) (h .1) (h .2)) c in
       subst (λ (n : ℕ). ReadUnder n v order x table) e (read-under (h .0) (h .1) (h .2) x table short)

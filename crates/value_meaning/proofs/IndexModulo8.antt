@@ -8,7 +8,7 @@ use Rattle.cdr.specs.declared.Order.{Order}
 use Rattle.cdr.specs.declared.Size.{Size}
 use Rattle.cdr.specs.Align.{octets, gap, indexOf}
 use Rattle.cdr.specs.Number.{readOf}
-use Rattle.cdr.proofs.Alignment.{gap-modulo-8}
+use Rattle.cdr.proofs.GapsBounded.{gap-modulo-8}
 use Rattle.value_meaning.specs.Sinks.{Source, source, item, St, failed, begun, putIn, readAt, tookNumber, octetsAt, tookOctets}
 use Rattle.value_meaning.specs.Visit.{Checked}
 use Rattle.value_meaning.specs.Reading.{Log, logging, levels, atStart, topOf, reading}

@@ -14,7 +14,7 @@ use Rattle.cdr.specs.declared.Read.the-variants.{Number, Ends}
 use Rattle.cdr_text.specs.Text.{overBound, endsText}
 use Rattle.choices.specs.Lists.{anyOf}
 use Rattle.value_meaning.specs.Refusals.{isValueRefusal, roomRefusal}
-use Rattle.value_meaning.specs.Sinks.{Source, Item, item, Sink, St, failed, onRead, done, readAt, tookNumber, numberStep, octetsAt}
+use Rattle.value_meaning.specs.Sinks.{Source, Item, item, Sink, St, failed, onRead, done, readAt, tookNumber, numberTaken, octetsAt}
 use Rattle.value_meaning.specs.Sinks.{tookOctets, octetsStep}
 use Rattle.value_meaning.specs.Visit.{sizeOf, contentOf, leafDone, leafAt, enumDone, enumAt, textDone, textGot, textAt, countDone}
 use Rattle.value_meaning.specs.Visit.{countAt, tagDone, tagAt, runDone, runGot, runAt}
@@ -35,8 +35,8 @@ module _ {A : Type 0} (k : Sink A) (x : Source) (s : St A) (Q P : St A → Type 
   on-read size f h Ends t = C .ended
   on-read size f h (Number p n) t = h p n (tookNumber k size p n s) (C .first size p n t)
 
-  number-gives : (size : Size) (f : ℕ → ℕ → St A → St A) → ((p n : ℕ) (r : St A) → Q r → P (f p n r)) → P (numberStep k x size f s)
-  unfolding numberStep
+  number-gives : (size : Size) (f : ℕ → ℕ → St A → St A) → ((p n : ℕ) (r : St A) → Q r → P (f p n r)) → P (numberTaken k x size f s)
+  unfolding numberTaken
   number-gives size f h = on-read size f h (readAt k x size s) refl
 
   octets-give : (n : ℕ) (f : ℕ → List ℕ → St A → St A) → ((p : ℕ) (these : List ℕ) (u : St A) → Q u → P (f p these u)) → (r : St A) → Q r

@@ -18,12 +18,12 @@ use Rattle.cdr_text.specs.declared.Text.{Text}
 use Rattle.cdr_text.specs.declared.Text.the-variants.{Chars, Empty, Over, Short, Zeros}
 use Rattle.cdr_text.specs.declared.Run.the-variants.{To, Past}
 use Rattle.cdr_text.specs.Text.{overBound, endsText, textOf, runOf}
-use Rattle.cdr_text.proofs.Texts.{run-facts, run-short}
+use Rattle.cdr_text.proofs.TextEnds.{run-facts, run-short}
 use Rattle.type_kinds.specs.declared.Inert.{Inert}
 use Rattle.type_unions.specs.Shapes.{Shape}
 use Rattle.type_unions.specs.Shapes.Shape.{flat}
 use Rattle.value_meaning.specs.Sinks.{Source, Item, item, number, run, Sink, St, failed, andThen, repeats, onRead, begun, taken, putIn}
-use Rattle.value_meaning.specs.Sinks.{done, readAt, tookNumber, numberStep, octetsAt, tookOctets, octetsStep}
+use Rattle.value_meaning.specs.Sinks.{done, readAt, tookNumber, numberTaken, octetsAt, tookOctets, octetsStep}
 use Rattle.value_meaning.specs.Visit.{Checked, sizeOf, contentOf, leafDone, leafAt, enumDone, textDone, textGot, countDone, runDone, runGot, inertAt}
 use Rattle.value_meaning.specs.Opens.{Node, node, Open, ownOf, unless, opens, entries, closes, shuts, enterNode, readsNode}
 use Rattle.value_meaning.specs.Reading.{reads}
@@ -91,12 +91,12 @@ module _ {A : Type 0} (k : Sink A) (i : Item) (s : St A) where
 module _ {A : Type 0} (k : Sink A) (x : Source) where
   -- a number that was read, or not
   module _ (size : Size) (f : ℕ → ℕ → St A → St A) (s : St A) where
-    pub number-some : (p n : ℕ) → readAt k x size s ≡ Number p n → numberStep k x size f s ≡ f p n (tookNumber k size p n s)
-    unfolding numberStep
+    pub number-some : (p n : ℕ) → readAt k x size s ≡ Number p n → numberTaken k x size f s ≡ f p n (tookNumber k size p n s)
+    unfolding numberTaken
     number-some p n e = ap (λ (r : Read). onRead r s (λ q y. f q y (tookNumber k size q y s))) e
 
-    pub number-none : readAt k x size s ≡ Ends → numberStep k x size f s ≡ failed 50 s
-    unfolding numberStep
+    pub number-none : readAt k x size s ≡ Ends → numberTaken k x size f s ≡ failed 50 s
+    unfolding numberTaken
     number-none e = ap (λ (r : Read). onRead r s (λ q y. f q y (tookNumber k size q y s))) e
 
   -- a kind without parameters
@@ -105,7 +105,7 @@ module _ {A : Type 0} (k : Sink A) (x : Source) where
     unfolding leafAt choose
     leaf-nothing s h = rw (lt-ltb kind 2 h)
 
-    pub leaf-number : (s : St A) → 2 ≤ kind → leafAt k x kind s ≡ numberStep k x (sizeOf kind) (leafDone k x kind) s
+    pub leaf-number : (s : St A) → 2 ≤ kind → leafAt k x kind s ≡ numberTaken k x (sizeOf kind) (leafDone k x kind) s
     unfolding leafAt choose
     leaf-number s h = rw (le-ltb kind 2 h)
 
@@ -114,13 +114,13 @@ module _ {A : Type 0} (k : Sink A) (x : Source) where
         → leafAt k x kind s ≡ leafDone k x kind p n (taken k (number (p - s .at) p (octets z) n) (p + w) s)
     leaf-read z p n w s h ez ew e =
         leaf-number s h
-        ∙ ap (λ (y : Size). numberStep k x y (leafDone k x kind) s) (sym ez)
+        ∙ ap (λ (y : Size). numberTaken k x y (leafDone k x kind) s) (sym ez)
         ∙ number-some z (leafDone k x kind) s p n e
         ∙ ap (λ (i : ℕ). leafDone k x kind p n (taken k (number (p - s .at) p (octets z) n) (p + i) s)) (sym ew)
 
     pub leaf-ends : (z : Size) (s : St A) → 2 ≤ kind → z ≡ sizeOf kind → readAt k x z s ≡ Ends → leafAt k x kind s ≡ failed 50 s
     leaf-ends z s h ez e =
-        leaf-number s h ∙ ap (λ (y : Size). numberStep k x y (leafDone k x kind) s) (sym ez) ∙ number-none z (leafDone k x kind) s e
+        leaf-number s h ∙ ap (λ (y : Size). numberTaken k x y (leafDone k x kind) s) (sym ez) ∙ number-none z (leafDone k x kind) s e
 
     module _ (p n : ℕ) (s : St A) where
       pub leaf-above : kind ≡ 8 → 1 < n → leafDone k x kind p n s ≡ failed 51 s

@@ -15,7 +15,7 @@ use Rattle.value_meaning.specs.Sinks.{Source, Item, Piece, Sink, St, fai
 use Rattle.value_meaning.specs.Visit.{Checked, leafAt, enumAt, textAt, countAt, tagAt, runAt, profileAt, profilesAt, objrefAt, inertAt}
 use Rattle.value_meaning.specs.Opens.{Node, node, nodeAt, Open, Next, onNext, next, Own, ownOf, ownAt, own, closes, shuts, enterNode, readsNode}
 use Rattle.value_meaning.specs.Opens.Next.{over, into}
-use Rattle.value_meaning.specs.Opens.Own.{nothing, inert, counts}
+use Rattle.value_meaning.specs.Opens.Own.{nothing, inert, countUpTo}
 use Rattle.value_meaning.specs.Reading.{reads}
 use Rattle.value_meaning.proofs.ByChoice.{by-choice}
 use Rattle.value_meaning.proofs.PartsOfVisits.{Part, leaf-gives, enum-gives, text-gives, count-gives, tag-gives, run-gives}
@@ -68,12 +68,12 @@ module _ {A : Type 0} (k : Sink A) (x : Source) (G : Inert → Type 0) (P : St A
   abbrev Reads : Own → Type 0
   Reads nothing = Unit
   Reads (inert i) = G i
-  Reads (counts bound) = Unit
+  Reads (countUpTo bound) = Unit
 
   own-keeps : (o : Own) → Reads o → (s : St A) → P s → P (ownAt k x o s)
   own-keeps nothing g s h = h
   own-keeps (inert i) g s h = inert-keeps i g s h
-  own-keeps (counts bound) g s h = W .count bound s h
+  own-keeps (countUpTo bound) g s h = W .count bound s h
 
   -- a shape that G allows
   abbrev Leads : Shape → Type 0

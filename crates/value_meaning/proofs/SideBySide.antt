@@ -19,14 +19,14 @@ use Rattle.type_kinds.specs.declared.Inert.{Inert}
 use Rattle.type_kinds.specs.declared.Inert.the-variants.{Leaf, Text, Objref, Enum}
 use Rattle.type_unions.specs.Shapes.{Shape}
 use Rattle.value_meaning.specs.Sinks.{Source, Item, item, Piece, Sink, St, failed, andThen, repeats, onRead, begun, taken, putIn, done}
-use Rattle.value_meaning.specs.Sinks.{readAt, tookNumber, numberStep, octetsAt, tookOctets, octetsStep}
+use Rattle.value_meaning.specs.Sinks.{readAt, tookNumber, numberTaken, octetsAt, tookOctets, octetsStep}
 use Rattle.value_meaning.specs.Visit.{Checked, sizeOf, contentOf, leafDone, leafAt, enumDone, enumAt, textDone, textGot, textAt}
 use Rattle.value_meaning.specs.Visit.{countDone, countAt, tagDone, tagAt, runDone, runGot, runAt, profileAt, profilesAt, objrefAt}
 use Rattle.value_meaning.specs.Visit.{inertAt}
 use Rattle.value_meaning.specs.Opens.{Node, node, nodeAt, Open, Next, onNext, next, entries, Own, ownOf, ownAt, opens, closes, shuts}
 use Rattle.value_meaning.specs.Opens.{enterNode, readsNode}
 use Rattle.value_meaning.specs.Opens.Next.{over, into}
-use Rattle.value_meaning.specs.Opens.Own.{nothing, inert, counts}
+use Rattle.value_meaning.specs.Opens.Own.{nothing, inert, countUpTo}
 use Rattle.value_meaning.specs.Reading.{reads}
 
 module _ {A A′ : Type 0} (k : Sink A) (k′ : Sink A′) (x x′ : Source)
@@ -144,8 +144,8 @@ module _ {A A′ : Type 0} (k : Sink A) (k′ : Sink A′) (x x′ : Source)
 
       number-both : (g : Read) (s : St A) (s′ : St A′) → readAt k x size s ≡ g → R s s′
           → E (onRead g s (λ p n. f p n (tookNumber k size p n s)))
-          → R (onRead g s (λ p n. f p n (tookNumber k size p n s))) (numberStep k′ x′ size f′ s′)
-      unfolding numberStep
+          → R (onRead g s (λ p n. f p n (tookNumber k size p n s))) (numberTaken k′ x′ size f′ s′)
+      unfolding numberTaken
       number-both (Number p n) s s′ g r e =
           let a = S .by-number size p n s s′ r g (took p n s e) in
           subst (λ (g : Read). R (f p n (tookNumber k size p n s)) (onRead g s′ (λ p n. f′ p n (tookNumber k′ size p n s′)))) (sym (a .read))
@@ -155,8 +155,8 @@ module _ {A A′ : Type 0} (k : Sink A) (k′ : Sink A′) (x x′ : Source)
           (sym (S .by-no-number size s s′ r g e))
           (S .by-fail 50 s s′ (omega arith) r)
 
-      number-step : Step (numberStep k x size f) (numberStep k′ x′ size f′)
-      unfolding numberStep
+      number-step : Step (numberTaken k x size f) (numberTaken k′ x′ size f′)
+      unfolding numberTaken
       number-step = record {
         back = λ s e. number-back (readAt k x size s) s e;
         both = λ s s′ r e. number-both (readAt k x size s) s s′ refl r e;
@@ -252,7 +252,7 @@ module _ {A A′ : Type 0} (k : Sink A) (k′ : Sink A′) (x x′ : Source)
     own-step : (o : Own) → Step (ownAt k x o) (ownAt k′ x′ o)
     own-step nothing = none-step
     own-step (inert i) = inert-step i
-    own-step (counts bound) = count-step bound
+    own-step (countUpTo bound) = count-step bound
 
     -- f and f′ visit what is inside
     module _ {f : Node → St A → St A} {f′ : Node → St A′ → St A′} (h : (q : Node) → Step (f q) (f′ q)) where

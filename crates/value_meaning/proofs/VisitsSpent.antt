@@ -12,7 +12,7 @@ use Rattle.choices.proofs.Choices.{never-both}
 use Rattle.cdr.specs.declared.Size.{Size}
 use Rattle.cdr.specs.declared.Read.the-variants.{Number}
 use Rattle.cdr.specs.Align.{octets}
-use Rattle.cdr.proofs.Alignment.{gap-small, read-facts}
+use Rattle.cdr.proofs.GapsBounded.{gap-small, read-facts}
 use Rattle.type_kinds.specs.declared.Inert.{Inert}
 use Rattle.type_kinds.specs.declared.Inert.the-variants.{Leaf, Text, Objref, Enum}
 use Rattle.value_meaning.specs.Sinks.{Source, Item, Sink, St, failed, andThen, repeats, taken, putIn, done, readAt, tookNumber, tookOctets}

@@ -16,9 +16,9 @@ use Rattle.choices.specs.{_≡_, _↔_, List, true, ℕ, _+_, _*_, _≤_, lengt
 use Rattle.cdr.specs.{Order, octetsLimit}
 use Rattle.type_counts.specs.{Refusal}
 use Rattle.typecode.specs.{Accepted as accepted, Refused as refused, Loop, TypeCode.checkedType}
-use Rattle.type_laws.specs.Loops.{Loops, FirstFault, NoFault, Count}
+use Rattle.type_laws.specs.Loops.{Loops, FirstFault, NoFault, KindCount}
 use Rattle.value_meaning.specs.{declared.ValueAnswer.ValueAnswer, Refusals.isValueRefusal, Sinks.Source, Sinks.St, Reading.Log}
-use Rattle.value_meaning.specs.{Reading.roomFor, Value.roomIn, Value.visitsIn, Value.readingOf, Value.valueAnswer, Value.flat}
+use Rattle.value_meaning.specs.{Reading.roomFor, Value.roomIn, Value.visitsIn, Value.readingOf, Value.valueAnswer, Value.itemRows}
 use Rattle.value_meaning.specs.{Value.tableAfter}
 use Rattle.value_meaning.specs.declared.ValueAnswer.the-variants.{Accepted, Refused}
 
@@ -28,7 +28,7 @@ Accepts v order = (used kinds : ℕ) × (checkedType v order .answer ≡ accepte
 abbrev pub AnswerOf : St Log → List ℕ → ValueAnswer → List ℕ → Type 0
 AnswerOf s table (Accepted used items visits) after =
     (s .fault ≡ 0) × (used ≡ s .at) × (items ≡ length (s .kept .items)) × (visits ≡ s .kept .visits)
-    × (3 * items ≤ length table) × (after ≡ sets table 0 (flat (s .kept .items)))
+    × (3 * items ≤ length table) × (after ≡ sets table 0 (itemRows (s .kept .items)))
 AnswerOf s table (Refused number visits) after =
     (number ≡ s .fault) × (isValueRefusal number ≡ true) × (visits ≡ s .kept .visits) × (after ≡ table)
 
@@ -37,7 +37,7 @@ pub record ReadUnder (k : ℕ) (v : List ℕ) (order : Order) (x : Source) (tabl
   pub bound : visitsIn (valueAnswer v order x (roomIn table)) ≤ k * (length (x .octets) + 1)
 
 pub record Demand3 (v : List ℕ) (order : Order) : Type 0 where
-  pub reads : Accepts v order → (k : ℕ) → Count v order k → (x : Source) → length (x .octets) ≤ octetsLimit → (table : List ℕ) → ReadUnder k v order x table
-  pub kinds : (used k : ℕ) → checkedType v order .answer ≡ accepted used k → Count v order k
+  pub reads : Accepts v order → (k : ℕ) → KindCount v order k → (x : Source) → length (x .octets) ≤ octetsLimit → (table : List ℕ) → ReadUnder k v order x table
+  pub kinds : (used k : ℕ) → checkedType v order .answer ≡ accepted used k → KindCount v order k
   pub faults : (r : Refusal) → (checkedType v order .answer ≡ refused r) ↔ FirstFault v order r
   pub loops : (checkedType v order .answer ≡ Loop) ↔ (NoFault v order × Loops v order)

@@ -72,7 +72,7 @@ entries (pick ms default) = 1
 pub data Own : Type 0 where
   nothing : Own
   inert : Inert → Own
-  counts : ℕ → Own
+  countUpTo : ℕ → Own
 
 unfoldable pub ownOf : Shape → Own
 ownOf fault = nothing
@@ -80,7 +80,7 @@ ownOf (flat i) = inert i
 ownOf (struct xs) = nothing
 ownOf (exception xs) = inert (Text 0)
 ownOf (union d ms default) = nothing
-ownOf (sequence x bound) = counts bound
+ownOf (sequence x bound) = countUpTo bound
 ownOf (array x n) = nothing
 ownOf (alias x) = nothing
 
@@ -105,7 +105,7 @@ module _ {A : Type 0} (k : Sink A) (x : Source) where
   abbrev pub ownAt : Own → St A → St A
   ownAt nothing s = s
   ownAt (inert i) s = inertAt k x i s
-  ownAt (counts bound) s = countAt k x bound s
+  ownAt (countUpTo bound) s = countAt k x bound s
 
   abbrev pub own : Shape → St A → St A
   own p s = ownAt (ownOf p) s

@@ -10,12 +10,12 @@
 --   onType          what follows an accepted type, and a refused one's number
 --   underType       what follows an accepted type, or a refusal before any visit: 42 first, then the type's
 --   valueAnswer     the answer, where there is room for so many items
---   flat            items as numbers, three each
 --   filledBy        a table that an answer fills or leaves
 --   tableAfter      "lent memory that an answer doesn't fill keeps its contents": the items from the table's start, or as it was
 --   itemNo          "numbers start at 0": the item of a number; past the last, three zeros
 use Rattle.choices.specs.{ℕ, zero, suc, _/_, List, [], _∷_, _++_, Bool, _||_, ltb, eqb, length, sets, choose}
 use Rattle.cdr.specs.{Order, octetsLimit}
+unfoldable pub use Rattle.value_items.specs.Rows.{itemRows}
 use Rattle.typecode.specs.{TypeAnswer, Accepted as accepted, Refused as refused, Loop, TypeCode.typeAnswerNumber, TypeCode.checkedType}
 use Rattle.value_meaning.specs.{declared.ValueAnswer.ValueAnswer, Sinks.Source, Sinks.Item, Sinks.item, Sinks.St, Visit.checked}
 use Rattle.value_meaning.specs.{Reading.Log, Reading.roomFor, Reading.reading}
@@ -62,12 +62,8 @@ underType v order x f g = choose (overlong v x) (λ _. g 42) (λ _. onType (chec
 unfoldable pub valueAnswer : List ℕ → Order → Source → ℕ → ValueAnswer
 valueAnswer v order x room = underType v order x (λ _. readingAnswer (readingOf (roomFor room) v order x)) (λ n. Refused n 0)
 
-unfoldable pub flat : List Item → List ℕ
-flat [] = []
-flat (i ∷ is) = i .kind ∷ i .place ∷ i .content ∷ flat is
-
 abbrev pub filledBy : ValueAnswer → List ℕ → List Item → List ℕ
-filledBy (Accepted used items visits) table is = sets table 0 (flat is)
+filledBy (Accepted used items visits) table is = sets table 0 (itemRows is)
 filledBy (Refused number visits) table is = table
 
 unfoldable pub tableAfter : List ℕ → Order → Source → List ℕ → List ℕ

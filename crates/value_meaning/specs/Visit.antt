@@ -30,7 +30,7 @@ use Rattle.type_numbers.specs.Kinds.{stringKind, sequenceKind, longLongKind, un
 use Rattle.cdr_text.specs.Text.{overBound, endsText}
 use Rattle.type_kinds.specs.{Inner, Inert, Leaf, Text, Objref, Enum, Kind}
 use Rattle.type_unions.specs.{Shape, look}
-use Rattle.value_meaning.specs.Sinks.{Source, item, Sink, St, failed, andThen, repeats, done, numberStep, octetsStep}
+use Rattle.value_meaning.specs.Sinks.{Source, item, Sink, St, failed, andThen, repeats, done, numberTaken, octetsStep}
 
 pub record Checked : Type 0 where
   pub look : Inner → Shape
@@ -56,13 +56,13 @@ module _ {A : Type 0} (k : Sink A) (x : Source) where
       (λ _. done k (item kind p (contentOf kind n)) s)
 
   unfoldable pub leafAt : ℕ → St A → St A
-  leafAt kind s = choose (ltb kind shortKind) (λ _. s) (λ _. numberStep k x (sizeOf kind) (leafDone kind) s)
+  leafAt kind s = choose (ltb kind shortKind) (λ _. s) (λ _. numberTaken k x (sizeOf kind) (leafDone kind) s)
 
   unfoldable pub enumDone : ℕ → ℕ → ℕ → St A → St A
   enumDone names p n s = choose (leb names n) (λ _. failed 52 s) (λ _. done k (item enumKind p n) s)
 
   unfoldable pub enumAt : ℕ → St A → St A
-  enumAt names s = numberStep k x Four (enumDone names) s
+  enumAt names s = numberTaken k x Four (enumDone names) s
 
   unfoldable pub textDone : ℕ → ℕ → List ℕ → St A → St A
   textDone n p these s = choose (endsText these) (λ _. done k (item stringKind p (n - 1)) s) (λ _. failed 53 s)
@@ -76,19 +76,19 @@ module _ {A : Type 0} (k : Sink A) (x : Source) where
       (λ _. octetsStep k x n (textDone n) s))
 
   unfoldable pub textAt : ℕ → St A → St A
-  textAt bound s = numberStep k x Four (textGot bound) s
+  textAt bound s = numberTaken k x Four (textGot bound) s
 
   unfoldable pub countDone : ℕ → ℕ → ℕ → St A → St A
   countDone bound p n s = choose (overBound n bound) (λ _. failed 54 s) (λ _. done k (item sequenceKind p n) s)
 
   unfoldable pub countAt : ℕ → St A → St A
-  countAt bound s = numberStep k x Four (countDone bound) s
+  countAt bound s = numberTaken k x Four (countDone bound) s
 
   unfoldable pub tagDone : ℕ → ℕ → St A → St A
   tagDone p n s = done k (item unsignedLongKind p n) s
 
   unfoldable pub tagAt : St A → St A
-  tagAt s = numberStep k x Four tagDone s
+  tagAt s = numberTaken k x Four tagDone s
 
   unfoldable pub runDone : ℕ → ℕ → List ℕ → St A → St A
   runDone n p these s = done k (item runKind p n) s
@@ -97,7 +97,7 @@ module _ {A : Type 0} (k : Sink A) (x : Source) where
   runGot p n s = octetsStep k x n (runDone n) s
 
   unfoldable pub runAt : St A → St A
-  runAt s = numberStep k x Four runGot s
+  runAt s = numberTaken k x Four runGot s
 
   unfoldable pub profileAt : St A → St A
   profileAt s = andThen (tagAt s) runAt

@@ -15,8 +15,8 @@ use Rattle.cdr.specs.declared.Read.the-variants.{Number, Ends}
 use Rattle.cdr.specs.Align.{octets, behindGap}
 use Rattle.cdr.specs.Number.{numberAt, readOf}
 use Rattle.choices.proofs.Choices.{by-test, clash}
-use Rattle.cdr.proofs.Alignment.{read-number, read-facts}
-use Rattle.cdr.proofs.Numbers.{number-one}
+use Rattle.cdr.proofs.GapsBounded.{read-number, read-facts}
+use Rattle.cdr.proofs.NumbersGivenBack.{number-one}
 use Rattle.value_meaning.specs.Sinks.{item, number, St, st, andThen, repeats, begun, taken}
 use Rattle.value_meaning.specs.Visit.{sizeOf, contentOf}
 use Rattle.value_meaning.proofs.ReadingCases as way

@@ -18,12 +18,12 @@ use Rattle.value_meaning.specs.Visit.{Checked}
 use Rattle.value_meaning.proofs.ReadingCases.{goes-on, stops}
 use Rattle.value_cursor.specs.Lent.{Lent}
 use Rattle.value_leaves.proofs.RepeatsLoop.{rows}
-use Rattle.value_walk.specs.Nested.{membersAt}
+use Rattle.value_walk.specs.Nested.{membersRead}
 
 module _ (k : Sink Lent) (x : Source) (f : Shape → St Lent → St Lent) (t : Checked) (v : List ℕ) (b : Place) (order : Order) where
   -- what m members from an index on give
   abbrev reading : ℕ → Index × St Lent → St Lent
-  reading m s = membersAt k x f t (typesOf (membersFrom NoLabels v b order m (s .0))) (s .1)
+  reading m s = membersRead k x f t (typesOf (membersFrom NoLabels v b order m (s .0))) (s .1)
 
   -- j of n members are read from s₀ on, the next one stands at i, and s is the state
   pub record Onward (n : ℕ) (first : Index) (s₀ : St Lent) (j : ℕ) (i : Index) (s : St Lent) : Type 0 where
@@ -31,16 +31,16 @@ module _ (k : Sink Lent) (x : Source) (f : Shape → St Lent → St Lent) (t : C
     pub left : Left reading n (first, s₀) j (i, s)
 
   members-end : (i : Index) (s : St Lent) → reading 0 (i, s) ≡ s
-  unfolding membersFrom typesOf membersAt
+  unfolding membersFrom typesOf membersRead
   members-end i s = refl
 
   members-none : (i : Index) (s : St Lent) → memberAt NoLabels v b i order ≡ NoType → (m : ℕ) → reading (suc m) (i, s) ≡ s
-  unfolding typesOf membersAt
+  unfolding typesOf membersRead
   members-none i s e m = rw (members-cut NoLabels v b order i e m)
 
   members-one : (i : Index) (s : St Lent) (y : Inner) (next : Index) → memberAt NoLabels v b i order ≡ TypeAt y next → (m : ℕ)
       → reading (suc m) (i, s) ≡ andThen (f (t .look y) s) (λ u. reading m (next, u))
-  unfolding typesOf membersAt
+  unfolding typesOf membersRead
   members-one i s y next e m = rw (members-more NoLabels v b order i y next e m)
 
   module _ {n : ℕ} {first : Index} {s₀ : St Lent} where

@@ -24,7 +24,7 @@ use Rattle.value_meaning.proofs.ReadingCases.{after-same, after-none, goes-on, 
 use Rattle.value_plans.specs.declared.Plan.{Plan}
 use Rattle.value_plans.specs.Plans.{planSteps, planOf}
 use Rattle.value_plans.proofs.PlanReadsStruct.{Fits, plan-reads, plan-fits}
-use Rattle.value_walk.specs.Nested.{sequenceAt, membersAt, exceptionAt, armAt, unionAt}
+use Rattle.value_walk.specs.Nested.{sequenceAt, membersRead, exceptionAt, armAt, unionAt}
 
 -- ---- the nested visit
 
@@ -33,7 +33,7 @@ module _ {A : Type 0} (k : Sink A) (x : Source) (f : Shape → St A → St A) (t
   unfoldable pub enter : Shape → St A → St A
   enter fault s = s
   enter (flat i) s = inertAt k x i s
-  enter (struct ys) s = membersAt k x f t ys s
+  enter (struct ys) s = membersRead k x f t ys s
   enter (exception ys) s = exceptionAt k x f t ys s
   enter (union d ms default) s = unionAt k x f t d ms default s
   enter (sequence y bound) s = sequenceAt k x f (t .look y) bound s
@@ -58,11 +58,11 @@ module _ {A : Type 0} (f : Node → St A → St A) (t : Checked) where
     abbrev f′ : Shape → St A → St A
     f′ p = f (node t p)
 
-    row-is : (ys : List Inner) (s : St A) → closes f t (length ys) (row ys) s ≡ membersAt k x f′ t ys s
-    unfolding closes next membersAt
+    row-is : (ys : List Inner) (s : St A) → closes f t (length ys) (row ys) s ≡ membersRead k x f′ t ys s
+    unfolding closes next membersRead
     row-is [] s = refl
     row-is (y ∷ ys) s =
-        after-same (f (nodeAt t y) s) (f (nodeAt t y) s) (closes f t (length ys) (row ys)) (membersAt k x f′ t ys) refl (row-is ys)
+        after-same (f (nodeAt t y) s) (f (nodeAt t y) s) (closes f t (length ys) (row ys)) (membersRead k x f′ t ys) refl (row-is ys)
 
     arm-is : (a : Arm) (s : St A)
         → onNext (onArm a (λ y. into y shut) over) s (λ y o. andThen (f (nodeAt t y) s) (closes f t 0 o)) ≡ armAt k x f′ t a s
@@ -84,7 +84,7 @@ module _ {A : Type 0} (f : Node → St A → St A) (t : Checked) where
     enter-is (flat i) s = refl
     enter-is (struct ys) s = row-is ys s
     enter-is (exception ys) s =
-        unless-is f t (textAt k x 0 s) (row ys) (membersAt k x f′ t ys) (row-is ys (textAt k x 0 s))
+        unless-is f t (textAt k x 0 s) (row ys) (membersRead k x f′ t ys) (row-is ys (textAt k x 0 s))
     enter-is (union d ms default) s = union-is d ms default s
     enter-is (sequence y bound) s =
         unless-is f t (countAt k x bound s) (each y (countAt k x bound s .last))
@@ -136,11 +136,11 @@ module _ {A : Type 0} (k : Sink A) (x : Source) (f : Shape → St A → St A) wh
   module _ (t : Checked) (ys : List Inner) (s u : St A) (is : u ≡ textAt k x 0 s) where
     pub exception-stop : (u .fault ≡ 0 → ⊥) → exceptionAt k x f t ys s ≡ u
     unfolding exceptionAt
-    exception-stop z = stops (membersAt k x f t ys) (textAt k x 0 s) u is z
+    exception-stop z = stops (membersRead k x f t ys) (textAt k x 0 s) u is z
 
-    pub exception-go : u .fault ≡ 0 → exceptionAt k x f t ys s ≡ membersAt k x f t ys u
+    pub exception-go : u .fault ≡ 0 → exceptionAt k x f t ys s ≡ membersRead k x f t ys u
     unfolding exceptionAt
-    exception-go z = goes-on (membersAt k x f t ys) (textAt k x 0 s) u is z
+    exception-go z = goes-on (membersRead k x f t ys) (textAt k x 0 s) u is z
 
   module _ (t : Checked) (d : Inner) (ms : List Member) (default : ℕ) (s u : St A) (is : u ≡ f (t .look d) s) where
     abbrev arm : St A → St A

@@ -2,7 +2,7 @@
 --   readsBelow     a visit of a shape with so many levels left, in a walk of a mode over a value of the type that octets and kinds give
 --   readsWith      the same of what has these parameters
 --   sequenceAt     "sequence: count, then elements"
---   membersAt      members of these types, in order
+--   membersRead    members of these types, in order
 --   exceptionAt    "exception: a text id, then members"; "an exception's id none"
 --   armAt          the chosen member, if there is one
 --   unionAt        "union: discriminant, then the member"
@@ -25,12 +25,12 @@ module _ {A : Type 0} (k : Sink A) (x : Source) (f : Shape → St A → St A) wh
   sequenceAt e bound s = andThen (countAt k x bound s) (λ u. repeats (f e) (u .last) u)
 
   module _ (t : Checked) where
-    unfoldable pub membersAt : List Inner → St A → St A
-    membersAt [] s = s
-    membersAt (y ∷ ys) s = andThen (f (t .look y) s) (membersAt ys)
+    unfoldable pub membersRead : List Inner → St A → St A
+    membersRead [] s = s
+    membersRead (y ∷ ys) s = andThen (f (t .look y) s) (membersRead ys)
 
     unfoldable pub exceptionAt : List Inner → St A → St A
-    exceptionAt ys s = andThen (textAt k x 0 s) (membersAt ys)
+    exceptionAt ys s = andThen (textAt k x 0 s) (membersRead ys)
 
     abbrev pub armAt : Arm → St A → St A
     armAt (Chosen y) s = f (t .look y) s

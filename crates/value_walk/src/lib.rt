@@ -12,7 +12,7 @@ ghost use Rattle.value_meaning.specs.Sinks.{repeats};
 ghost use Rattle.value_meaning.specs.Visit.{Checked, checked};
 ghost use Rattle.value_meaning.specs.Reading.{reads, levels, topOf};
 ghost use Rattle.value_cursor.specs.Walk.{sinkOf, sourceOf, stateOf, cursorStart};
-ghost use Rattle.value_walk.specs.Nested.{readsBelow, readsWith, sequenceAt, membersAt, exceptionAt, unionAt};
+ghost use Rattle.value_walk.specs.Nested.{readsBelow, readsWith, sequenceAt, membersRead, exceptionAt, unionAt};
 use cdr::Place;
 use type_kinds::Fields;
 use type_kinds::Inert;
@@ -118,7 +118,7 @@ fn struct_members(
 ) -> Cursor
     ensures { λ r. ⌜
         stateOf r (now (table .exit))
-        ≡ membersAt (sinkOf mode) (sourceOf mode (now (value .entry))) (readsBelow mode (now (value .entry)) (now (types .entry)) (kindsMet met) left)
+        ≡ membersRead (sinkOf mode) (sourceOf mode (now (value .entry))) (readsBelow mode (now (value .entry)) (now (types .entry)) (kindsMet met) left)
         (checked (now (types .entry)) (kindsMet met)) (typesOf (membersOf NoLabels (now (types .entry)) fields))
         (stateOf cursor (now (table .entry)))
         ⌝ }

@@ -1,7 +1,8 @@
 -- Where there is room, the answer is written.
 use mathlib.Core.Path.{sym, _∙_}
 use lib.ListN.{length}
-use Rattle.ask_answers.proofs.RoomTested.{table-enough, line-left, line-written}
+use Rattle.ask_room.proofs.RoomTested.{table-enough}
+use Rattle.ask_answers.proofs.LineByRoom.{line-left, line-written}
 use borrow.Author.Needs.{needs}
 use Rattle.ask_answers.proofs.answer_line.Statement.{statement}
 use Rattle.ask_answers.proofs.answer_line.Tie as tie

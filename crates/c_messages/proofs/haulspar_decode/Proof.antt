@@ -2,7 +2,7 @@
 use borrow.Author.Needs.{needs}
 use Rattle.c_messages.proofs.haulspar_decode.Statement.{statement}
 use Rattle.c_messages.proofs.haulspar_decode.Tie as tie
-use Rattle.c_messages.proofs.Calls.{decodes-c}
+use Rattle.c_messages.proofs.MessageCallsLeave.{decodes-c}
 
 decode-requires : tie.Need-decode-requires
 decode-requires c κs = search needs

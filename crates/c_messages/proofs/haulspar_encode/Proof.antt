@@ -2,7 +2,7 @@
 use borrow.Author.Needs.{needs}
 use Rattle.c_messages.proofs.haulspar_encode.Statement.{statement}
 use Rattle.c_messages.proofs.haulspar_encode.Tie as tie
-use Rattle.c_messages.proofs.Calls.{encodes-c}
+use Rattle.c_messages.proofs.MessageCallsLeave.{encodes-c}
 
 encode-requires : tie.Need-encode-requires
 encode-requires c κs = search needs

@@ -2,7 +2,7 @@
 use borrow.Author.Needs.{needs}
 use Rattle.c_messages.proofs.haulspar_frame.Statement.{statement}
 use Rattle.c_messages.proofs.haulspar_frame.Tie as tie
-use Rattle.c_messages.proofs.Calls.{judges-c}
+use Rattle.c_messages.proofs.MessageCallsLeave.{judges-c}
 
 judge-requires : tie.Need-judge-requires
 judge-requires c κs = search needs

@@ -3,7 +3,7 @@ use borrow.Author.Needs.{needs}
 use Rattle.c_profiles.proofs.haulspar_component.Statement.{statement}
 use Rattle.c_profiles.proofs.haulspar_component.Tie as tie
 use mathlib.Core.Path.{refl, sym, _∙_}
-use Rattle.c_profiles.proofs.Calls.{finds-c}
+use Rattle.c_profiles.proofs.ProfileCallsLeave.{finds-c}
 
 component-requires : tie.Need-component-requires
 component-requires c κs = search needs

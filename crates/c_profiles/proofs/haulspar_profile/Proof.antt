@@ -3,7 +3,7 @@ use borrow.Author.Needs.{needs}
 use Rattle.c_profiles.proofs.haulspar_profile.Statement.{statement}
 use Rattle.c_profiles.proofs.haulspar_profile.Tie as tie
 use mathlib.Core.Path.{refl, sym, _∙_}
-use Rattle.c_profiles.proofs.Calls.{reads-c}
+use Rattle.c_profiles.proofs.ProfileCallsLeave.{reads-c}
 
 read-requires : tie.Need-read-requires
 read-requires c κs = search needs

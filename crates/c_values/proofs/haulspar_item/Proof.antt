@@ -4,11 +4,11 @@ use Rattle.c_values.proofs.haulspar_item.Statement.{statement}
 use Rattle.c_values.proofs.haulspar_item.Tie as tie
 use Rattle.c_values.proofs.ValueCallsLeave.{picks-given, picks-refused}
 
-order-is-requires : tie.Need-order-is-requires
-order-is-requires c κs = search needs
+flagged-requires : tie.Need-flagged-requires
+flagged-requires c κs = search needs
 
-order-is-requires-2 : tie.Need-order-is-requires-2
-order-is-requires-2 c κs = search needs
+flagged-requires-2 : tie.Need-flagged-requires-2
+flagged-requires-2 c κs = search needs
 
 read-item-requires : tie.Need-read-item-requires
 read-item-requires c κs = search needs
@@ -28,27 +28,27 @@ enum-known-answer-2 c = search needs
 returns : tie.Need-returns
 returns c =
     let a = c .before .before .before .before .before .before .before .before .before .before .before .args in
-    let order-is = c .before .before .before .before .before .before .before .before .order-is in
-    let order-is2 = c .before .before .before .before .before .before .before .order-is2 in
+    let flagged = c .before .before .before .before .before .before .before .before .flagged in
+    let flagged2 = c .before .before .before .before .before .before .before .flagged2 in
     let read-item = c .before .before .before .before .before .before .read-item in
     let answer = c .before .before .before .before .answer in
-    picks-given (a .types .now) (a .little) (a .value .now) (a .order) (a .start) _ _ (order-is .ensures) (order-is2 .ensures) (a .number)
+    picks-given (a .types .now) (a .little) (a .value .now) (a .order) (a .start) _ _ (flagged .ensures) (flagged2 .ensures) (a .number)
     (a .given .now) _ (read-item .ensures) _ _ _ (answer .given .1) (c .before .before .case .ensures) (c .before .bits .ensures)
 
 returns-2 : tie.Need-returns-2
 returns-2 c =
     let a = c .before .before .before .before .before .before .before .before .args in
-    let order-is = c .before .before .before .before .before .order-is in
-    let order-is2 = c .before .before .before .before .order-is2 in
-    picks-refused (a .types .now) (a .little) (a .value .now) (a .order) (a .start) _ _ (order-is .ensures) (order-is2 .ensures) (a .number)
+    let flagged = c .before .before .before .before .before .flagged in
+    let flagged2 = c .before .before .before .before .flagged2 in
+    picks-refused (a .types .now) (a .little) (a .value .now) (a .order) (a .start) _ _ (flagged .ensures) (flagged2 .ensures) (a .number)
     (a .given .now) _ (c .before .before .before .read-item .ensures) _ (c .before .answer2 .given .1)
 
 pub haulspar-item-spec : {M : Type 1} → statement M
 haulspar-item-spec =
     tie.close
     (tie.spec
-    order-is-requires
-    order-is-requires-2
+    flagged-requires
+    flagged-requires-2
     read-item-requires
     enum-known-answer
     case-requires

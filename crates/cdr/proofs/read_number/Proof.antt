@@ -6,7 +6,7 @@ use native.Mathlib.Omega.{arith}
 use Rattle.cdr.proofs.read_number.Statement.{statement}
 use Rattle.cdr.proofs.read_number.Tie as tie
 use Rattle.cdr.specs.Align.{octets, behindGap, indexOf, aligned}
-use Rattle.cdr.proofs.Alignment.{octets-small, gap-small, behind-gap, aligned-at, aligned-beyond, read-ends, read-number}
+use Rattle.cdr.proofs.GapsBounded.{octets-small, gap-small, behind-gap, aligned-at, aligned-beyond, read-ends, read-number}
 
 -- the index is the aligned one
 index-is : (c : tie.After-known-told) →

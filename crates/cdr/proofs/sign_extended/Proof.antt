@@ -4,7 +4,7 @@ use native.Mathlib.Omega.{arith}
 use Rattle.cdr.proofs.sign_extended.Statement.{statement}
 use Rattle.cdr.proofs.sign_extended.Tie as tie
 use Rattle.cdr.specs.Number.{signExtended}
-use Rattle.cdr.proofs.Numbers.{extended-eight}
+use Rattle.cdr.proofs.NumbersGivenBack.{extended-eight}
 
 enum-told : tie.Need-enum-told
 enum-told c = search needs

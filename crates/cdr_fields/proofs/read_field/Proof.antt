@@ -6,7 +6,7 @@ use Rattle.cdr_fields.proofs.read_field.Statement.{statement}
 use Rattle.cdr_fields.proofs.read_field.Tie as tie
 use Rattle.cdr_fields.proofs.FieldsRead.{field-is, field-none}
 use Rattle.cdr_fields.specs.Encapsulation.{start}
-use Rattle.cdr.proofs.Alignment.{octets-small, read-facts}
+use Rattle.cdr.proofs.GapsBounded.{octets-small, read-facts}
 
 read-number-requires : tie.Need-read-number-requires
 read-number-requires c κs = search needs

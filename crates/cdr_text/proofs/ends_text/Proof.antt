@@ -8,7 +8,7 @@ use lib.ListN.{length, take}
 use Rattle.cdr_text.proofs.ends_text.Statement.{statement}
 use Rattle.cdr_text.proofs.ends_text.Tie as tie
 use Rattle.cdr_text.specs.Text.{endsText, hasZero}
-use Rattle.cdr_text.proofs.Texts.{ends-by, ends-not, ends-none}
+use Rattle.cdr_text.proofs.TextEnds.{ends-by, ends-not, ends-none}
 
 returns : tie.Need-returns
 returns c = let o = c .before .before .args in sym (ends-none (o .s .now) (c .if1 .taken))

@@ -9,7 +9,7 @@ use lib.ListN.{length, drop}
 use Rattle.cdr_text.proofs.has_zero.Statement.{statement}
 use Rattle.cdr_text.proofs.has_zero.Tie as tie
 use Rattle.cdr_text.specs.Text.{hasZero}
-use Rattle.cdr_text.proofs.Texts.{zero-here, none-here, none-left}
+use Rattle.cdr_text.proofs.TextEnds.{zero-here, none-here, none-left}
 
 abbrev Inv-loop : tie.InvT-loop
 Inv-loop s found₀ i₀ found i = (i ≤ length s) × ((found || hasZero (drop i s)) ≡ hasZero s)

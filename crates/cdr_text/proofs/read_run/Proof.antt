@@ -4,7 +4,7 @@ use mathlib.Core.Path.{sym}
 use native.Mathlib.Omega.{arith}
 use Rattle.cdr_text.proofs.read_run.Statement.{statement}
 use Rattle.cdr_text.proofs.read_run.Tie as tie
-use Rattle.cdr_text.proofs.Texts.{run-past, run-to}
+use Rattle.cdr_text.proofs.TextEnds.{run-past, run-to}
 
 returns : tie.Need-returns
 returns c = let o = c .before .args in sym (run-past (o .s .now) (o .at) (o .count) (omega arith))

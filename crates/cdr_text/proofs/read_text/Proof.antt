@@ -8,7 +8,7 @@ use lib.ListN.{length, take, drop}
 use Rattle.cdr_text.proofs.read_text.Statement.{statement}
 use Rattle.cdr_text.proofs.read_text.Tie as tie
 use Rattle.cdr_text.specs.Text.{endsText}
-use Rattle.cdr_text.proofs.Texts.{text-empty, text-over, text-short, text-zeros, run-facts, run-short}
+use Rattle.cdr_text.proofs.TextEnds.{text-empty, text-over, text-short, text-zeros, run-facts, run-short}
 
 -- where the text ends, and that it does so inside
 end-is : (c : tie.After-known-told) →

@@ -9,7 +9,7 @@ use Rattle.cdr_write.proofs.write_number.Statement.{statement}
 use Rattle.cdr_write.proofs.write_number.Tie as tie
 use Rattle.cdr.specs.Align.{octets}
 use Rattle.cdr.specs.Number.{octetsOf}
-use Rattle.cdr.proofs.Numbers.{octets-length}
+use Rattle.cdr.proofs.NumbersGivenBack.{octets-length}
 use Rattle.cdr.proofs.RoomFits.{fits-room}
 use Rattle.cdr_write.proofs.BufferHolds.{not-stored, stored-there}
 

@@ -4,7 +4,7 @@ use Prim.Native.Nat.{_+_, _-_, _^_, _<_, _≤_}
 use native.Mathlib.Omega.{arith}
 use lib.ListN.{length}
 use Rattle.decimals.specs.Decimal.{decimalWithin, decimal}
-use Rattle.decimals.proofs.Decimal.{digits-left, counted-turn, counted-last}
+use Rattle.decimals.proofs.DecimalIs.{digits-left, counted-turn, counted-last}
 use Rattle.decimals.proofs.count_digits.Statement.{statement}
 use Rattle.decimals.proofs.count_digits.Tie as tie
 

@@ -5,7 +5,7 @@ use Prim.Native.Nat.{_^_, _≤_, _<_}
 use native.Mathlib.Omega.{arith}
 use lib.ListN.{length, drop, length-set}
 use Rattle.decimals.specs.Decimal.{decimalWithin, decimal}
-use Rattle.decimals.proofs.Decimal.{digits-left, stored-turn, stored-last}
+use Rattle.decimals.proofs.DecimalIs.{digits-left, stored-turn, stored-last}
 use Rattle.decimals.proofs.last_digits.Statement.{statement}
 use Rattle.decimals.proofs.last_digits.Tie as tie
 

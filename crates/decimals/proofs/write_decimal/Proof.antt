@@ -3,7 +3,7 @@ use mathlib.Core.List.{List}
 use Prim.Native.Nat.{ℕ}
 use mathlib.Core.Path.{subst}
 use Rattle.cdr_write.specs.Write.{Stored}
-use Rattle.decimals.proofs.Puts.{number-end}
+use Rattle.decimals.proofs.CharactersPut.{number-end}
 use borrow.Author.Needs.{needs}
 use Rattle.decimals.proofs.write_decimal.Statement.{statement}
 use Rattle.decimals.proofs.write_decimal.Tie as tie

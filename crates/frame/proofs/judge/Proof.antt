@@ -3,7 +3,7 @@ use borrow.Author.Needs.{needs}
 use mathlib.Core.Path.{sym, _∙_}
 use Rattle.frame.proofs.judge.Statement.{statement}
 use Rattle.frame.proofs.judge.Tie as tie
-use Rattle.frame.proofs.Rows.{frame-too-long, frame-message}
+use Rattle.frame.proofs.RowsPassed.{frame-too-long, frame-message}
 
 returns : tie.Need-returns
 returns c = sym (frame-too-long (c .before .before .args .octets .now) (c .if1 .taken))

@@ -5,7 +5,7 @@ use mathlib.Core.Bool.{true, false}
 use borrow.Author.Tests.{not-true, not-false}
 use Rattle.frame.proofs.judge_message.Statement.{statement}
 use Rattle.frame.proofs.judge_message.Tie as tie
-use Rattle.frame.proofs.Rows.{message-short, message-not-giop, message-by}
+use Rattle.frame.proofs.RowsPassed.{message-short, message-not-giop, message-by}
 
 returns : tie.Need-returns
 returns c = sym (message-short (c .before .before .args .octets .now) (c .if1 .taken))

@@ -11,7 +11,7 @@ use Rattle.frame.proofs.sized.Tie as tie
 use Rattle.cdr.specs.Number.{numberAt}
 use Rattle.frame.specs.Header.{headerSize, minorAt, messageTypeAt, moreAt, sizeAt}
 use Rattle.frame.specs.Frames.{sizeAllowed, fragmentAllowed, eightsAllowed}
-use Rattle.frame.proofs.Rows.{sized-above, sized-below, sized-of-type, sized-fragmented, sized-last, id-there}
+use Rattle.frame.proofs.RowsPassed.{sized-above, sized-below, sized-of-type, sized-fragmented, sized-last, id-there}
 
 -- the size that was read is the header's
 size-is : (c : tie.After-word) →

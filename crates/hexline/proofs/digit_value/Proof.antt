@@ -1,6 +1,6 @@
 -- Up to 9 from 0 on, and a letter by its last four bits.
 use borrow.Author.Needs.{needs}
-use Rattle.hexline.proofs.Digit.{numeral-least, numeral-value, letter-value}
+use Rattle.hexline.proofs.DigitValues.{numeral-least, numeral-value, letter-value}
 use Rattle.hexline.proofs.digit_value.Statement.{statement}
 use Rattle.hexline.proofs.digit_value.Tie as tie
 

@@ -8,7 +8,7 @@ use lib.Seq.{sets}
 use Rattle.hexline.specs.Digit.{isDigit}
 use Rattle.hexline.specs.Decoding.{lineOctets}
 use Rattle.hexline.proofs.NextDigits.{octet-turn, octets-done}
-use Rattle.hexline.proofs.Digit.{value-below}
+use Rattle.hexline.proofs.DigitValues.{value-below}
 use Rattle.hexline.proofs.OctetsOfDigits.{digit-at}
 use Rattle.hexline.proofs.write_octets.Statement.{statement}
 use Rattle.hexline.proofs.write_octets.Tie as tie

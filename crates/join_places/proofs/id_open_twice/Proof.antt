@@ -5,7 +5,7 @@ use Prim.Native.Nat.{_≤_, _-_}
 use native.Mathlib.Omega.{arith}
 use borrow.Author.Needs.{needs}
 use Rattle.join_places.specs.Places.{idOpenTwice, someWith, openBefore, placesCount}
-use Rattle.join_places.proofs.Folds.{some-here, some-passed}
+use Rattle.join_places.proofs.FoldsChanged.{some-here, some-passed}
 use Rattle.join_places.proofs.id_open_twice.Statement.{statement}
 use Rattle.join_places.proofs.id_open_twice.Tie as tie
 

@@ -6,7 +6,7 @@ use native.Mathlib.Omega.{arith}
 use borrow.Author.Needs.{needs}
 use Rattle.join_places.specs.declared.Found.the-variants.{Nowhere}
 use Rattle.join_places.specs.Places.{lowestFree, firstWith, isOpen, placesCount}
-use Rattle.join_places.proofs.Folds.{first-here, first-passed}
+use Rattle.join_places.proofs.FoldsChanged.{first-here, first-passed}
 use Rattle.join_places.proofs.lowest_free.Statement.{statement}
 use Rattle.join_places.proofs.lowest_free.Tie as tie
 

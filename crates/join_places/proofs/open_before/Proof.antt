@@ -5,7 +5,7 @@ use Prim.Native.Nat.{_≤_, _-_}
 use native.Mathlib.Omega.{arith}
 use borrow.Author.Needs.{needs}
 use Rattle.join_places.specs.Places.{openBefore, someWith, bothOpen}
-use Rattle.join_places.proofs.Folds.{some-here, some-passed}
+use Rattle.join_places.proofs.FoldsChanged.{some-here, some-passed}
 use Rattle.join_places.proofs.open_before.Statement.{statement}
 use Rattle.join_places.proofs.open_before.Tie as tie
 

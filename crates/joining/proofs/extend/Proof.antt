@@ -1,7 +1,7 @@
 -- The body stands behind what the place holds.
 use native.Mathlib.Omega.{arith}
 use borrow.Author.Needs.{needs}
-use Rattle.joining.proofs.Takes.{lengthens}
+use Rattle.joining.proofs.StepsTake.{lengthens}
 use Rattle.joining.proofs.extend.Statement.{statement}
 use Rattle.joining.proofs.extend.Tie as tie
 

@@ -1,7 +1,7 @@
 -- 27, or the message as it is.
 use borrow.Author.Needs.{needs}
-use Rattle.joining.proofs.Takes.{no-room, passes}
-use Rattle.joining.specs.Steps.{Passes}
+use Rattle.joining.proofs.StepsTake.{no-room, passes}
+use Rattle.join_steps.specs.Steps.{Passes}
 use Rattle.joining.proofs.whole.Statement.{statement}
 use Rattle.joining.proofs.whole.Tie as tie
 

@@ -5,7 +5,7 @@ use Rattle.profile_parts.proofs.minor_at.Tie as tie
 use mathlib.Core.Path.{sym, _∙_}
 use Rattle.profile_parts.proofs.PartsWithin.{minor-none, minor-is}
 use native.Mathlib.Omega.{arith}
-use Rattle.cdr_text.proofs.Texts.{run-facts}
+use Rattle.cdr_text.proofs.TextEnds.{run-facts}
 
 read-run-requires : tie.Need-read-run-requires
 read-run-requires c κs = search needs

@@ -4,7 +4,7 @@ use Prim.Native.Nat.{ℕ, _-_}
 use native.Mathlib.Omega.{arith}
 use lib.ListN.{length}
 use Rattle.questions.specs.Blocks.{askWork}
-use Rattle.questions.proofs.Blocks.{Going, going-start, going-turn}
+use Rattle.questions.proofs.TurnsOfBlock.{Going, going-start, going-turn}
 use Rattle.questions.proofs.TurnsAnswer.{block-answered}
 use borrow.Author.Needs.{needs}
 use Rattle.questions.proofs.answer_block.Statement.{statement}

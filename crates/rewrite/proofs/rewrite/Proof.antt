@@ -5,7 +5,7 @@ use Rattle.rewrite.proofs.rewrite.Tie as tie
 use Rattle.value_meaning.specs.Sinks.{source}
 use Rattle.rewrite_meaning.specs.Written.{target}
 use Rattle.rewrite.proofs.RewriteCases as answers
-use Rattle.value.specs.Typed.{typedBy}
+use Rattle.value_typed.specs.Typed.{typedBy}
 
 check-requires : tie.Need-check-requires
 check-requires c κs = search needs

@@ -17,13 +17,13 @@ add-t8 : tie.Need-add-t8
 add-t8 c =
     let a = c .before .before .before .before .before .before .args in
     let read-string = c .before .before .before .before .read-string in
-    omega (arith, string-facts (a .s .now) (a .at) (a .order) _ _ (sym (read-string .ensures) ∙ c .before .before .from .given .1) .1)
+    omega (arith, string-facts (a .part .now) (a .at) (a .order) _ _ (sym (read-string .ensures) ∙ c .before .before .from .given .1) .1)
 
 add-t9 : tie.Need-add-t9
 add-t9 c =
     let a = c .before .before .before .before .before .before .args in
     let read-string = c .before .before .before .before .read-string in
-    omega (arith, string-facts (a .s .now) (a .at) (a .order) _ _ (sym (read-string .ensures) ∙ c .before .before .from .given .1) .1)
+    omega (arith, string-facts (a .part .now) (a .at) (a .order) _ _ (sym (read-string .ensures) ∙ c .before .before .from .given .1) .1)
 
 enum-told : tie.Need-enum-told
 enum-told c = search needs

@@ -10,7 +10,7 @@ returns : tie.Need-returns
 unfolding fieldIn
 returns c =
     let a = c .before .before .args in
-    sym (field-beyond (a .v .now) (a .start) (a .at) (a .size) (a .order) (c .if1 .taken))
+    sym (field-beyond (a .types .now) (a .start) (a .at) (a .size) (a .order) (c .if1 .taken))
 
 sub-read-field : tie.Need-sub-read-field
 sub-read-field c = search needs
@@ -28,7 +28,7 @@ returns-2 : tie.Need-returns-2
 unfolding fieldIn
 returns-2 c =
     let a = c .before .before .before .before .args in
-    rw (← rest (a .v .now) (a .start .0)) (c .read-field .ensures)
+    rw (← rest (a .types .now) (a .start .0)) (c .read-field .ensures)
 
 pub field-in-spec : {M : Type 1} → statement M
 field-in-spec =

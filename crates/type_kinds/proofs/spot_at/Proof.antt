@@ -43,7 +43,7 @@ enum-known-over c = search needs
 place-before-requires : tie.Need-place-before-requires
 place-before-requires c κs =
     let a = c .before .before .before .before .before .before .before .before .before .before .before .args in
-    let f = field-inside (a .v .now) (a .start) (a .at) Four (a .order) _ _ (sym (c .before .before .before .before .before .before .before .before .before .field-in .ensures) ∙ c .before .before .before .before .before .before .before .kind .given .1) in
+    let f = field-inside (a .types .now) (a .start) (a .at) Four (a .order) _ _ (sym (c .before .before .before .before .before .before .before .before .before .field-in .ensures) ∙ c .before .before .before .before .before .before .before .kind .given .1) in
     (omega (arith, f .0), omega (arith, f .1))
 
 enum-told-2 : tie.Need-enum-told-2

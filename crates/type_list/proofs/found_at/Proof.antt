@@ -68,10 +68,10 @@ returns c =
     let is : loop .i ≡ _ = here ∙ ap (λ (n : ℕ). findIn (a .t2 .places) (a .place .0) n 0) (held-in .ensures) ∙ find-is (a .t2) (a .place) in
     let low : loop .i < kindsHeld (a .t2) = omega (arith, loop-test .taken, held-in .ensures) in
     c .parameters-at .ensures
-    ∙ ap (λ (o : Order). parametersAt (a .v .now) (writtenAt (a .place) (placeOf (getD (a .t2 .starts) (loop .i) 0)) o)) (c .before .order-in .ensures)
-    ∙ ap (λ (p : ℕ). parametersAt (a .v .now) (writtenAt (placeOf p) (placeOf (getD (a .t2 .starts) (loop .i) 0)) (orderIn (getD (a .t2 .orders) (loop .i) 0)))) (sym (if1 .taken))
-    ∙ ap (parametersAt (a .v .now)) (sym (kind-entry (a .t2) (loop .i) low))
-    ∙ ap (atPosition (a .v .now) (kindsMet (a .t2))) (sym (position-is (kindsMet (a .t2)) (a .place) (loop .i) (sym is) (omega (arith, low, length-kinds (a .t2)))))
+    ∙ ap (λ (o : Order). parametersAt (a .types .now) (writtenAt (a .place) (placeOf (getD (a .t2 .starts) (loop .i) 0)) o)) (c .before .order-in .ensures)
+    ∙ ap (λ (p : ℕ). parametersAt (a .types .now) (writtenAt (placeOf p) (placeOf (getD (a .t2 .starts) (loop .i) 0)) (orderIn (getD (a .t2 .orders) (loop .i) 0)))) (sym (if1 .taken))
+    ∙ ap (parametersAt (a .types .now)) (sym (kind-entry (a .t2) (loop .i) low))
+    ∙ ap (atPosition (a .types .now) (kindsMet (a .t2))) (sym (position-is (kindsMet (a .t2)) (a .place) (loop .i) (sym is) (omega (arith, low, length-kinds (a .t2)))))
 
 add-i : tie.Need-add-i Inv-loop μ-loop
 add-i c = search needs
@@ -94,7 +94,7 @@ returns-2 c =
     let loop = c .before .loop in
     let is = left-end (findIn (a .t2 .places) (a .place .0)) (held-in .result) 0 (loop .inv) (c .loop-test .left) ∙ ap (λ (n : ℕ). findIn (a .t2 .places) (a .place .0) n 0) (held-in .ensures) ∙ find-is (a .t2) (a .place) in
     let few = loop .inv .few in
-    ap (atPosition (a .v .now) (kindsMet (a .t2)))
+    ap (atPosition (a .types .now) (kindsMet (a .t2)))
     (sym (position-none (kindsMet (a .t2)) (a .place) (sym is ∙ omega (arith, few, c .loop-test .left, held-in .ensures, length-kinds (a .t2)))))
 
 pub found-at-spec : {M : Type 1} → statement M

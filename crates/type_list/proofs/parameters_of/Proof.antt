@@ -14,7 +14,7 @@ parameters-at-requires c κs = search needs
 
 returns : tie.Need-returns
 unfolding parametersOf
-returns c = c .parameters-at .ensures ∙ ap (parametersAt (c .before .before .before .args .v .now)) (c .before .entry-at .ensures)
+returns c = c .parameters-at .ensures ∙ ap (parametersAt (c .before .before .before .args .types .now)) (c .before .entry-at .ensures)
 
 pub parameters-of-spec : {M : Type 1} → statement M
 parameters-of-spec = tie.close (tie.spec entry-at-requires parameters-at-requires returns)

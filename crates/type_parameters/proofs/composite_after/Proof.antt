@@ -17,7 +17,7 @@ add-t10 : tie.Need-add-t10
 add-t10 c =
     let a = c .before .before .before .before .before .before .before .args in
     let field-in = c .before .before .before .before .before .field-in in
-    omega (arith, field-inside (a .v .now) (a .start) (a .at) Four (a .order) _ _ (sym (field-in .ensures) ∙ c .before .before .before .from .given .1) .1)
+    omega (arith, field-inside (a .types .now) (a .start) (a .at) Four (a .order) _ _ (sym (field-in .ensures) ∙ c .before .before .before .from .given .1) .1)
 
 encapsulated-requires : tie.Need-encapsulated-requires
 encapsulated-requires c κs = search needs

@@ -28,7 +28,7 @@ place-before-requires : tie.Need-place-before-requires
 place-before-requires c κs =
     let a = c .before .before .before .before .before .args in
     let pre = c .before .before .before .before .before .pre in
-    let f = field-facts (a .s .now) (a .at) Four (a .order) _ _ (sym (c .before .before .before .read-field .ensures) ∙ c .before .offset .given .1) in
+    let f = field-facts (a .part .now) (a .at) Four (a .order) _ _ (sym (c .before .before .before .read-field .ensures) ∙ c .before .offset .given .1) in
     (omega (arith, f .ends), omega (arith, f .fits, f .ends, pre))
 
 target-of-requires : tie.Need-target-of-requires

@@ -5,9 +5,10 @@ use Rattle.value.proofs.read_item.Tie as tie
 use mathlib.Core.Path.{_≡_, _∙_}
 use lib.ListN.{length}
 use Rattle.value_meaning.specs.Sinks.{source}
+use Rattle.value_typed.proofs.TypedCases as typed
 use Rattle.value.proofs.AnswerCases as answers
 use Rattle.type_list.specs.Arrays.{kindsMet}
-use Rattle.value.specs.Typed.{typedBy}
+use Rattle.value_typed.specs.Typed.{typedBy}
 
 check-requires : tie.Need-check-requires
 check-requires c κs = search needs
@@ -19,8 +20,8 @@ pick-requires : tie.Need-pick-requires
 pick-requires c κs =
     let a = c .before .before .before .before .before .before .args in
     let check = c .before .before .before .check in
-    answers.bounded (a .types .now) (a .torder) (source (a .value .now) (a .order) (a .start)) (kindsMet (check .result .met))
-    (answers.under (a .types .now) (a .torder) (length (a .value .now)) (typedBy (check .result)) (check .ensures) (c .enum-told .given .1))
+    typed.bounded (a .types .now) (a .torder) (source (a .value .now) (a .order) (a .start)) (kindsMet (check .result .met))
+    (typed.under (a .types .now) (a .torder) (length (a .value .now)) (typedBy (check .result)) (check .ensures) (c .enum-told .given .1))
 
 enum-known-judged : tie.Need-enum-known-judged
 enum-known-judged c = search needs

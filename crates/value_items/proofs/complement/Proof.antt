@@ -2,7 +2,7 @@
 use native.Mathlib.Omega.{arith}
 use Rattle.value_items.proofs.complement.Statement.{statement}
 use Rattle.value_items.proofs.complement.Tie as tie
-use Rattle.value_items.proofs.Items.{complement-above, complement-below}
+use Rattle.value_items.proofs.BitsBack.{complement-above, complement-below}
 
 cast-result : tie.Need-cast-result
 cast-result c = let l = complement-above (c .before .args .x) (c .before .fits .x) (c .if1 .taken) in (l .above, record { fits = l .small })

@@ -3,7 +3,7 @@ use borrow.Author.Needs.{needs}
 use lib.Ieee.{binary64}
 use Rattle.value_items.proofs.double.Statement.{statement}
 use Rattle.value_items.proofs.double.Tie as tie
-use Rattle.value_items.proofs.Items.{above-infinity, to-infinity}
+use Rattle.value_items.proofs.BitsBack.{above-infinity, to-infinity}
 
 float-from-bits-result : tie.Need-float-from-bits-result
 float-from-bits-result c = to-infinity binary64 (c .before .args .bits) (c .if1 .left)

@@ -5,8 +5,8 @@ use mir.Syntax.{w64}
 use mir.ValLaws.{toZ-ofZ}
 use Rattle.value_items.proofs.item_of.Statement.{statement}
 use Rattle.value_items.proofs.item_of.Tie as tie
-use Rattle.value_items.specs.declared.Item.the-variants.{Signed, Double}
-use Rattle.value_items.proofs.Items.{item-signed, item-single, item-double, item-other}
+use Rattle.value_items.specs.declared.ItemValue.the-variants.{Signed, Double}
+use Rattle.value_items.proofs.BitsBack.{item-signed, item-single, item-double, item-other}
 
 is-signed-requires : tie.Need-is-signed-requires
 is-signed-requires c κs = search needs

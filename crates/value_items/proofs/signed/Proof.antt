@@ -7,7 +7,7 @@ use mir.Syntax.{w64}
 use mir.Val.{toZ}
 use Rattle.value_items.proofs.signed.Statement.{statement}
 use Rattle.value_items.proofs.signed.Tie as tie
-use Rattle.value_items.proofs.Items.{machine-signed}
+use Rattle.value_items.proofs.BitsBack.{machine-signed}
 
 cast-result : tie.Need-cast-result
 cast-result c = search needs

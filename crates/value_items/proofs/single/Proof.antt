@@ -3,7 +3,7 @@ use borrow.Author.Needs.{needs}
 use lib.Ieee.{binary32}
 use Rattle.value_items.proofs.single.Statement.{statement}
 use Rattle.value_items.proofs.single.Tie as tie
-use Rattle.value_items.proofs.Items.{above-infinity, to-infinity}
+use Rattle.value_items.proofs.BitsBack.{above-infinity, to-infinity}
 
 float-from-bits-result : tie.Need-float-from-bits-result
 float-from-bits-result c = to-infinity binary32 (c .before .args .bits) (c .if1 .left)

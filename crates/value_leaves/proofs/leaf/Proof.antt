@@ -5,7 +5,7 @@ use Rattle.value_leaves.proofs.leaf.Tie as tie
 use mathlib.Core.Path.{sym, ap, _∙_}
 use Prim.Native.Nat.{_-_}
 use native.Mathlib.Omega.{arith}
-use Rattle.cdr.proofs.Alignment.{read-facts}
+use Rattle.cdr.proofs.GapsBounded.{read-facts}
 use Rattle.value_meaning.specs.Sinks.{taken}
 use Rattle.value_meaning.specs.Visit.{leafDone}
 use Rattle.value_meaning.proofs.ReadingCases as way

@@ -4,7 +4,7 @@ use mathlib.Core.Path.{sym, _∙_}
 use Prim.Native.Nat.{_-_}
 use native.Mathlib.Omega.{arith}
 use lib.ListN.{length}
-use Rattle.cdr.proofs.Alignment.{read-facts}
+use Rattle.cdr.proofs.GapsBounded.{read-facts}
 use Rattle.value_runs.proofs.RowsAtOnce.{few-octets, last-fits, row-ends, row-passed}
 use Rattle.value_runs.proofs.passed_over.Statement.{statement}
 use Rattle.value_runs.proofs.passed_over.Tie as tie

@@ -1,7 +1,7 @@
 -- The words are read, and the body, which stands in the memory then, or the number of its refusal is told.
 use mathlib.Core.Path.{sym, _∙_}
 use lib.Seq.{length-take-le}
-use Rattle.ask_answers.specs.Questions.{componentIn}
+use Rattle.ask_answers.specs.Questions.{componentAsked}
 use Rattle.ask_answers.proofs.WordsStand.{octets-not, octets-asked, octets-within}
 use Rattle.ask_answers.proofs.BodiesHeld.{component-held, component-refused}
 use Rattle.ask_answers.proofs.ItemsStand.{numbered-none, numbered-within, numbered-fits, numbered-about}
@@ -51,7 +51,7 @@ returns-2 c =
     let a = c .before .before .before .before .before .before .before .before .before .before .before .before .args in
     let read-numbered = c .before .before .before .before .before .before .before .before .before .read-numbered in
     let end = c .before .before .before .before .before .before .before .end in
-    none-held _ _ (numbered-about (a .rest .now) _ (read-numbered .ensures) _ _ (end .given .1) ∙ octets-not (c .before .before .before .read .ensures) (c .enum-told2 .given .1) (λ v. componentIn v (end .given .0 .1 .0)))
+    none-held _ _ (numbered-about (a .rest .now) _ (read-numbered .ensures) _ _ (end .given .1) ∙ octets-not (c .before .before .before .read .ensures) (c .enum-told2 .given .1) (λ v. componentAsked v (end .given .0 .1 .0)))
 
 array-share-prefix-body : tie.Need-array-share-prefix-body
 array-share-prefix-body c =
@@ -104,7 +104,7 @@ returns-3 c =
     let tag = c .before .before .before .before .before .before .tag in
     let pre = c .before .before .before .before .before .before .before .before .before .before .before .before .before .before .before .before .before .before .before .before .before .before .before .pre in
     rw (numbered-about (a .rest .now) _ (read-numbered .ensures) _ _ (end .given .1)
-    ∙ octets-asked (read .ensures) _ (n .given .1) (λ v. componentIn v (end .given .0 .1 .0)))
+    ∙ octets-asked (read .ensures) _ (n .given .1) (λ v. componentAsked v (end .given .0 .1 .0)))
     (component-held _ (end .given .0 .1 .0) _ (component .ensures) _ _ (tag .given .1) (a .memory .now) (pre .1)
     _ _ (c .before .before .write-octets .ensures) _ (length-take-le _ _ (octets-within (read .ensures) _ (n .given .1))))
 
@@ -116,7 +116,7 @@ returns-4 c =
     let read = c .before .before .before .before .before .before .before .before .before .before .read in
     let n = c .before .before .before .before .before .before .before .n in
     let component = c .before .before .before .before .component in
-    rw (numbered-about (a .rest .now) _ (read-numbered .ensures) _ _ (end .given .1) ∙ octets-asked (read .ensures) _ (n .given .1) (λ v. componentIn v (end .given .0 .1 .0))) (component-refused _ (end .given .0 .1 .0) _ (component .ensures) _ (c .before .before .refusal .given .1) _ (c .number .ensures) _)
+    rw (numbered-about (a .rest .now) _ (read-numbered .ensures) _ _ (end .given .1) ∙ octets-asked (read .ensures) _ (n .given .1) (λ v. componentAsked v (end .given .0 .1 .0))) (component-refused _ (end .given .0 .1 .0) _ (component .ensures) _ (c .before .before .refusal .given .1) _ (c .number .ensures) _)
 
 pub reply-component-spec : {M : Type 1} → statement M
 reply-component-spec =

@@ -1,7 +1,7 @@
 -- The word is read, and the body, which stands in the memory then, or the number of its refusal is told.
 use mathlib.Core.Path.{sym}
 use lib.Seq.{length-take-le}
-use Rattle.ask_answers.specs.Questions.{profileIn}
+use Rattle.ask_answers.specs.Questions.{profileAsked}
 use Rattle.ask_answers.proofs.WordsStand.{octets-not, octets-asked, octets-within}
 use Rattle.ask_answers.proofs.BodiesHeld.{profile-held, profile-refused}
 use Rattle.ask_answers.proofs.NothingHeld.{none-held}
@@ -22,7 +22,7 @@ enum-told : tie.Need-enum-told
 enum-told c = search needs
 
 returns : tie.Need-returns
-returns c = none-held _ _ (octets-not (c .before .before .before .read-lone .ensures) (c .enum-told .given .1) (λ v. profileIn v))
+returns c = none-held _ _ (octets-not (c .before .before .before .read-lone .ensures) (c .enum-told .given .1) (λ v. profileAsked v))
 
 array-share-prefix-body : tie.Need-array-share-prefix-body
 array-share-prefix-body c =
@@ -72,14 +72,14 @@ returns-2 c =
     let said = c .before .before .before .before .before .before .said in
     let a = c .before .before .before .before .before .before .before .before .before .before .before .before .before .before .before .before .before .before .args in
     let pre = c .before .before .before .before .before .before .before .before .before .before .before .before .before .before .before .before .before .before .pre in
-    rw (octets-asked (read-lone .ensures) _ (n .given .1) (λ v. profileIn v)) (profile-held _ _ (read .ensures) _ (said .given .1) (a .memory .now) (pre .1) _ _ (c .before .before .write-octets .ensures) _ (length-take-le _ _ (octets-within (read-lone .ensures) _ (n .given .1))))
+    rw (octets-asked (read-lone .ensures) _ (n .given .1) (λ v. profileAsked v)) (profile-held _ _ (read .ensures) _ (said .given .1) (a .memory .now) (pre .1) _ _ (c .before .before .write-octets .ensures) _ (length-take-le _ _ (octets-within (read-lone .ensures) _ (n .given .1))))
 
 returns-3 : tie.Need-returns-3
 returns-3 c =
     let read-lone = c .before .before .before .before .before .before .before .before .before .before .read-lone in
     let n = c .before .before .before .before .before .before .before .n in
     let read = c .before .before .before .before .read in
-    rw (octets-asked (read-lone .ensures) _ (n .given .1) (λ v. profileIn v)) (profile-refused _ _ (read .ensures) _ (c .before .before .refusal .given .1) _ (c .number .ensures) _)
+    rw (octets-asked (read-lone .ensures) _ (n .given .1) (λ v. profileAsked v)) (profile-refused _ _ (read .ensures) _ (c .before .before .refusal .given .1) _ (c .number .ensures) _)
 
 pub reply-profile-spec : {M : Type 1} → statement M
 reply-profile-spec =

@@ -3,7 +3,7 @@ use mathlib.Core.Path.{sym, _∙_}
 use lib.Seq.{length-take-le}
 use Rattle.cdr.specs.Align.{indexOf}
 use Rattle.rewrite_meaning.specs.Written.{target}
-use Rattle.ask_answers.specs.Questions.{rewriteIn}
+use Rattle.ask_answers.specs.Questions.{rewriteAsked}
 use Rattle.ask_answers.proofs.ItemsStand.{rewrite-within, rewrite-none, rewrite-about, types-within, values-within, about-nothing, about-asks}
 use Rattle.ask_answers.proofs.NothingHeld.{none-held}
 use borrow.Author.Needs.{needs}
@@ -50,7 +50,7 @@ returns-2 c =
     let read-rewrite = c .before .before .before .before .before .before .before .before .before .before .before .read-rewrite in
     let asked = c .before .before .before .before .before .before .before .before .before .asked in
     let read = c .before .before .before .before .read in
-    none-held _ _ (rewrite-about (a .rest .now) _ (read-rewrite .ensures) _ (asked .given .1) ∙ about-nothing (read .ensures) (λ order t x. rewriteIn order t x (target (asked .given .0 .0 .order) (indexOf (asked .given .0 .0 .index))) (asked .given .0 .0 .room)) (c .enum-told2 .given .1))
+    none-held _ _ (rewrite-about (a .rest .now) _ (read-rewrite .ensures) _ (asked .given .1) ∙ about-nothing (read .ensures) (λ order t x. rewriteAsked order t x (target (asked .given .0 .0 .order) (indexOf (asked .given .0 .0 .index))) (asked .given .0 .0 .room)) (c .enum-told2 .given .1))
 
 array-share-prefix-types : tie.Need-array-share-prefix-types
 array-share-prefix-types c =
@@ -85,7 +85,7 @@ returns-3 c =
     let asked = c .before .before .before .before .before .before .before .before .before .before .before .before .before .before .before .before .asked in
     let read = c .before .before .before .before .before .before .before .before .before .before .before .read in
     let typed = c .before .before .before .before .before .before .before .typed in
-    rw (rewrite-about (a .rest .now) _ (read-rewrite .ensures) _ (asked .given .1) ∙ sym (about-asks (read .ensures) _ _ _ _ _ (typed .given .1) (λ order t x. rewriteIn order t x (target (asked .given .0 .0 .order) (indexOf (asked .given .0 .0 .index))) (asked .given .0 .0 .room)))) (c .before .before .rewrite .ensures)
+    rw (rewrite-about (a .rest .now) _ (read-rewrite .ensures) _ (asked .given .1) ∙ sym (about-asks (read .ensures) _ _ _ _ _ (typed .given .1) (λ order t x. rewriteAsked order t x (target (asked .given .0 .0 .order) (indexOf (asked .given .0 .0 .index))) (asked .given .0 .0 .room)))) (c .before .before .rewrite .ensures)
 
 pub reply-rewrite-spec : {M : Type 1} → statement M
 reply-rewrite-spec =

@@ -1,7 +1,7 @@
 -- One word, and its octets checked.
 use mathlib.Core.Path.{sym, ap, _∙_}
 use lib.Seq.{length-take-le}
-use Rattle.ask_answers.specs.Questions.{typeIn}
+use Rattle.ask_answers.specs.Questions.{typeAsked}
 use Rattle.ask_answers.specs.Replies.{replyTo}
 use Rattle.ask_answers.proofs.WordsStand.{octets-not, octets-asked, octets-within}
 use borrow.Author.Needs.{needs}
@@ -23,7 +23,7 @@ enum-told c = search needs
 returns : tie.Need-returns
 returns c =
     let a = c .before .before .before .before .before .before .args in
-    sym (ap replyTo (octets-not (c .before .before .before .read-lone .ensures) (c .enum-told .given .1) (λ v. typeIn (a .order) v)))
+    sym (ap replyTo (octets-not (c .before .before .before .read-lone .ensures) (c .enum-told .given .1) (λ v. typeAsked (a .order) v)))
 
 array-share-prefix-memory : tie.Need-array-share-prefix-memory
 array-share-prefix-memory c =
@@ -42,7 +42,7 @@ returns-2 : tie.Need-returns-2
 returns-2 c =
     let read-lone = c .before .before .before .before .before .before .read-lone in
     let a = c .before .before .before .before .before .before .before .before .before .args in
-    c .check .ensures ∙ sym (ap replyTo (octets-asked (read-lone .ensures) _ (c .before .before .before .n .given .1) (λ v. typeIn (a .order) v)))
+    c .check .ensures ∙ sym (ap replyTo (octets-asked (read-lone .ensures) _ (c .before .before .before .n .given .1) (λ v. typeAsked (a .order) v)))
 
 pub reply-ordered-spec : {M : Type 1} → statement M
 reply-ordered-spec =

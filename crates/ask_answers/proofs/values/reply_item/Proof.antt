@@ -1,7 +1,7 @@
 -- The words are read, and the item.
 use mathlib.Core.Path.{sym, ap, _∙_}
 use lib.Seq.{length-take-le}
-use Rattle.ask_answers.specs.Questions.{itemIn}
+use Rattle.ask_answers.specs.Questions.{itemAsked}
 use Rattle.ask_answers.specs.Replies.{replyTo}
 use Rattle.ask_answers.proofs.ItemsStand.{fields-within, fields-none, fields-about, types-within, values-within, about-nothing, about-asks}
 use borrow.Author.Needs.{needs}
@@ -20,7 +20,7 @@ enum-told c = search needs
 returns : tie.Need-returns
 returns c =
     let a = c .before .before .before .before .args in
-    sym (ap replyTo (fields-none (a .rest .now) _ (c .before .before .read-fields .ensures) itemIn (c .enum-told .given .1)))
+    sym (ap replyTo (fields-none (a .rest .now) _ (c .before .before .read-fields .ensures) itemAsked (c .enum-told .given .1)))
 
 slice-aggregate-read : tie.Need-slice-aggregate-read
 slice-aggregate-read c = search needs
@@ -48,7 +48,7 @@ returns-2 c =
     let read-fields = c .before .before .before .before .before .before .before .before .before .before .before .read-fields in
     let asked = c .before .before .before .before .before .before .before .before .before .asked in
     let read = c .before .before .before .before .read in
-    sym (ap replyTo (fields-about (a .rest .now) _ (read-fields .ensures) itemIn _ (asked .given .1) ∙ about-nothing (read .ensures) (λ order t x. itemIn order t x (asked .given .0 .0 .number)) (c .enum-told2 .given .1)))
+    sym (ap replyTo (fields-about (a .rest .now) _ (read-fields .ensures) itemAsked _ (asked .given .1) ∙ about-nothing (read .ensures) (λ order t x. itemAsked order t x (asked .given .0 .0 .number)) (c .enum-told2 .given .1)))
 
 array-share-prefix-types : tie.Need-array-share-prefix-types
 array-share-prefix-types c =
@@ -80,7 +80,7 @@ returns-3 c =
     let asked = c .before .before .before .before .before .before .before .before .before .before .before .before .before .asked in
     let a = c .before .before .before .before .before .before .before .before .before .before .before .before .before .before .before .before .before .args in
     let read-fields = c .before .before .before .before .before .before .before .before .before .before .before .before .before .before .before .read-fields in
-    c .read-item .ensures ∙ ap replyTo (about-asks (read .ensures) _ _ _ _ _ (typed .given .1) (λ order t x. itemIn order t x (asked .given .0 .0 .number)) ∙ sym (fields-about (a .rest .now) _ (read-fields .ensures) itemIn _ (asked .given .1)))
+    c .read-item .ensures ∙ ap replyTo (about-asks (read .ensures) _ _ _ _ _ (typed .given .1) (λ order t x. itemAsked order t x (asked .given .0 .0 .number)) ∙ sym (fields-about (a .rest .now) _ (read-fields .ensures) itemAsked _ (asked .given .1)))
 
 pub reply-item-spec : {M : Type 1} → statement M
 reply-item-spec =

@@ -1,7 +1,7 @@
 -- The words are read, and the value.
 use mathlib.Core.Path.{sym, _∙_}
 use lib.Seq.{length-take-le}
-use Rattle.ask_answers.specs.Questions.{valueIn}
+use Rattle.ask_answers.specs.Questions.{valueAsked}
 use Rattle.ask_answers.proofs.ItemsStand.{fields-within, fields-none, fields-about, types-within, values-within, about-nothing, about-asks}
 use Rattle.ask_answers.proofs.NothingHeld.{none-replied}
 use borrow.Author.Needs.{needs}
@@ -20,7 +20,7 @@ enum-told c = search needs
 returns : tie.Need-returns
 returns c =
     let a = c .before .before .before .before .before .args in
-    none-replied _ _ (fields-none (a .rest .now) _ (c .before .before .read-fields .ensures) valueIn (c .enum-told .given .1))
+    none-replied _ _ (fields-none (a .rest .now) _ (c .before .before .read-fields .ensures) valueAsked (c .enum-told .given .1))
 
 slice-aggregate-read : tie.Need-slice-aggregate-read
 slice-aggregate-read c = search needs
@@ -48,7 +48,7 @@ returns-2 c =
     let read-fields = c .before .before .before .before .before .before .before .before .before .before .before .read-fields in
     let asked = c .before .before .before .before .before .before .before .before .before .asked in
     let read = c .before .before .before .before .read in
-    none-replied _ _ (fields-about (a .rest .now) _ (read-fields .ensures) valueIn _ (asked .given .1) ∙ about-nothing (read .ensures) (λ order t x. valueIn order t x (asked .given .0 .0 .number)) (c .enum-told2 .given .1))
+    none-replied _ _ (fields-about (a .rest .now) _ (read-fields .ensures) valueAsked _ (asked .given .1) ∙ about-nothing (read .ensures) (λ order t x. valueAsked order t x (asked .given .0 .0 .number)) (c .enum-told2 .given .1))
 
 array-share-prefix-types : tie.Need-array-share-prefix-types
 array-share-prefix-types c =
@@ -83,7 +83,7 @@ returns-3 c =
     let asked = c .before .before .before .before .before .before .before .before .before .before .before .before .before .before .before .before .asked in
     let read = c .before .before .before .before .before .before .before .before .before .before .before .read in
     let typed = c .before .before .before .before .before .before .before .typed in
-    rw (fields-about (a .rest .now) _ (read-fields .ensures) valueIn _ (asked .given .1) ∙ sym (about-asks (read .ensures) _ _ _ _ _ (typed .given .1) (λ order t x. valueIn order t x (asked .given .0 .0 .number)))) (c .before .before .read-value .ensures)
+    rw (fields-about (a .rest .now) _ (read-fields .ensures) valueAsked _ (asked .given .1) ∙ sym (about-asks (read .ensures) _ _ _ _ _ (typed .given .1) (λ order t x. valueAsked order t x (asked .given .0 .0 .number)))) (c .before .before .read-value .ensures)
 
 pub reply-value-spec : {M : Type 1} → statement M
 reply-value-spec =

@@ -1,7 +1,7 @@
 -- Each answer by its text.
 use native.Mathlib.Omega.{arith}
 use lib.ListN.{length-set}
-use Rattle.decimals.proofs.Puts.{put-two}
+use Rattle.decimals.proofs.CharactersPut.{put-two}
 use borrow.Author.Needs.{needs}
 use Rattle.ask_text.proofs.head.put.Statement.{statement}
 use Rattle.ask_text.proofs.head.put.Tie as tie

@@ -1,7 +1,7 @@
 -- Each order by its word.
 use mathlib.Core.List.{[], _∷_}
 use native.Mathlib.Omega.{arith}
-use Rattle.decimals.proofs.Puts.{put-stored}
+use Rattle.decimals.proofs.CharactersPut.{put-stored}
 use borrow.Author.Needs.{needs}
 use Rattle.ask_text.proofs.head.put_order.Statement.{statement}
 use Rattle.ask_text.proofs.head.put_order.Tie as tie

@@ -2,7 +2,7 @@
 use mathlib.Core.List.{[], _∷_, append-assoc}
 use native.Mathlib.Omega.{arith}
 use Rattle.decimals.specs.Decimal.{decimal}
-use Rattle.decimals.proofs.Puts.{put-then, put-stored, number-most}
+use Rattle.decimals.proofs.CharactersPut.{put-then, put-stored, number-most}
 use Rattle.ask_text.specs.Replies.{space}
 use borrow.Author.Needs.{needs}
 use Rattle.ask_text.proofs.head.put_read.Statement.{statement}

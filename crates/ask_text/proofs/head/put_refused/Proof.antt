@@ -1,7 +1,7 @@
 -- The word, then the number.
 use mathlib.Core.List.{[], _∷_}
 use native.Mathlib.Omega.{arith}
-use Rattle.decimals.proofs.Puts.{put-then, put-stored}
+use Rattle.decimals.proofs.CharactersPut.{put-then, put-stored}
 use Rattle.ask_text.specs.Replies.{space}
 use borrow.Author.Needs.{needs}
 use Rattle.ask_text.proofs.head.put_refused.Statement.{statement}

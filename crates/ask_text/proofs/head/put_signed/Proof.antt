@@ -5,7 +5,7 @@ use Prim.Native.Nat.{_+_, _-_, _^_}
 use native.Mathlib.Omega.{arith}
 use borrow.Author.Tests.{lt-ltb, le-ltb}
 use Rattle.choices.specs.Branch.{choose}
-use Rattle.decimals.proofs.Puts.{put-then, put-stored}
+use Rattle.decimals.proofs.CharactersPut.{put-then, put-stored}
 use Rattle.ask_text.specs.Replies.{space, signedText}
 use borrow.Author.Needs.{needs}
 use Rattle.ask_text.proofs.head.put_signed.Statement.{statement}

@@ -1,7 +1,7 @@
 -- The order, then two numbers.
 use mathlib.Core.List.{[], _∷_, append-assoc}
 use native.Mathlib.Omega.{arith}
-use Rattle.decimals.proofs.Puts.{put-then}
+use Rattle.decimals.proofs.CharactersPut.{put-then}
 use Rattle.ask_text.specs.Replies.{orderText, space}
 use Rattle.ask_text.proofs.TextsFit.{order-end}
 use borrow.Author.Needs.{needs}

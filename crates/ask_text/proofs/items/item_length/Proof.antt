@@ -2,7 +2,7 @@
 use Prim.Native.Nat.{_+_}
 use native.Mathlib.Omega.{arith}
 use lib.ListN.{getD}
-use Rattle.decimals.proofs.Decimal.{decimal-most}
+use Rattle.decimals.proofs.DecimalIs.{decimal-most}
 use Rattle.ask_text.specs.Items.{itemFrom}
 use Rattle.ask_text.proofs.ItemsJoined.{item-length as item-characters}
 use borrow.Author.Needs.{needs}

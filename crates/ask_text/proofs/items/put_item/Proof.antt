@@ -5,7 +5,7 @@ use Prim.Native.Nat.{ℕ, _+_}
 use native.Mathlib.Omega.{arith}
 use lib.ListN.{getD}
 use Rattle.decimals.specs.Puts.{Put}
-use Rattle.decimals.proofs.Puts.{put-then}
+use Rattle.decimals.proofs.CharactersPut.{put-then}
 use Rattle.ask_text.specs.Items.{itemFrom}
 use Rattle.ask_text.proofs.ItemsJoined.{item-length as item-characters, item-text, number-length}
 use borrow.Author.Needs.{needs}

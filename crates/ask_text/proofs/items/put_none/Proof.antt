@@ -1,7 +1,7 @@
 -- One character behind the other.
 use native.Mathlib.Omega.{arith}
 use lib.ListN.{length-set}
-use Rattle.decimals.proofs.Puts.{put-two}
+use Rattle.decimals.proofs.CharactersPut.{put-two}
 use borrow.Author.Needs.{needs}
 use Rattle.ask_text.proofs.items.put_none.Statement.{statement}
 use Rattle.ask_text.proofs.items.put_none.Tie as tie

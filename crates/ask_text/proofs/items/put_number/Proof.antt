@@ -1,5 +1,5 @@
 -- There is room for the number, so that it is told where it ends.
-use Rattle.decimals.proofs.Puts.{put-upto, put-always}
+use Rattle.decimals.proofs.CharactersPut.{put-upto, put-always}
 use borrow.Author.Needs.{needs}
 use Rattle.ask_text.proofs.items.put_number.Statement.{statement}
 use Rattle.ask_text.proofs.items.put_number.Tie as tie

@@ -1,6 +1,6 @@
 -- No octets; or their digits, and the character behind them.
 use native.Mathlib.Omega.{arith}
-use Rattle.decimals.proofs.Puts.{put-then, put-one}
+use Rattle.decimals.proofs.CharactersPut.{put-then, put-one}
 use Rattle.ask_text.proofs.OctetsPut.{octets-none, octets-some, digits-fit, digits-put}
 use borrow.Author.Needs.{needs}
 use Rattle.ask_text.proofs.octets.put.Statement.{statement}

@@ -5,7 +5,7 @@ use Prim.Native.Nat.{ℕ}
 use native.Mathlib.Omega.{arith}
 use lib.Seq.{length-take-le}
 use Rattle.decimals.specs.Decimal.{decimal}
-use Rattle.decimals.proofs.Puts.{put-taken, number-most}
+use Rattle.decimals.proofs.CharactersPut.{put-taken, number-most}
 use Rattle.cdr_write.specs.Write.{Stored}
 use Rattle.ask_text.specs.Items.{lf}
 use Rattle.ask_text.specs.Replies.{space}

@@ -4,7 +4,7 @@ use mathlib.Core.Path.{_∙_, sym}
 use native.Mathlib.Omega.{arith}
 use Rattle.cdr.proofs.load.number1.Statement.{statement}
 use Rattle.cdr.proofs.load.number1.Tie as tie
-use Rattle.cdr.proofs.Numbers.{number-one}
+use Rattle.cdr.proofs.NumbersGivenBack.{number-one}
 
 shared-slice-read-wide : tie.Need-shared-slice-read-wide
 shared-slice-read-wide c = search needs

@@ -2,7 +2,7 @@
 use borrow.Author.Needs.{needs}
 use Rattle.cdr.proofs.load.number8.Statement.{statement}
 use Rattle.cdr.proofs.load.number8.Tie as tie
-use Rattle.cdr.proofs.Numbers.{loaded-big, loaded-little}
+use Rattle.cdr.proofs.NumbersGivenBack.{loaded-big, loaded-little}
 
 enum-told : tie.Need-enum-told
 enum-told c = search needs

@@ -3,7 +3,7 @@ use mathlib.Core.Path.{refl}
 use native.Mathlib.Omega.{arith}
 use Rattle.cdr.proofs.load.wider.Statement.{statement}
 use Rattle.cdr.proofs.load.wider.Tie as tie
-use Rattle.cdr.proofs.Numbers.{wide-small, wide-base}
+use Rattle.cdr.proofs.NumbersGivenBack.{wide-small, wide-base}
 
 mul-result : tie.Need-mul-result
 mul-result c = let o = c .args in omega (arith, wide-small (o .high) (o .low) (o .base) (c .pre .0) (c .pre .1), wide-base (o .base) (c .pre .2))

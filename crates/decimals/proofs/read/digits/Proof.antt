@@ -4,7 +4,7 @@ use Prim.Native.Nat.{_-_, _≤_}
 use native.Mathlib.Omega.{arith}
 use lib.ListN.{length, drop}
 use Rattle.decimals.specs.Numerals.{mostNumber, numberFrom}
-use Rattle.decimals.proofs.Numerals.{read-on, read-off, read-done}
+use Rattle.decimals.proofs.DecimalBack.{read-on, read-off, read-done}
 use borrow.Author.Needs.{needs}
 use Rattle.decimals.proofs.read.digits.Statement.{statement}
 use Rattle.decimals.proofs.read.digits.Tie as tie

@@ -1,6 +1,6 @@
 -- Each test in turn.
 use native.Mathlib.Omega.{arith}
-use Rattle.decimals.proofs.Numerals.{numeral-below, numeral-above, numeral-over, numeral-next}
+use Rattle.decimals.proofs.DecimalBack.{numeral-below, numeral-above, numeral-over, numeral-next}
 use borrow.Author.Needs.{needs}
 use Rattle.decimals.proofs.read.onward.Statement.{statement}
 use Rattle.decimals.proofs.read.onward.Tie as tie

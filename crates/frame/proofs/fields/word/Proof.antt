@@ -5,7 +5,7 @@ use native.Mathlib.Omega.{arith}
 use Rattle.frame.proofs.fields.word.Statement.{statement}
 use Rattle.frame.proofs.fields.word.Tie as tie
 use Rattle.cdr.specs.Number.{numberAt}
-use Rattle.cdr.proofs.Numbers.{number-small}
+use Rattle.cdr.proofs.NumbersGivenBack.{number-small}
 use Rattle.frame.proofs.WordRead.{word-value, word-there}
 
 -- the number that was read is the word

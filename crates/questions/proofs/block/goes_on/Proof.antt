@@ -1,7 +1,7 @@
 -- One test after the other.
 use mathlib.Core.Bool.{false≢true}
 use native.Mathlib.Omega.{arith}
-use Rattle.questions.proofs.Blocks.{goes-by}
+use Rattle.questions.proofs.TurnsOfBlock.{goes-by}
 use borrow.Author.Needs.{needs}
 use Rattle.questions.proofs.block.goes_on.Statement.{statement}
 use Rattle.questions.proofs.block.goes_on.Tie as tie

@@ -4,7 +4,7 @@ use Prim.Native.Nat.{_≤_}
 use native.Mathlib.Omega.{arith}
 use lib.ListN.{length}
 use lib.Seq.{length-take-le}
-use Rattle.recording_text.specs.Listing.{octetsMost, Entry}
+use Rattle.recording_text.specs.Listing.{octetsMost, LineEntry}
 use Rattle.recording_text.specs.Inner.{Lists}
 use Rattle.recording_text.proofs.EntryListed.{decoded-count, entry-accepted, entry-refused, lists-refused}
 use borrow.Author.Needs.{needs}
@@ -75,7 +75,7 @@ returns-2 c =
     let at-decode = at-decoded .before .before .before .before in
     let start = at-decode .before .before .before .before .before .before .before in
     let o = start .args in
-    subst (λ (e : Entry). Lists e (o .number) (o .out .now) (o .at) (at-list-octets .list-octets .result) (at-list-octets .list-octets .last .1 .1 .1 .0) (at-list-octets .list-octets .last .1 .1 .1 .1 .0))
+    subst (λ (e : LineEntry). Lists e (o .number) (o .out .now) (o .at) (at-list-octets .list-octets .result) (at-list-octets .list-octets .last .1 .1 .1 .0) (at-list-octets .list-octets .last .1 .1 .1 .1 .0))
     (entry-accepted (o .characters .now) (o .octets .now) (at-decode .decode .result) (at-decode .decode .last .1 .0) (start .pre .memory .decoded) (at-decode .decode .ensures) _ (o .before) (o .places .now) (at-decoded .decoded .given .1))
     (at-list-octets .list-octets .ensures)
 

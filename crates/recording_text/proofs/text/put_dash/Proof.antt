@@ -1,7 +1,7 @@
 -- One character behind the other.
 use native.Mathlib.Omega.{arith}
 use lib.ListN.{length-set}
-use Rattle.decimals.proofs.Puts.{put-two}
+use Rattle.decimals.proofs.CharactersPut.{put-two}
 use borrow.Author.Needs.{needs}
 use Rattle.recording_text.proofs.text.put_dash.Statement.{statement}
 use Rattle.recording_text.proofs.text.put_dash.Tie as tie

@@ -1,6 +1,6 @@
 -- The digits fit, and the LF behind them.
 use native.Mathlib.Omega.{arith}
-use Rattle.decimals.proofs.Puts.{put-then, put-one}
+use Rattle.decimals.proofs.CharactersPut.{put-then, put-one}
 use Rattle.recording_text.proofs.MessagePut.{message-put}
 use borrow.Author.Needs.{needs}
 use Rattle.recording_text.proofs.text.put_message.Statement.{statement}

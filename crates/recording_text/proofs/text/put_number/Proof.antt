@@ -1,7 +1,7 @@
 -- There is room for any number, so that it is told where it ends.
 use mathlib.Core.List.{[], _∷_}
 use native.Mathlib.Omega.{arith}
-use Rattle.decimals.proofs.Puts.{put-upto, put-always, number-most}
+use Rattle.decimals.proofs.CharactersPut.{put-upto, put-always, number-most}
 use borrow.Author.Needs.{needs}
 use Rattle.recording_text.proofs.text.put_number.Statement.{statement}
 use Rattle.recording_text.proofs.text.put_number.Tie as tie

@@ -3,7 +3,7 @@ use mathlib.Core.List.{[], _∷_, append-assoc}
 use native.Mathlib.Omega.{arith}
 use Rattle.decimals.specs.Decimal.{decimal}
 use Rattle.recording_text.specs.Text.{space}
-use Rattle.decimals.proofs.Puts.{put-then, number-most}
+use Rattle.decimals.proofs.CharactersPut.{put-then, number-most}
 use borrow.Author.Needs.{needs}
 use Rattle.recording_text.proofs.text.put_numbers.Statement.{statement}
 use Rattle.recording_text.proofs.text.put_numbers.Tie as tie

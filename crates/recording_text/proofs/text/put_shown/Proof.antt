@@ -1,7 +1,7 @@
 -- The numbers, then the message.
 use Rattle.hexline.specs.Encoding.{octetDigits}
 use native.Mathlib.Omega.{arith}
-use Rattle.decimals.proofs.Puts.{put-then}
+use Rattle.decimals.proofs.CharactersPut.{put-then}
 use Rattle.recording_text.proofs.EntryListed.{line-text, numbers-most}
 use borrow.Author.Needs.{needs}
 use Rattle.recording_text.proofs.text.put_shown.Statement.{statement}

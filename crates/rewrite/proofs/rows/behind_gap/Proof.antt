@@ -5,7 +5,7 @@ use Rattle.rewrite.proofs.rows.behind_gap.Tie as tie
 use mathlib.Core.Path.{_≡_, ap, _∙_}
 use Prim.Native.Nat.{ℕ, _+_, _%_, _<_}
 use native.Mathlib.Omega.{arith}
-use Rattle.cdr.proofs.Alignment.{octets-small, gap-small, gap-modulo-8}
+use Rattle.cdr.proofs.GapsBounded.{octets-small, gap-small, gap-modulo-8}
 
 add-i : tie.Need-add-i
 add-i c = search needs

@@ -7,7 +7,7 @@ use Prim.Native.Nat.{ℕ, _+_, _<_, _≤_}
 use native.Mathlib.Omega.{arith}
 use Rattle.cdr.specs.declared.Size.{Size}
 use Rattle.cdr.specs.Align.{octets, behindGap}
-use Rattle.cdr.proofs.Alignment.{octets-small, gap-small}
+use Rattle.cdr.proofs.GapsBounded.{octets-small, gap-small}
 use Rattle.rewrite.specs.Inner.{widthOf}
 use Rattle.rewrite.proofs.ItemsWritten.{octet-ends}
 

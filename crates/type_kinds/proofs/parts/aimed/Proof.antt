@@ -24,7 +24,7 @@ returns c = rw (sym (c .before .before .field-in .ensures) ∙ c .enum-told .giv
 place-before-requires : tie.Need-place-before-requires
 place-before-requires c κs =
     let a = c .before .before .before .before .before .args in
-    let f = field-inside (a .v .now) (a .start) (a .at) Four (a .order) _ _ (sym (c .before .before .before .field-in .ensures) ∙ c .before .value .given .1) in
+    let f = field-inside (a .types .now) (a .start) (a .at) Four (a .order) _ _ (sym (c .before .before .before .field-in .ensures) ∙ c .before .value .given .1) in
     (omega (arith, f .0), omega (arith, f .1))
 
 target-of-requires : tie.Need-target-of-requires

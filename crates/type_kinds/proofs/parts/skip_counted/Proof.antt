@@ -18,7 +18,7 @@ returns : tie.Need-returns
 unfolding skipCounted
 returns c =
     let a = c .before .before .args in
-    sym (ap skipOctets (counted-beyond (a .v .now) (a .start) (a .at) (a .order) (c .if1 .taken)))
+    sym (ap skipOctets (counted-beyond (a .types .now) (a .start) (a .at) (a .order) (c .if1 .taken)))
 
 sub-read-counted : tie.Need-sub-read-counted
 sub-read-counted c = search needs
@@ -40,9 +40,9 @@ add-t15 c =
     let o = c .before .before .before .before .before .before .before .before .args in
     let read-counted = c .before .before .before .before .read-counted in
     let g = c .before .before .from .given in
-    let e = subst (λ (s : List ℕ). countedOf s (o .at) (o .order) ≡ Octets (g .0 .0) (g .0 .1 .0)) (rest (o .v .now) (o .start .0)) (sym (read-counted .ensures) ∙ g .1) in
-    let f = counted-facts (drop (o .start .0) (o .v .now)) (o .at) (o .order) (g .0 .0) (g .0 .1 .0) e in
-    omega (arith, f .1, length-drop (o .start .0) (o .v .now))
+    let e = subst (λ (s : List ℕ). countedOf s (o .at) (o .order) ≡ Octets (g .0 .0) (g .0 .1 .0)) (rest (o .types .now) (o .start .0)) (sym (read-counted .ensures) ∙ g .1) in
+    let f = counted-facts (drop (o .start .0) (o .types .now)) (o .at) (o .order) (g .0 .0) (g .0 .1 .0) e in
+    omega (arith, f .1, length-drop (o .start .0) (o .types .now))
 
 enum-told : tie.Need-enum-told
 enum-told c = search needs
@@ -52,13 +52,13 @@ unfolding skipCounted
 returns-2 c =
     let a = c .before .before .before .before .before .before .before .before .args in
     let read-counted = c .before .before .before .before .read-counted in
-    rw (← rest (a .v .now) (a .start .0), sym (read-counted .ensures) ∙ c .before .before .from .given .1)
+    rw (← rest (a .types .now) (a .start .0), sym (read-counted .ensures) ∙ c .before .before .from .given .1)
 
 returns-3 : tie.Need-returns-3
 unfolding skipCounted
 returns-3 c =
     let a = c .before .before .before .before .before .before .args in
-    rw (← rest (a .v .now) (a .start .0), sym (c .before .before .read-counted .ensures) ∙ c .enum-told .given .1)
+    rw (← rest (a .types .now) (a .start .0), sym (c .before .before .read-counted .ensures) ∙ c .enum-told .given .1)
 
 pub skip-counted-spec : {M : Type 1} → statement M
 skip-counted-spec =

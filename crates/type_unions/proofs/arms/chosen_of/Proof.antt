@@ -21,14 +21,14 @@ default-of-requires c κs = search needs
 returns : tie.Need-returns
 returns c =
     let a = c .before .before .before .before .before .args in
-    chosen-case (membersOf (a .labels) (a .v .now) (a .fields)) (a .default) (a .label) _
+    chosen-case (membersOf (a .labels) (a .types .now) (a .fields)) (a .default) (a .label) _
     (sym (c .before .before .before .case-of .ensures) ∙ c .before .inner .given .1)
 
 returns-2 : tie.Need-returns-2
 returns-2 c =
     let a = c .before .before .before .before .before .args in
     c .default-of .ensures
-    ∙ chosen-default (membersOf (a .labels) (a .v .now) (a .fields)) (a .default) (a .label)
+    ∙ chosen-default (membersOf (a .labels) (a .types .now) (a .fields)) (a .default) (a .label)
     (sym (c .before .before .before .case-of .ensures) ∙ c .before .enum-told .given .1)
 
 pub chosen-of-spec : {M : Type 1} → statement M

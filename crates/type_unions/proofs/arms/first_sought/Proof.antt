@@ -19,7 +19,7 @@ abbrev μ-loop : tie.MeasureT-loop
 loop-holds : tie.Need-loop-holds Inv-loop μ-loop
 loop-holds c =
     let a = c .before .before .before .args in
-    left-none (seeks (a .sought) (a .labels) (a .v .now) (a .fields .start) (a .fields .order)) (a .fields .count) (0, a .fields .first)
+    left-none (seeks (a .sought) (a .labels) (a .types .now) (a .fields .start) (a .fields .order)) (a .fields .count) (0, a .fields .first)
 
 member-at-requires : tie.Need-member-at-requires Inv-loop μ-loop
 member-at-requires c κs = search needs
@@ -35,7 +35,7 @@ returns c =
     let a = c .before .before .before .before .before .before .before .before .args in
     let loop = c .before .before .before .before .loop in
     left-here _ _ _ (loop .inv) (c .before .before .before .loop-test .taken) _
-    (sought-cut (a .sought) (a .labels) (a .v .now) (a .fields .start) (a .fields .order) (loop .k) (loop .at)
+    (sought-cut (a .sought) (a .labels) (a .types .now) (a .fields .start) (a .fields .order) (loop .k) (loop .at)
     (sym (c .before .before .member-at .ensures) ∙ c .enum-told .given .1))
 
 is-sought-requires : tie.Need-is-sought-requires Inv-loop μ-loop
@@ -48,7 +48,7 @@ returns-2 c =
     let loop-test = c .before .before .before .before .before .before .loop-test in
     let member-at = c .before .before .before .before .before .member-at in
     left-here _ _ _ (loop .inv) (loop-test .taken) _
-    (sought-here (a .sought) (a .labels) (a .v .now) (a .fields .start) (a .fields .order) (loop .k) (loop .at) _ _
+    (sought-here (a .sought) (a .labels) (a .types .now) (a .fields .start) (a .fields .order) (loop .k) (loop .at) _ _
     (sym (member-at .ensures) ∙ c .before .before .before .inner .given .1)
     (sym (c .before .is-sought .ensures) ∙ c .if1 .taken))
 
@@ -65,7 +65,7 @@ loop-again c =
     let loop-test = c .before .before .before .before .before .before .loop-test in
     let member-at = c .before .before .before .before .before .member-at in
     left-more _ _ _ (loop .inv) (loop-test .taken) _
-    (sought-on (a .sought) (a .labels) (a .v .now) (a .fields .start) (a .fields .order) (loop .k) (loop .at) _ _
+    (sought-on (a .sought) (a .labels) (a .types .now) (a .fields .start) (a .fields .order) (loop .k) (loop .at) _ _
     (sym (member-at .ensures) ∙ c .before .before .before .inner .given .1)
     (sym (c .before .is-sought .ensures) ∙ c .if1 .left))
 

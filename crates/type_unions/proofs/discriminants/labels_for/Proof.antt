@@ -41,7 +41,7 @@ returns c =
     let found-at = c .before .before .before .before .found-at in
     let loop-test = c .before .before .before .before .before .loop-test in
     let says = sym (ap discriminantOf (found-at .ensures)) ∙ sym (c .before .before .before .discriminant-of .ensures) ∙ c .before .labels .given .1 in
-    labels-said (a .v .now) (kindsMet (a .met)) (loop .at) (loop .left) (loop-test .taken) _ says ∙ loop .inv .1
+    labels-said (a .types .now) (kindsMet (a .met)) (loop .at) (loop .left) (loop-test .taken) _ says ∙ loop .inv .1
 
 sub-left : tie.Need-sub-left Inv-loop μ-loop
 sub-left c = search needs
@@ -57,7 +57,7 @@ loop-again c =
     let discriminant-of = c .before .before .before .before .discriminant-of in
     let loop-test = c .before .before .before .before .before .before .loop-test in
     let leads = sym (ap discriminantOf (found-at .ensures)) ∙ sym (discriminant-of .ensures) ∙ c .before .before .next .given .1 in
-    let on = labels-through (a .v .now) (kindsMet (a .met)) (loop .at) (loop .left) (loop-test .taken) _ leads in
+    let on = labels-through (a .types .now) (kindsMet (a .met)) (loop .at) (loop .left) (loop-test .taken) _ leads in
     (omega arith, rw (c .place-in .ensures) (on ∙ loop .inv .1))
 
 returns-2 : tie.Need-returns-2 Inv-loop μ-loop
@@ -65,7 +65,7 @@ unfolding labelsFor
 returns-2 c =
     let a = c .before .before .before .args in
     let loop = c .before .loop in
-    labels-end (a .v .now) (kindsMet (a .met)) (loop .at) (loop .left) (omega (arith, c .loop-test .left)) ∙ loop .inv .1
+    labels-end (a .types .now) (kindsMet (a .met)) (loop .at) (loop .left) (omega (arith, c .loop-test .left)) ∙ loop .inv .1
 
 pub labels-for-spec : {M : Type 1} → statement M
 labels-for-spec =

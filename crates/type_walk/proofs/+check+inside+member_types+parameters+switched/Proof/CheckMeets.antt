@@ -45,13 +45,13 @@ check-of t = (
 pub check-returns : (t : ℕ) → check-lts.Need-returns (check-of t) (check-at t) check.Post
 check-returns t c =
     let a = c .before .before .before .before .before .before .args in
-    c .refused .ensures ∙ type-ends (a .v .now) (a .left) (a .s .now) (a .start) (a .order) (a .at) (seen (a .walk)) (sym (c .before .before .before .read-field .ensures) ∙ c .before .enum-told .given .1)
+    c .refused .ensures ∙ type-ends (a .types .now) (a .left) (a .part .now) (a .start) (a .order) (a .at) (seen (a .walk)) (sym (c .before .before .before .read-field .ensures) ∙ c .before .enum-told .given .1)
 
 pub check-returns-2 : (t : ℕ) → check-lts.Need-returns-2 (check-of t) (check-at t) check.Post
 check-returns-2 t c =
     let a = c .before .before .before .before .before .before .before .before .args in
     let read-field = c .before .before .before .before .before .read-field in
-    c .indirection .ensures ∙ type-indirection (a .v .now) (a .left) (a .s .now) (a .start) (a .order) (a .at) (seen (a .walk)) _ _ (sym (read-field .ensures) ∙ c .before .before .before .kind .given .1) (c .before .if1 .taken)
+    c .indirection .ensures ∙ type-indirection (a .types .now) (a .left) (a .part .now) (a .start) (a .order) (a .at) (seen (a .walk)) _ _ (sym (read-field .ensures) ∙ c .before .before .before .kind .given .1) (c .before .if1 .taken)
 
 pub check-place-before-requires : (t : ℕ) → check-lts.Need-place-before-requires (check-of t) (check-at t) check.Post
 check-place-before-requires t c κs =
@@ -59,7 +59,7 @@ check-place-before-requires t c κs =
     let read-field = c .before .before .before .before .before .before .before .before .before .read-field in
     let kind = c .before .before .before .before .before .before .before .kind in
     let pre = c .before .before .before .before .before .before .before .before .before .before .before .before .pre in
-    let f = field-facts (a .s .now) (a .at) Four (a .order) _ _ (sym (read-field .ensures) ∙ kind .given .1) in
+    let f = field-facts (a .part .now) (a .at) Four (a .order) _ _ (sym (read-field .ensures) ∙ kind .given .1) in
     (omega (arith, f .ends), omega (arith, f .fits, f .ends, pre .1))
 
 pub check-enter-requires : (t : ℕ) → check-lts.Need-enter-requires (check-of t) (check-at t) check.Post
@@ -71,7 +71,7 @@ check-enter-requires t c κs =
     let kind = c .before .before .before .before .before .before .before .before .kind in
     let pre = c .before .before .before .before .before .before .before .before .before .before .before .before .before .pre in
     let e = entry-facts (form-of .result) _ (a .left) (count .result) (sym (c .before .before .before .entry-of .ensures) ∙ c .before .enum-told2 .given .1) in
-    let f = field-facts (a .s .now) (a .at) Four (a .order) _ _ (sym (read-field .ensures) ∙ kind .given .1) in
+    let f = field-facts (a .part .now) (a .at) Four (a .order) _ _ (sym (read-field .ensures) ∙ kind .given .1) in
     let place = ap (λ (p : Place). p .0) (c .place-before .ensures) in
     (omega (arith, e .room, count .ensures), omega (arith, place, f .fits, f .ends, pre .1), omega (arith, f .fits, f .ends, pre .1))
 
@@ -102,7 +102,7 @@ check-returns-3 t c =
     let form-of = c .before .before .before .before .before .before .form-of in
     let count = c .before .before .before .before .before .count in
     let entry-of = c .before .before .before .before .entry-of in
-    c .refused2 .ensures ∙ type-barred (a .v .now) (a .left) (a .s .now) (a .start) (a .order) (a .at) (seen (a .walk)) _ _ (sym (read-field .ensures) ∙ kind .given .1) (if1 .left) (form-of .result) (form-of .ensures) (count .result) (count .ensures) _ (sym (entry-of .ensures) ∙ c .before .before .refusal .given .1)
+    c .refused2 .ensures ∙ type-barred (a .types .now) (a .left) (a .part .now) (a .start) (a .order) (a .at) (seen (a .walk)) _ _ (sym (read-field .ensures) ∙ kind .given .1) (if1 .left) (form-of .result) (form-of .ensures) (count .result) (count .ensures) _ (sym (entry-of .ensures) ∙ c .before .before .refusal .given .1)
 
 pub check-returns-4 : (t : ℕ) → check-lts.Need-returns-4 (check-of t) (check-at t) check.Post
 check-returns-4 t c =
@@ -115,5 +115,5 @@ check-returns-4 t c =
     let entry-of = c .before .before .before .before .before .entry-of in
     let enum-told2 = c .before .before .before .enum-told2 in
     let enter = c .before .enter in
-    c .inside .ensures ∙ type-enters (a .v .now) (a .left) (a .s .now) (a .start) (a .order) (a .at) (seen (a .walk)) _ _ (sym (read-field .ensures) ∙ kind .given .1) (if1 .left) (form-of .result) (form-of .ensures) (count .result) (count .ensures) (sym (entry-of .ensures) ∙ enum-told2 .given .1) (seen (enter .result))
+    c .inside .ensures ∙ type-enters (a .types .now) (a .left) (a .part .now) (a .start) (a .order) (a .at) (seen (a .walk)) _ _ (sym (read-field .ensures) ∙ kind .given .1) (if1 .left) (form-of .result) (form-of .ensures) (count .result) (count .ensures) (sym (entry-of .ensures) ∙ enum-told2 .given .1) (seen (enter .result))
     (enter .ensures ∙ ap (λ (p : Place). entered (seen (a .walk)) p (a .start) (a .order) (form-of .result)) (c .before .before .place-before .ensures))

@@ -12,7 +12,7 @@ use Rattle.type_walk.proofs.walks.close.Reads as close-reads
 use Rattle.type_walk.proofs.walks.ended.Reads as ended-reads
 use Rattle.type_walk.proofs.walks.goes_on.Reads as goes-on-reads
 use Rattle.type_walk.proofs.walks.refused.Reads as refused-reads
-use Rattle.type_counts.proofs.part_at.Reads as part-at-reads
+use Rattle.type_parts.proofs.part_at.Reads as part-at-reads
 use Rattle.type_walk.proofs.+check+inside+member_types+parameters+switched.Proof.CycleClaims.{inside-at, parameters-below}
 
 abbrev pub inside-of : ℕ → inside-lts.Claims
@@ -39,25 +39,25 @@ inside-add-parameters t c =
     let a = c .before .before .before .before .before .before .before .before .before .before .args in
     let part-at = c .before .before .before .before .part-at in
     let from2 = c .before .before .from in
-    omega (arith, pre .1 .0, part-facts (a .s .now) (a .at) (a .order) _ _ _ (sym (part-at .ensures) ∙ from2 .given .1) .ends, part-facts (a .s .now) (a .at) (a .order) _ _ _ (sym (part-at .ensures) ∙ from2 .given .1) .some)
+    omega (arith, pre .1 .0, part-facts (a .part .now) (a .at) (a .order) _ _ _ (sym (part-at .ensures) ∙ from2 .given .1) .ends, part-facts (a .part .now) (a .at) (a .order) _ _ _ (sym (part-at .ensures) ∙ from2 .given .1) .some)
 
 pub inside-sub-parameters : (t : ℕ) → inside-lts.Need-sub-parameters (inside-of t) (inside-at t) inside.Post
 inside-sub-parameters t c =
     let a = c .before .before .before .before .before .before .before .before .before .before .args in
     let part-at = c .before .before .before .before .part-at in
-    omega (arith, part-facts (a .s .now) (a .at) (a .order) _ _ _ (sym (part-at .ensures) ∙ c .before .before .from .given .1) .some)
+    omega (arith, part-facts (a .part .now) (a .at) (a .order) _ _ _ (sym (part-at .ensures) ∙ c .before .before .from .given .1) .some)
 
 pub inside-part-parameters-start : (t : ℕ) → inside-lts.Need-part-parameters-start (inside-of t) (inside-at t) inside.Post
 inside-part-parameters-start t c =
     let a = c .before .before .before .before .before .before .before .before .before .before .args in
     let part-at = c .before .before .before .before .part-at in
-    omega (arith, part-facts (a .s .now) (a .at) (a .order) _ _ _ (sym (part-at .ensures) ∙ c .before .before .from .given .1) .some)
+    omega (arith, part-facts (a .part .now) (a .at) (a .order) _ _ _ (sym (part-at .ensures) ∙ c .before .before .from .given .1) .some)
 
 pub inside-part-parameters-end : (t : ℕ) → inside-lts.Need-part-parameters-end (inside-of t) (inside-at t) inside.Post
 inside-part-parameters-end t c =
     let a = c .before .before .before .before .before .before .before .before .before .before .args in
     let part-at = c .before .before .before .before .part-at in
-    omega (arith, part-facts (a .s .now) (a .at) (a .order) _ _ _ (sym (part-at .ensures) ∙ c .before .before .from .given .1) .ends)
+    omega (arith, part-facts (a .part .now) (a .at) (a .order) _ _ _ (sym (part-at .ensures) ∙ c .before .before .from .given .1) .ends)
 
 pub inside-parameters-requires : (t : ℕ) → inside-lts.Need-parameters-requires (inside-of t) (inside-at t) inside.Post
 inside-parameters-requires t c κs =
@@ -65,14 +65,14 @@ inside-parameters-requires t c κs =
     let a = c .before .before .before .before .before .before .before .before .before .before .before .args in
     let part-at = c .before .before .before .before .before .part-at in
     let from2 = c .before .before .before .from in
-    (omega (arith, pre .0), omega (arith, pre .1 .0, c .parameters-arg .given, part-facts (a .s .now) (a .at) (a .order) _ _ _ (sym (part-at .ensures) ∙ from2 .given .1) .ends, part-facts (a .s .now) (a .at) (a .order) _ _ _ (sym (part-at .ensures) ∙ from2 .given .1) .some))
+    (omega (arith, pre .0), omega (arith, pre .1 .0, c .parameters-arg .given, part-facts (a .part .now) (a .at) (a .order) _ _ _ (sym (part-at .ensures) ∙ from2 .given .1) .ends, part-facts (a .part .now) (a .at) (a .order) _ _ _ (sym (part-at .ensures) ∙ from2 .given .1) .some))
 
 pub inside-sub-ended : (t : ℕ) → inside-lts.Need-sub-ended (inside-of t) (inside-at t) inside.Post
 inside-sub-ended t c =
     let a = c .before .before .before .before .before .before .before .before .before .before .before .before .args in
     let part-at = c .before .before .before .before .before .before .part-at in
     let from2 = c .before .before .before .before .from in
-    omega (arith, part-facts (a .s .now) (a .at) (a .order) _ _ _ (sym (part-at .ensures) ∙ from2 .given .1) .some)
+    omega (arith, part-facts (a .part .now) (a .at) (a .order) _ _ _ (sym (part-at .ensures) ∙ from2 .given .1) .some)
 
 pub inside-returns : (t : ℕ) → inside-lts.Need-returns (inside-of t) (inside-at t) inside.Post
 inside-returns t c = rw (c .before .enum-told .given .1) (c .refused .ensures)

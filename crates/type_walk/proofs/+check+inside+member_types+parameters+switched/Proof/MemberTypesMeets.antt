@@ -36,7 +36,7 @@ member-types-μ-loop v labels default s start order first count left w₀ at₀ 
 pub member-types-loop-holds : (t : ℕ) → member-types-lts.Need-loop-holds (member-types-of t) (member-types-at t) member-types.Post member-types-Inv-loop member-types-μ-loop
 member-types-loop-holds t c =
     let a = c .before .before .args in
-    left-none (membersFor (a .v .now) (typeAt (a .v .now) (a .left)) (a .labels) (a .default) (a .s .now) (a .start) (a .order) (a .first)) (a .count) (0, a .first, seen (a .walk))
+    left-none (membersFor (a .types .now) (typeAt (a .types .now) (a .left)) (a .labels) (a .default) (a .part .now) (a .start) (a .order) (a .first)) (a .count) (0, a .first, seen (a .walk))
 
 pub member-types-returns : (t : ℕ) → member-types-lts.Need-returns (member-types-of t) (member-types-at t) member-types.Post member-types-Inv-loop member-types-μ-loop
 member-types-returns t c =
@@ -44,8 +44,8 @@ member-types-returns t c =
     let loop = c .before .before .before .before .before .before .loop in
     let loop-test = c .before .before .before .before .before .loop-test in
     let name-after = c .before .before .before .before .name-after in
-    c .refused .ensures ∙ left-here (membersFor (a .v .now) (typeAt (a .v .now) (a .left)) (a .labels) (a .default) (a .s .now) (a .start) (a .order) (a .first)) (a .count) (0, a .first, seen (a .walk)) (loop .inv) (loop-test .taken) _
-    (members-refused (a .v .now) (typeAt (a .v .now) (a .left)) (a .labels) (a .default) (a .s .now) (a .start) (a .order) (a .first) (loop .k) (loop .at) (seen (loop .w)) _ (sym (name-after .ensures) ∙ c .before .before .name .given .1))
+    c .refused .ensures ∙ left-here (membersFor (a .types .now) (typeAt (a .types .now) (a .left)) (a .labels) (a .default) (a .part .now) (a .start) (a .order) (a .first)) (a .count) (0, a .first, seen (a .walk)) (loop .inv) (loop-test .taken) _
+    (members-refused (a .types .now) (typeAt (a .types .now) (a .left)) (a .labels) (a .default) (a .part .now) (a .start) (a .order) (a .first) (loop .k) (loop .at) (seen (loop .w)) _ (sym (name-after .ensures) ∙ c .before .before .name .given .1))
 
 pub member-types-returns-2 : (t : ℕ) → member-types-lts.Need-returns-2 (member-types-of t) (member-types-at t) member-types.Post member-types-Inv-loop member-types-μ-loop
 member-types-returns-2 t c =
@@ -55,8 +55,8 @@ member-types-returns-2 t c =
     let name-after = c .before .before .before .before .before .before .before .before .before .name-after in
     let name2 = c .before .before .before .before .before .before .before .name2 in
     let check = c .before .before .before .before .before .check in
-    c .refused2 .ensures ∙ left-here (membersFor (a .v .now) (typeAt (a .v .now) (a .left)) (a .labels) (a .default) (a .s .now) (a .start) (a .order) (a .first)) (a .count) (0, a .first, seen (a .walk)) (loop .inv) (loop-test .taken) _
-    (members-cut (a .v .now) (typeAt (a .v .now) (a .left)) (a .labels) (a .default) (a .s .now) (a .start) (a .order) (a .first) (loop .k) (loop .at) (seen (loop .w)) _ (sym (name-after .ensures) ∙ name2 .given .1) (seenAs (check .result)) (check .ensures) _ (c .before .before .step .given .1))
+    c .refused2 .ensures ∙ left-here (membersFor (a .types .now) (typeAt (a .types .now) (a .left)) (a .labels) (a .default) (a .part .now) (a .start) (a .order) (a .first)) (a .count) (0, a .first, seen (a .walk)) (loop .inv) (loop-test .taken) _
+    (members-cut (a .types .now) (typeAt (a .types .now) (a .left)) (a .labels) (a .default) (a .part .now) (a .start) (a .order) (a .first) (loop .k) (loop .at) (seen (loop .w)) _ (sym (name-after .ensures) ∙ name2 .given .1) (seenAs (check .result)) (check .ensures) _ (c .before .before .step .given .1))
 
 pub member-types-loop-again : (t : ℕ) → member-types-lts.Need-loop-again (member-types-of t) (member-types-at t) member-types.Post member-types-Inv-loop member-types-μ-loop
 member-types-loop-again t c =
@@ -66,12 +66,12 @@ member-types-loop-again t c =
     let name-after = c .before .before .before .before .before .before .before .before .name-after in
     let name2 = c .before .before .before .before .before .before .name2 in
     let check = c .before .before .before .before .check in
-    left-more (membersFor (a .v .now) (typeAt (a .v .now) (a .left)) (a .labels) (a .default) (a .s .now) (a .start) (a .order) (a .first)) (a .count) (0, a .first, seen (a .walk)) (loop .inv) (loop-test .taken) _
-    (members-on (a .v .now) (typeAt (a .v .now) (a .left)) (a .labels) (a .default) (a .s .now) (a .start) (a .order) (a .first) (loop .k) (loop .at) (seen (loop .w)) _ (sym (name-after .ensures) ∙ name2 .given .1) (seenAs (check .result)) (check .ensures) _ (c .before .step2 .given .1))
+    left-more (membersFor (a .types .now) (typeAt (a .types .now) (a .left)) (a .labels) (a .default) (a .part .now) (a .start) (a .order) (a .first)) (a .count) (0, a .first, seen (a .walk)) (loop .inv) (loop-test .taken) _
+    (members-on (a .types .now) (typeAt (a .types .now) (a .left)) (a .labels) (a .default) (a .part .now) (a .start) (a .order) (a .first) (loop .k) (loop .at) (seen (loop .w)) _ (sym (name-after .ensures) ∙ name2 .given .1) (seenAs (check .result)) (check .ensures) _ (c .before .step2 .given .1))
 
 pub member-types-returns-3 : (t : ℕ) → member-types-lts.Need-returns-3 (member-types-of t) (member-types-at t) member-types.Post member-types-Inv-loop member-types-μ-loop
 unfolding membersAt
 member-types-returns-3 t c =
     let a = c .before .before .before .before .before .args in
     let loop = c .before .before .loop in
-    c .goes-on .ensures ∙ left-end (membersFor (a .v .now) (typeAt (a .v .now) (a .left)) (a .labels) (a .default) (a .s .now) (a .start) (a .order) (a .first)) (a .count) (0, a .first, seen (a .walk)) (loop .inv) (c .before .loop-test .left)
+    c .goes-on .ensures ∙ left-end (membersFor (a .types .now) (typeAt (a .types .now) (a .left)) (a .labels) (a .default) (a .part .now) (a .start) (a .order) (a .first)) (a .count) (0, a .first, seen (a .walk)) (loop .inv) (c .before .loop-test .left)

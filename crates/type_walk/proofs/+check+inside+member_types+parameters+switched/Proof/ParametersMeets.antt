@@ -10,7 +10,7 @@ use Rattle.type_walk.proofs.walks.on.Reads as on-reads
 use Rattle.type_walk.proofs.walks.refused.Reads as refused-reads
 use Rattle.type_walk.proofs.walks.then_length.Reads as then-length-reads
 use Rattle.type_walk.proofs.walks.then_number.Reads as then-number-reads
-use Rattle.type_counts.proofs.enum_step.Reads as enum-step-reads
+use Rattle.type_parts.proofs.enum_step.Reads as enum-step-reads
 use Rattle.type_counts.proofs.exception_step.Reads as exception-step-reads
 use Rattle.type_counts.proofs.head_step.Reads as head-step-reads
 use Rattle.type_counts.proofs.names_step.Reads as names-step-reads

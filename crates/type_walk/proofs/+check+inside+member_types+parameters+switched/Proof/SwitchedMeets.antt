@@ -31,7 +31,7 @@ pub switched-returns : (t : ℕ) → switched-lts.Need-returns (switched-of t) (
 switched-returns t c =
     let a = c .before .before .before .before .before .before .before .before .before .args in
     let check = c .before .before .before .before .before .before .check in
-    c .refused .ensures ∙ switched-refused (a .v .now) (typeAt (a .v .now) (a .left)) (a .s .now) (a .start) (a .order) (a .at) (seen (a .walk)) (seenAs (check .result)) (check .ensures) _ (c .before .before .step .given .1)
+    c .refused .ensures ∙ switched-refused (a .types .now) (typeAt (a .types .now) (a .left)) (a .part .now) (a .start) (a .order) (a .at) (seen (a .walk)) (seenAs (check .result)) (check .ensures) _ (c .before .before .step .given .1)
 
 pub switched-returns-2 : (t : ℕ) → switched-lts.Need-returns-2 (switched-of t) (switched-at t) switched.Post
 switched-returns-2 t c =
@@ -40,7 +40,7 @@ switched-returns-2 t c =
     let step2 = c .before .before .before .before .before .before .before .step2 in
     let labels-at = c .before .before .before .before .before .labels-at in
     let switch-head = c .before .before .before .before .switch-head in
-    c .refused2 .ensures ∙ switched-wrong (a .v .now) (typeAt (a .v .now) (a .left)) (a .s .now) (a .start) (a .order) (a .at) (seen (a .walk)) (seenAs (check .result)) (check .ensures) _ (step2 .given .1) (labels-at .result) (labels-at .ensures) _ (sym (switch-head .ensures) ∙ c .before .before .refusal .given .1)
+    c .refused2 .ensures ∙ switched-wrong (a .types .now) (typeAt (a .types .now) (a .left)) (a .part .now) (a .start) (a .order) (a .at) (seen (a .walk)) (seenAs (check .result)) (check .ensures) _ (step2 .given .1) (labels-at .result) (labels-at .ensures) _ (sym (switch-head .ensures) ∙ c .before .before .refusal .given .1)
 
 pub switched-returns-3 : (t : ℕ) → switched-lts.Need-returns-3 (switched-of t) (switched-at t) switched.Post
 switched-returns-3 t c =
@@ -49,4 +49,4 @@ switched-returns-3 t c =
     let step2 = c .before .before .before .before .before .before .before .step2 in
     let labels-at = c .before .before .before .before .before .labels-at in
     let switch-head = c .before .before .before .before .switch-head in
-    c .member-types .ensures ∙ switched-on (a .v .now) (typeAt (a .v .now) (a .left)) (a .s .now) (a .start) (a .order) (a .at) (seen (a .walk)) (seenAs (check .result)) (check .ensures) _ (step2 .given .1) (labels-at .result) (labels-at .ensures) _ _ _ (sym (switch-head .ensures) ∙ c .before .before .default .given .1)
+    c .member-types .ensures ∙ switched-on (a .types .now) (typeAt (a .types .now) (a .left)) (a .part .now) (a .start) (a .order) (a .at) (seen (a .walk)) (seenAs (check .result)) (check .ensures) _ (step2 .given .1) (labels-at .result) (labels-at .ensures) _ _ _ (sym (switch-head .ensures) ∙ c .before .before .default .given .1)

@@ -6,7 +6,7 @@ use mathlib.Core.Path.{sym, ap, _∙_}
 use Prim.Native.Nat.{_-_}
 use native.Mathlib.Omega.{arith}
 use Rattle.cdr.specs.declared.Size.the-variants.{Four}
-use Rattle.cdr.proofs.Alignment.{read-facts}
+use Rattle.cdr.proofs.GapsBounded.{read-facts}
 use Rattle.value_meaning.specs.Visit.{runGot, runAt}
 use Rattle.value_meaning.proofs.ReadingCases as way
 use Rattle.value_cursor.specs.Walk.{sinkOf, sourceOf, stateOf}

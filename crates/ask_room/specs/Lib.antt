@@ -1,0 +1,2 @@
+-- The room that the answer of any line needs.
+pub mod Room

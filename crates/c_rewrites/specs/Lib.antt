@@ -1,0 +1,2 @@
+-- The C interface about rewriting.
+pub mod Rewrites

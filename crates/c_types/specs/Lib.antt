@@ -1,0 +1,2 @@
+-- The C interface about types.
+pub mod Types

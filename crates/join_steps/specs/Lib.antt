@@ -1,0 +1,3 @@
+-- What a line does.
+pub mod Steps
+pub mod Inner

@@ -1,0 +1,2 @@
+-- The octets of a profile body's parts.
+pub mod Octets

@@ -1,0 +1,3 @@
+-- Laws that other crates cite.
+pub mod TypedCases
+pub mod AfterWalk

@@ -1,0 +1,2 @@
+-- What a value is read under.
+pub mod Typed
