@@ -15,7 +15,7 @@
  * Indices. `start` and `index` say where the first octet stands for alignment. They are taken modulo 8, so any size_t will do.
  *
  * Stack. HAULSPAR_..._STACK_OCTETS is enough for a call. Behind each function stands what was measured, in octets: examples/link/stack.c fills
- * a thread's stack with a pattern, calls the function with the deepest types and values there are, and counts the octets that changed. The gate
+ * a thread's stack with a pattern, calls the function with the deepest types and values there are, and counts the octets that changed. `.ci/run`
  * runs it and fails where a measure is above its constant.
  */
 #ifndef HAULSPAR_H
