@@ -1,13 +1,10 @@
--- What the C interface leaves in the numbers that it is lent: they are filled where something is written or said, and kept by a refusal and
--- by a fragment that is held.
+-- What the C interface leaves in the numbers that it is lent: they are filled where something is written or said, and kept by a refusal.
 --   decodedCount     the octets that decoding wrote
 --   encodedCount     the digits that encoding wrote
 --   headerAfter      the seven numbers of an accepted header
---   joinedCount      how many octets joining wrote
 --   DecodesC         what a call of each function ensures, the number that it returns and all that was lent after it: of a decoding,
 --   EncodesC         of an encoding,
---   JudgesC          of a header,
---   JoinsC           and of a line that is joined
+--   JudgesC          and of a header
 use mathlib.Core.Path.{_≡_}
 use mathlib.Core.List.{List}
 use Prim.Native.Nat.{ℕ}
@@ -21,13 +18,6 @@ use Rattle.hexline.specs.Encoding.{encodedOf, encodedInto, encodedNumber}
 use Rattle.frame.specs.declared.Frame.{Frame}
 use Rattle.frame.specs.declared.Frame.the-variants.{Accepted, Refused as Unaccepted}
 use Rattle.frame.specs.Frames.{frameOf, frameNumber, headerNumbers}
-use Rattle.join_places.specs.declared.Record.{Record}
-use Rattle.join_answers.specs.declared.Answer.{Answer}
-use Rattle.join_answers.specs.declared.Output.{Output}
-use Rattle.join_answers.specs.declared.Output.the-variants.{Message, Nothing}
-use Rattle.join_answers.specs.Answers.{answerNumber, outputIn}
-use Rattle.joining.specs.Answers.{Joins}
-use Rattle.c_messages.specs.declared.Numbered.{Numbered}
 
 abbrev pub decodedCount : Decoded → ℕ → ℕ
 decodedCount (Octets n) before = n
@@ -43,10 +33,6 @@ abbrev pub headerAfter : Frame → List ℕ → List ℕ
 headerAfter (Accepted h) before = headerNumbers h
 headerAfter (Unaccepted r) before = before
 
-abbrev pub joinedCount : Output → ℕ → ℕ
-joinedCount (Message n) before = n
-joinedCount Nothing before = before
-
 pub record DecodesC (line out : List ℕ) (count r : ℕ) (outAfter : List ℕ) (countAfter : ℕ) : Type 0 where
   pub number : r ≡ decodedNumber (decodedOf line (length out))
   pub output : outAfter ≡ decodedInto (decodedOf line (length out)) line out
@@ -60,9 +46,3 @@ pub record EncodesC (octets out : List ℕ) (count r : ℕ) (outAfter : List ℕ
 pub record JudgesC (octets header : List ℕ) (r : ℕ) (headerLast : List ℕ) : Type 0 where
   pub number : r ≡ frameNumber (frameOf octets)
   pub values : headerLast ≡ headerAfter (frameOf octets) header
-
-pub record JoinsC (v : List ℕ) (before : Record) (places out : List ℕ) (count : ℕ) (r : Numbered) (placesLast outLast : List ℕ) (countLast : ℕ) : Type 0 where
-  pub answer : Answer
-  pub joins : Joins v before places out (record { answer = answer; after = r .after }) placesLast outLast
-  pub number : r .number ≡ answerNumber answer
-  pub counted : countLast ≡ joinedCount (outputIn answer) count

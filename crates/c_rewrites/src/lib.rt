@@ -1,14 +1,11 @@
 // The C interface's functions that rewrite a value: each answers 01's number, and a refusal leaves all that was lent as it was.
-ghost use mathlib.Core.Path.{_≡_};
 ghost use Rattle.cdr.specs.Align.{indexOf};
 ghost use Rattle.cdr.specs.Orders.{orderOfFlag};
 ghost use Rattle.rewrite_meaning.specs.Written.{target, unnamedOrder};
-ghost use Rattle.rewrite_meaning.specs.Rewriting.{rewriteNumber, writtenCount};
 ghost use Rattle.c_values.specs.Values.{valueAt};
 ghost use Rattle.c_rewrites.specs.Rewrites.{RewritesC};
 use cdr::Index;
 use cdr::Order;
-use rewrite_meaning::RewriteAnswer;
 
 // A value rewritten in a chosen order from the chosen index on: 0, or 42, 30 to 40, 50 to 55, or 57. `out` gets the octets from its start on,
 // and `count` their number. `little` says that the type is little-endian, `order` that the value is, `to` that the chosen order is.
@@ -43,8 +40,8 @@ pub extern "C" fn haulspar_rewrite(
         Index(index),
         out,
     );
-    *count = rewritten_count(answer, *count);
-    rewritten_number(answer)
+    *count = answer.count(*count);
+    answer.number()
 }
 
 // The same where no order is named.
@@ -67,27 +64,8 @@ pub extern "C" fn haulspar_rewrite_unnamed(
     let typed = Order::flagged(little);
     let recorded = Order::flagged(order);
     let first = Index(start);
-    let answer = rewrite::rewrite_unnamed(types, typed, value, recorded, first, Index(index), out);
-    *count = rewritten_count(answer, *count);
-    rewritten_number(answer)
-}
-
-// The number of octets written, or what was there where none are.
-fn rewritten_count(answer: RewriteAnswer, before: u64) -> u64
-    ensures { λ r. ⌜ r ≡ writtenCount answer before ⌝ }
-{
-    match answer {
-        RewriteAnswer::Accepted(n) => n as u64,
-        RewriteAnswer::Refused(_) => before,
-    }
-}
-
-// The number of an answer.
-fn rewritten_number(answer: RewriteAnswer) -> u32
-    ensures { λ r. ⌜ r ≡ rewriteNumber answer ⌝ }
-{
-    match answer {
-        RewriteAnswer::Accepted(_) => 0,
-        RewriteAnswer::Refused(number) => number,
-    }
+    let at = Index(index);
+    let answer = rewrite_unnamed::rewrite_unnamed(types, typed, value, recorded, first, at, out);
+    *count = answer.count(*count);
+    answer.number()
 }

@@ -5,8 +5,8 @@ use cdr_write::Written;
 use join_places::PLACES_SIZE;
 use libc::STDIN_FILENO;
 use program::READS;
+use recording_state::State;
 use recording_text::LINE_ROOM;
-use recording_text::State;
 
 // The characters of memory for answers, which are written when no more of the longest fit.
 const OUTPUT: usize = 131072;

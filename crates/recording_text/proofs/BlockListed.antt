@@ -22,7 +22,7 @@ use Rattle.join_answers.specs.Answers.{outputIn}
 use Rattle.joining.specs.Answers.{messageWritten, stepWithin, answerTo}
 use Rattle.join_laws.proofs.MessageFits.{message-fits}
 use Rattle.cdr_write.proofs.BufferHolds.{take-stored, drop-stored}
-use Rattle.recording_text.specs.declared.State.{State}
+use Rattle.recording_state.specs.declared.State.{State}
 use Rattle.recording_text.specs.declared.Progress.{Progress}
 use Rattle.decimals.specs.Decimal.{decimal}
 use Rattle.recording_text.specs.Text.{space, lineText}

@@ -13,7 +13,7 @@ use Rattle.lines.specs.Lines.{lf, lastLine, linesFrom}
 use Rattle.lines.proofs.LinesOfBlocks.{lines-end}
 use Rattle.join_places.specs.declared.Record.{Record}
 use Rattle.join_places.specs.Places.{openCount}
-use Rattle.recording_text.specs.declared.State.{State}
+use Rattle.recording_state.specs.declared.State.{State}
 use Rattle.recording_text.specs.declared.line.Listed.{Listed}
 use Rattle.decimals.specs.Decimal.{decimal}
 use Rattle.decimals.specs.Puts.{Put}

@@ -15,7 +15,7 @@ use Rattle.joining.specs.Answers.{stepWithin, answerOfStep}
 use Rattle.join_laws.proofs.PartsHeld.{fresh-start}
 use Rattle.join_laws.proofs.SameFromAlike.{Alike, fresh-alike, alike-step, alike-message, alike-after}
 use Rattle.recording_text.specs.Listing.{octetsMost, messageMost, shownOf, LineEntry, joinedEntry, entryFrom, entryOf, numberAfter, entryText, listingFrom, listingOf}
-use Rattle.recording_text.specs.Blocks.{freshState}
+use Rattle.recording_state.specs.States.{freshState}
 use Rattle.recording_text.specs.Calls.{Calls}
 use Rattle.recording_text.proofs.RecordingListed.{recording-text}
 

@@ -10,9 +10,10 @@ use borrow.Author.Tests.{le-leb}
 use Rattle.choices.specs.Branch.{choose}
 use Rattle.cdr_write.specs.declared.Written.the-variants.{Upto}
 use Rattle.lines.specs.Lines.{lf, linesFrom}
-use Rattle.recording_text.specs.declared.State.{State}
+use Rattle.recording_state.specs.declared.State.{State}
 use Rattle.recording_text.specs.Listing.{longest, listingOf}
-use Rattle.recording_text.specs.Blocks.{lineRoom, closing, listingAfter, freshState, storedFrom, endOf, endRoom, EndAnswered}
+use Rattle.recording_text.specs.Blocks.{lineRoom, closing, listingAfter, storedFrom, endOf, endRoom, EndAnswered}
+use Rattle.recording_state.specs.States.{freshState}
 use Rattle.recording_text.specs.Calls.{Calls, listNext, listEnded, listLast, ReadsSome, ReadThrough}
 use Rattle.recording_text.proofs.BlockListed.{done, block-answered, block-lined}
 use Rattle.recording_text.proofs.EndListed.{end-text}

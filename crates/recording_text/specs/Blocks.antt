@@ -13,7 +13,6 @@
 --   workOf           where a call stands
 --   blockStart       and where it starts; a `from` beyond the block counts as its end
 --   blockOf          a whole call: each turn takes a character, so that as many turns as the block has are enough
---   freshState       the start of a recording
 --   listingAfter     the text that is owed from a state on, by the input that is left
 --   BlockAnswered    what a call ensures
 --   storedFrom       the octets of the places after lines
@@ -34,8 +33,7 @@ use Rattle.hexline.specs.Decoding.{lineLimit}
 use Rattle.lines.specs.declared.Taken.{Taken}
 use Rattle.lines.specs.Lines.{linesFrom, takenOf, keptInto}
 use Rattle.join_places.specs.declared.Record.{Record}
-use Rattle.join_places.specs.Places.{freshRecord}
-use Rattle.recording_text.specs.declared.State.{State}
+use Rattle.recording_state.specs.declared.State.{State}
 use Rattle.recording_text.specs.declared.Progress.{Progress}
 use Rattle.recording_text.specs.Listing.{LineEntry, entryOf, numberAfter, entryText, longest, listingFrom}
 
@@ -106,9 +104,6 @@ blockStart block from state = record { state = state; next = min from (length bl
 
 unfoldable pub blockOf : List ℕ → ℕ → List ℕ → List ℕ → List ℕ → State → Work
 blockOf block from line places out state = blockFrom (length block) block (workOf (blockStart block from state) line places out)
-
-abbrev pub freshState : State
-freshState = record { messages = freshRecord; lines = 0; kept = 0 }
 
 abbrev pub listingAfter : State → List ℕ → List ℕ → List ℕ → List ℕ
 listingAfter state line places input = listingFrom (state .lines) (state .messages) places (linesFrom (take (state .kept) line) input)

@@ -11,7 +11,7 @@ use Prim.Native.Nat.{ℕ, _<_}
 use lib.ListN.{length, take, drop}
 use Rattle.cdr_write.specs.declared.Written.the-variants.{Upto}
 use Rattle.lines.specs.Lines.{lf}
-use Rattle.recording_text.specs.declared.State.{State}
+use Rattle.recording_state.specs.declared.State.{State}
 use Rattle.recording_text.specs.declared.Progress.{Progress}
 use Rattle.recording_text.specs.Blocks.{BlockAnswered, EndAnswered}
 

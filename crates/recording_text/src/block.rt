@@ -9,8 +9,8 @@ ghost use Rattle.recording_text.specs.Blocks.{lineRoom, workOf, turnOf, 
 ghost use Rattle.recording_text.specs.Inner.{Memory, Room};
 use crate::LINE_ROOM;
 use crate::Progress;
-use crate::State;
 use crate::line;
+use recording_state::State;
 
 // Answers the lines that end in the block, as long as there is room.
 pub(crate) fn answer_lines(

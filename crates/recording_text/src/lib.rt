@@ -1,8 +1,7 @@
 // The listing of a recording: what the program writes for its lines, answered block by block.
-ghost use mathlib.Core.Path.{_≡_};
-ghost use Rattle.recording_text.specs.Blocks.{freshState, BlockAnswered, EndAnswered};
+ghost use Rattle.recording_text.specs.Blocks.{BlockAnswered, EndAnswered};
 use cdr_write::Written;
-use join_places::Record;
+use recording_state::State;
 
 mod block;
 mod line;
@@ -16,26 +15,6 @@ pub const LINE_ROOM: usize = hexline::LINE_LIMIT + 1;
 
 // The characters of the longest closing line: two numbers of at most 20 digits, `end`, two spaces and an LF.
 pub const CLOSING: usize = 46;
-
-// Where a recording stands: the record of its open messages, the lines answered, and the characters kept of the line begun.
-pub struct State {
-    pub messages: Record,
-    pub lines: u64,
-    pub kept: usize,
-}
-
-impl State {
-    // The start of a recording: nothing is open, and nothing was read.
-    pub fn fresh() -> State
-        ensures { λ r. ⌜ r ≡ freshState ⌝ }
-    {
-        State {
-            messages: Record::fresh(),
-            lines: 0,
-            kept: 0,
-        }
-    }
-}
 
 // Where a call stands: the recording's state, the next character of the block, and the characters of output filled.
 pub struct Progress {

@@ -4,7 +4,7 @@ ghost use mathlib.Core.Path.{_≡_};
 ghost use lib.ListN.{length};
 ghost use Rattle.value_meaning.specs.Sinks.{source};
 ghost use Rattle.value_meaning.specs.Visit.{checked};
-ghost use Rattle.rewrite_meaning.specs.Written.{target, unnamedOrder};
+ghost use Rattle.rewrite_meaning.specs.Written.{target};
 ghost use Rattle.rewrite_meaning.specs.Rewriting.{rewriteAnswer, outputAfter};
 ghost use Rattle.type_list.specs.Arrays.{kindsMet};
 ghost use Rattle.rewrite.specs.Inner.{Readable, RoomForItems, Rewrites};
@@ -16,9 +16,6 @@ use value_cursor::Mode;
 use value_typed::Judged;
 
 mod rows;
-
-// The order that is meant where none is named.
-const UNNAMED: Order = Order::Big;
 
 // The most octets of a value; and of a short one, for which less memory is cleared.
 const MOST: usize = cdr::OCTETS_LIMIT;
@@ -52,27 +49,6 @@ pub fn rewrite(
         Judged::Accepted => rewrite_read(types, met, value, order, start, chosen, index, out),
         Judged::Refused(number) => RewriteAnswer::Refused(number),
     }
-}
-
-// Rewrites a value where no order is named.
-pub fn rewrite_unnamed(
-    types: &[u8],
-    torder: Order,
-    value: &[u8],
-    order: Order,
-    start: Index,
-    index: Index,
-    out: &mut [u8],
-) -> RewriteAnswer
-    ensures { λ r. ⌜
-        (r ≡ rewriteAnswer (now (types .entry)) torder (source (now (value .entry)) order start) (target unnamedOrder index)
-        (length (now (out .entry))))
-        ×
-        (now (out .exit) ≡ outputAfter (now (types .entry)) torder (source (now (value .entry)) order start) (target unnamedOrder index)
-        (now (out .entry)))
-        ⌝ }
-{
-    rewrite(types, torder, value, order, start, UNNAMED, index, out)
 }
 
 // Rewrites under a checked type, with memory for as many items as the value can have.

@@ -18,7 +18,8 @@ use Rattle.value.specs.Single.{givenIn, itemAnswer}
 use Rattle.rewrite_meaning.specs.Written.{Target, target, unnamedOrder}
 use Rattle.rewrite_meaning.specs.Rewriting.{writtenCount, rewriteAnswer, outputAfter}
 use Rattle.profile.specs.Profile.{profileOf, componentOf}
-use Rattle.c_messages.specs.Answers.{decodedCount, encodedCount, headerAfter, joinedCount}
+use Rattle.c_messages.specs.Answers.{decodedCount, encodedCount, headerAfter}
+use Rattle.c_joining.specs.Joining.{joinedCount}
 use Rattle.cdr.specs.Orders.{orderOfFlag}
 use Rattle.c_types.specs.Types.{usedAfter}
 use Rattle.c_values.specs.Values.{valueAt}

@@ -16,10 +16,11 @@ use Rattle.lines.specs.Lines.{linesFrom}
 use Rattle.decimals.specs.Decimal.{decimalWithin, decimal}
 use Rattle.join_places.specs.Places.{freshRecord, opened}
 use Rattle.join_steps.specs.Steps.{stepOf}
-use Rattle.recording_text.specs.declared.State.{State}
+use Rattle.recording_state.specs.declared.State.{State}
 use Rattle.recording_text.specs.Text.{lineText, endText}
 use Rattle.recording_text.specs.Listing.{entryOf, listingFrom}
-use Rattle.recording_text.specs.Blocks.{freshState, listingAfter, endOf}
+use Rattle.recording_text.specs.Blocks.{listingAfter, endOf}
+use Rattle.recording_state.specs.States.{freshState}
 use Rattle.ask_words.specs.Words.{wordsFrom, words, sameWord, orderWord}
 use Rattle.samples.specs.Tables.{paper, bit, Sample, sample, allAnswered}
 use Rattle.samples.specs.Frames.{frameAnswered}

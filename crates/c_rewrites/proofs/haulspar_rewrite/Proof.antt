@@ -21,11 +21,11 @@ flagged-requires-3 c κs = search needs
 rewrite-requires : tie.Need-rewrite-requires
 rewrite-requires c κs = search needs
 
-rewritten-count-requires : tie.Need-rewritten-count-requires
-rewritten-count-requires c κs = search needs
+count-requires : tie.Need-count-requires
+count-requires c κs = search needs
 
-rewritten-number-requires : tie.Need-rewritten-number-requires
-rewritten-number-requires c κs = search needs
+number-requires : tie.Need-number-requires
+number-requires c κs = search needs
 
 same-length : tie.Need-same-length
 same-length c = search needs
@@ -39,7 +39,7 @@ returns c =
     let rewrite = c .before .before .before .before .before .rewrite in
     rewrites-as (a .types .now) (a .little) (a .value .now) (a .order) (a .start) _ _ (flagged .ensures) (flagged3 .ensures) _
     (target (orderOfFlag (a .to)) (indexOf (a .index))) (ap (λ (o : Order). target o (indexOf (a .index))) (flagged2 .ensures)) (a .out .now)
-    (a .count .now) _ _ (rewrite .ensures) _ _ (c .before .rewritten-count .ensures) (c .rewritten-number .ensures)
+    (a .count .now) _ _ (rewrite .ensures) _ _ (c .before .count .ensures) (c .number .ensures)
 
 pub haulspar-rewrite-spec : {M : Type 1} → statement M
 haulspar-rewrite-spec =
@@ -49,7 +49,7 @@ haulspar-rewrite-spec =
     flagged-requires-2
     flagged-requires-3
     rewrite-requires
-    rewritten-count-requires
-    rewritten-number-requires
+    count-requires
+    number-requires
     same-length
     returns)

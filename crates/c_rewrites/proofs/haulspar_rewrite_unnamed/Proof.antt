@@ -16,11 +16,11 @@ flagged-requires-2 c κs = search needs
 rewrite-unnamed-requires : tie.Need-rewrite-unnamed-requires
 rewrite-unnamed-requires c κs = search needs
 
-rewritten-count-requires : tie.Need-rewritten-count-requires
-rewritten-count-requires c κs = search needs
+count-requires : tie.Need-count-requires
+count-requires c κs = search needs
 
-rewritten-number-requires : tie.Need-rewritten-number-requires
-rewritten-number-requires c κs = search needs
+number-requires : tie.Need-number-requires
+number-requires c κs = search needs
 
 same-length : tie.Need-same-length
 same-length c = search needs
@@ -33,7 +33,7 @@ returns c =
     let rewrite-unnamed = c .before .before .before .before .before .rewrite-unnamed in
     rewrites-as (a .types .now) (a .little) (a .value .now) (a .order) (a .start) _ _ (flagged .ensures) (flagged2 .ensures) _
     (target unnamedOrder (indexOf (a .index))) refl (a .out .now) (a .count .now) _ _ (rewrite-unnamed .ensures) _ _
-    (c .before .rewritten-count .ensures) (c .rewritten-number .ensures)
+    (c .before .count .ensures) (c .number .ensures)
 
 pub haulspar-rewrite-unnamed-spec : {M : Type 1} → statement M
 haulspar-rewrite-unnamed-spec =
@@ -42,7 +42,7 @@ haulspar-rewrite-unnamed-spec =
     flagged-requires
     flagged-requires-2
     rewrite-unnamed-requires
-    rewritten-count-requires
-    rewritten-number-requires
+    count-requires
+    number-requires
     same-length
     returns)

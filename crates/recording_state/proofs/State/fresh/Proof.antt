@@ -2,8 +2,8 @@
 use mathlib.Core.Path.{ap}
 use borrow.Author.Needs.{needs}
 use Rattle.join_places.specs.declared.Record.{Record}
-use Rattle.recording_text.proofs.State.fresh.Statement.{statement}
-use Rattle.recording_text.proofs.State.fresh.Tie as tie
+use Rattle.recording_state.proofs.State.fresh.Statement.{statement}
+use Rattle.recording_state.proofs.State.fresh.Tie as tie
 
 fresh-requires : tie.Need-fresh-requires
 fresh-requires c κs = search needs

@@ -38,19 +38,19 @@ use denote.Triple.Spec.{Back, Meets, tripleOf}
 use denote.Triple.Table.{entered, cited}
 use denote.Triple.Clauses.{Lasts, atExit, lasts, ensured}
 use Rattle.join_places.specs.declared.Record.{Record}
-use Rattle.c_messages.specs.declared.Numbered.{Numbered}
+use Rattle.c_joining.specs.declared.Numbered.{Numbered}
 use Rattle.join_places.proofs.Record as R
 use Rattle.join_places.proofs.Record.Laws as R′
-use Rattle.c_messages.proofs.Numbered as N
-use Rattle.c_messages.proofs.Numbered.Laws as N′
-use Rattle.c_messages.proofs.joined as core
-use Rattle.c_messages.proofs.joined.Symbol as core-def
-use Rattle.c_messages.proofs.joined.Symbol.{name as #core}
-use Rattle.c_messages.proofs.joined.Met as core-thm
-use Rattle.c_messages.proofs.haulspar_join.Key.{name as #thin}
-use Rattle.c_messages.proofs.haulspar_join as thin
-use Rattle.c_messages.proofs.haulspar_join.Statement as stated
-use Rattle.c_messages.proofs.haulspar_join.Code as code
+use Rattle.c_joining.proofs.Numbered as N
+use Rattle.c_joining.proofs.Numbered.Laws as N′
+use Rattle.c_joining.proofs.joined as core
+use Rattle.c_joining.proofs.joined.Symbol as core-def
+use Rattle.c_joining.proofs.joined.Symbol.{name as #core}
+use Rattle.c_joining.proofs.joined.Met as core-thm
+use Rattle.c_joining.proofs.haulspar_join.Key.{name as #thin}
+use Rattle.c_joining.proofs.haulspar_join as thin
+use Rattle.c_joining.proofs.haulspar_join.Statement as stated
+use Rattle.c_joining.proofs.haulspar_join.Code as code
 
 -- the parameters' types, how a value's machine value is spelled, and that its type tells it
 abbrev Types : Lfts (thin.signature .lifetimes) → List RattleType
@@ -183,4 +183,4 @@ unfolding code.routine tablesOf
 haulspar-join-spec 𝓤 H 𝓜 𝓖 𝓡 =
     entered 𝓤 H (Thin 𝓤 H (𝓖 .A) (𝓜 .mem) (𝓡 .run)) (tables 𝓤 H 𝓜 𝓡 code.env .C) (tables 𝓤 H 𝓜 𝓡 code.env .Λ) #thin code.function (code.unfolded 𝓤 H 𝓜 𝓡)
     (haulspar-join-meets 𝓤 H (𝓖 .A) (givenOf 𝓤 H 𝓜 𝓖) (𝓜 .mem) (𝓡 .run) (tablesOf 𝓤 H 𝓜 (tables 𝓤 H 𝓜 𝓡 code.env))
-    (cited 𝓤 H (Core 𝓤 H (𝓖 .A) (𝓜 .mem) (𝓡 .run)) 𝓜 𝓡 code.env #core core-def.routine code.calls-c-messages·joined (core-thm.met 𝓤 H 𝓜 𝓖 𝓡)))
+    (cited 𝓤 H (Core 𝓤 H (𝓖 .A) (𝓜 .mem) (𝓡 .run)) 𝓜 𝓡 code.env #core core-def.routine code.calls-c-joining·joined (core-thm.met 𝓤 H 𝓜 𝓖 𝓡)))

@@ -1,7 +1,7 @@
 -- What joining ensures, as the C interface's numbers.
 use borrow.Author.Needs.{needs}
-use Rattle.c_messages.proofs.joined.Statement.{statement}
-use Rattle.c_messages.proofs.joined.Tie as tie
+use Rattle.c_joining.proofs.joined.Statement.{statement}
+use Rattle.c_joining.proofs.joined.Tie as tie
 
 join-requires : tie.Need-join-requires
 join-requires c κs = search needs

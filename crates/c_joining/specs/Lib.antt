@@ -1,0 +1,2 @@
+-- The C interface about joining.
+pub mod Joining

@@ -1,0 +1,2 @@
+-- Where a recording stands.
+pub mod States
