@@ -115,7 +115,7 @@ uint32_t haulspar_decode(const uint8_t *line, size_t line_len, uint8_t *out, siz
 uint32_t haulspar_encode(const uint8_t *octets, size_t octets_len, uint8_t *out, size_t out_len, uint64_t *count);
 
 /* A message's octets judged: 0, 10, or 12 to 21. `header` gets minor version, order (0 big, 1 little), more flag (0 or 1), type, size, whether
- * there is a request id (0 or 1), request id (0 where there is none). Stack: 144. */
+ * there is a request id (0 or 1), request id (0 where there is none). Stack: 128. */
 uint32_t haulspar_frame(const uint8_t *octets, size_t octets_len, uint64_t header[7]);
 
 /* The open messages of one recording: of each of the four places the request id, the length in octets, and whether there is one. All zero is
@@ -128,7 +128,7 @@ struct haulspar_record {
 
 /* A line's octets joined: 0 whole message, 1 held, 2 joined, 3 cancelled; 10, or 12 to 28. `places` are four places of 16,384 octets, one after
  * the other, and hold the octets of open messages between calls. Answers 0, 2 and 3 write a message to `out` from its start, and the number of
- * its octets to `count`; answer 1 writes nothing there and leaves `count`. HAULSPAR_MESSAGE_OCTETS are always enough. Stack: 608. */
+ * its octets to `count`; answer 1 writes nothing there and leaves `count`. HAULSPAR_MESSAGE_OCTETS are always enough. Stack: 310. */
 uint32_t haulspar_join(const uint8_t *octets, size_t octets_len, struct haulspar_record *record, uint8_t *places, size_t places_len,
                        uint8_t *out, size_t out_len, uint64_t *count);
 
@@ -136,28 +136,28 @@ uint32_t haulspar_join(const uint8_t *octets, size_t octets_len, struct haulspar
 
 /* A TypeCode checked: 0, 30 to 40, or 42. `numbers` gets octets used and kinds written (k). Of each kind met, in the order of the octets,
  * `places` gets its place in the TypeCode, `starts` where the encapsulation that it stands in starts there, and `orders` that one's order
- * (0 big, 1 little); all three are 0 past the last. Stack: 124,616. */
+ * (0 big, 1 little); all three are 0 past the last. Stack: 124,568. */
 uint32_t haulspar_type(const uint8_t *octets, size_t octets_len, bool little, uint16_t places[HAULSPAR_KINDS],
                        uint16_t starts[HAULSPAR_KINDS], uint8_t orders[HAULSPAR_KINDS], uint64_t numbers[2]);
 
 /* A value read into the table: 0, 42, 30 to 40, or 50 to 56. Item i is the three numbers at 3 * i: kind (256 for an octet run), place in the value's
  * octets, content (signed ones sign-extended, floats as their bits, of texts and runs the length). `table_len` counts 64-bit numbers, not octets
  * or items: there is room for table_len / 3 items. `numbers` gets octets used and items, `visits` the visits begun, of a refusal too (0 where the
- * type is refused, or by 42). HAULSPAR_TABLE_NUMBERS are always enough, and so are 3 * value_len. Stack: 216,104. */
+ * type is refused, or by 42). HAULSPAR_TABLE_NUMBERS are always enough, and so are 3 * value_len. Stack: 214,776. */
 uint32_t haulspar_value(const uint8_t *type, size_t type_len, bool little, const uint8_t *value, size_t value_len, bool value_little,
                         size_t start, uint64_t *table, size_t table_len, uint64_t numbers[2], uint64_t *visits);
 
 /* An item of a value by its number, the first one 0: 0, 42, 30 to 40, 50 to 55, or 49. `given` gets which case it is (0 signed, 1 unsigned,
- * 2 single, 3 double) and its 64 bits: a signed one sign-extended, a single's 32 bits as they were recorded. Stack: 216,056. */
+ * 2 single, 3 double) and its 64 bits: a signed one sign-extended, a single's 32 bits as they were recorded. Stack: 214,728. */
 uint32_t haulspar_item(const uint8_t *type, size_t type_len, bool little, const uint8_t *value, size_t value_len, bool value_little,
                        size_t start, uint64_t number, uint64_t given[2]);
 
 /* A value rewritten in a chosen order and from a chosen index on: 0, 42, 30 to 40, 50 to 55, or 57 where `out` is too short. `count` gets the
- * number of octets. HAULSPAR_REWRITTEN_OCTETS are always enough, and so are value_len + 7. Stack: 609,640. */
+ * number of octets. HAULSPAR_REWRITTEN_OCTETS are always enough, and so are value_len + 7. Stack: 611,256. */
 uint32_t haulspar_rewrite(const uint8_t *type, size_t type_len, bool little, const uint8_t *value, size_t value_len, bool value_little,
                           size_t start, bool chosen_little, size_t index, uint8_t *out, size_t out_len, uint64_t *count);
 
-/* The same where no order is named, which means big-endian. Stack: 609,640. */
+/* The same where no order is named, which means big-endian. Stack: 611,256. */
 uint32_t haulspar_rewrite_unnamed(const uint8_t *type, size_t type_len, bool little, const uint8_t *value, size_t value_len,
                                   bool value_little, size_t start, size_t index, uint8_t *out, size_t out_len, uint64_t *count);
 
