@@ -10,7 +10,7 @@ use lib.Seq.{drop-cons, sets}
 use borrow.Author.Tests.{ltb-true, ltb-false}
 use Rattle.choices.proofs.Choices.{by-test}
 use Rattle.choices.specs.Branch.{choose}
-use Rattle.value_items.specs.Rows.{Item, item, itemRows}
+use Rattle.value_items.specs.Rows.{Item, itemRows}
 use Rattle.decimals.specs.Decimal.{decimal}
 use Rattle.decimals.specs.Puts.{Put}
 use Rattle.decimals.proofs.DecimalIs.{decimal-most}

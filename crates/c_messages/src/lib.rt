@@ -1,4 +1,4 @@
-// The C interface's functions about lines and messages: each answers 01's number, and a refusal leaves all that was lent as it was.
+// The C interface's functions about lines and frame headers: each answers 01's number, and a refusal leaves all that was lent as it was.
 ghost use mathlib.Core.Path.{_≡_};
 ghost use mathlib.Core.Bool.{cond};
 ghost use Rattle.frame.specs.Frames.{headerNumbers};

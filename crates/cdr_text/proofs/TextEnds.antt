@@ -13,7 +13,7 @@ use Rattle.choices.specs.Lists.{anyOf}
 use Rattle.choices.proofs.Choices.{by-test, clash}
 use Rattle.cdr_text.specs.declared.Text.the-variants.{Chars, Empty, Over, Short, Zeros}
 use Rattle.cdr_text.specs.declared.Run.the-variants.{To, Past}
-use Rattle.cdr_text.specs.Text.{overBound, hasZero, isNil, endsText, textOf, runOf}
+use Rattle.cdr_text.specs.Text.{overBound, hasZero, endsText, textOf, runOf}
 
 module _ (v : List ℕ) (at n bound : ℕ) where
   pub text-empty : n ≡ 0 → textOf v at n bound ≡ Empty

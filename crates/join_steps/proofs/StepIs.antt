@@ -2,7 +2,7 @@
 use mathlib.Core.Path.{_≡_, refl, sym, ap, subst, _∙_}
 use mathlib.Core.List.{List}
 use mathlib.Core.Bool.{true, false, cond}
-use Prim.Native.Nat.{ℕ, _+_, _-_, _≤_, _<_}
+use Prim.Native.Nat.{ℕ, _+_, _-_, _≤_}
 use native.Mathlib.Omega.{arith}
 use lib.Dec.{ltb, leb}
 use lib.ListN.{length, take, drop}
@@ -22,9 +22,9 @@ use Rattle.join_places.specs.declared.Found.the-variants.{At, Nowhere}
 use Rattle.join_places.specs.Places.{placesCount, placeSize, heldIn, placeOfId, lowestFree, openCount, badRecord, isAt, IsPlace}
 use Rattle.join_message.specs.Message.{idEnd}
 use Rattle.join_answers.specs.declared.Refusal.the-variants.{BadRecord, IdOpen, NoPlaceFree, FirstDiffers, TooLong}
-use Rattle.join_steps.specs.Steps.{Passes, Opens, Extends, Completes, Refuses, cancelled, differs, lengthAfter, continued}
+use Rattle.join_steps.specs.Steps.{Passes, Extends, Completes, Refuses, cancelled, differs, lengthAfter, continued}
 use Rattle.join_steps.specs.Steps.{fragmentOf, opensAt, firstOf, startingOf, withId, byId, messageStep, frameStep, stepOf}
-use Rattle.join_places.proofs.RecordSound.{is-at, free-within, sound-lent, sound-length}
+use Rattle.join_places.proofs.RecordSound.{is-at, sound-lent, sound-length}
 use Rattle.join_places.proofs.PlaceOfId.{Placed, place-is, place-found}
 use Rattle.join_steps.specs.Inner.{Sound, Continues}
 
@@ -106,16 +106,6 @@ module _ (r : Record) (h : Header) (id : ℕ) (f : Found) (e : isAt f ≡ false)
   pub starts-first : h .more ≡ true → leb placesCount (openCount r) ≡ false → startingOf r h id f ≡ opensAt id (lowestFree r)
   unfolding firstOf
   starts-first m l = starts ∙ rw (m, l)
-
--- the ways of a first fragment
-pub no-place : (r : Record) (id : ℕ) (f : Found) → f ≡ lowestFree r → f ≡ Nowhere → opensAt id (lowestFree r) ≡ Refuses NoPlaceFree
-no-place r id f e n = ap (opensAt id) (sym e ∙ n)
-
-pub free-place : (r : Record) (f : Found) (i : ℕ) → f ≡ lowestFree r → f ≡ At i → i < placesCount
-free-place r f i e a = subst IsPlace (sym e ∙ a) (free-within r)
-
-pub opens-place : (r : Record) (id : ℕ) (f : Found) (i : ℕ) → f ≡ lowestFree r → f ≡ At i → opensAt id (lowestFree r) ≡ Opens i id
-opens-place r id f i e a = ap (opensAt id) (sym e ∙ a)
 
 -- the ways of a message with a request id
 pub cancels : (r : Record) (places : List ℕ) (n : ℕ) (h : Header) (id : ℕ) → isCancel (h .kind) ≡ true

@@ -31,7 +31,6 @@ use Rattle.frame.specs.Frames.{frameOf}
 use Rattle.join_places.specs.declared.Record.{Record}
 use Rattle.join_places.specs.declared.Found.{Found}
 use Rattle.join_places.specs.declared.Found.the-variants.{At, Nowhere}
-use Rattle.join_answers.specs.declared.Refusal.{Refusal}
 use Rattle.join_answers.specs.declared.Refusal.the-variants.{Frame as InFrame, BadRecord, IdOpen, NoPlaceFree, IdNotOpen, FirstDiffers, TooLong}
 use Rattle.join_places.specs.Places.{placesCount, placeSize, lengthOf, heldIn, placeOfId, lowestFree, openCount, badRecord}
 use Rattle.join_message.specs.Message.{idEnd}

@@ -30,7 +30,6 @@ use Rattle.profile.specs.declared.Head.{Head}
 use Rattle.profile.specs.declared.Profile.{Profile}
 use Rattle.profile.specs.declared.ProfileAnswer.{ProfileAnswer}
 use Rattle.profile.specs.declared.ProfileAnswer.the-variants.{Read, Refused}
-use Rattle.profile.specs.declared.ComponentAnswer.{ComponentAnswer}
 use Rattle.profile.specs.declared.ComponentAnswer.the-variants.{Refused as notFound}
 use Rattle.profile.specs.List.{listed, listFrom, onComponentCount, countedList, listAt, componentFrom}
 use Rattle.profile.specs.Profile.{onOrderPart, onVersion, onSpan, onNumber, onList, profileOf, foundFrom, componentThen, componentIn, componentOf}

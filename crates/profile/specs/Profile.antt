@@ -26,7 +26,6 @@ use Rattle.cdr.specs.Limit.{octetsLimit}
 use Rattle.cdr.specs.Orders.{orderOctet}
 use Rattle.cdr_fields.specs.declared.Extent.{Extent}
 use Rattle.cdr_fields.specs.Encapsulation.{start}
-use Rattle.cdr_fields.specs.Extents.{noExtent}
 use Rattle.profile_parts.specs.declared.Refusal.the-variants.{TooLong, NoSuchComponent}
 use Rattle.profile_parts.specs.declared.OrderPart.{OrderPart}
 use Rattle.profile_parts.specs.declared.OrderPart.the-variants.{InOrder, Refused as noOrder}

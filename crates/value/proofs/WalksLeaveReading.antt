@@ -1,7 +1,7 @@
 -- What the walks over a value leave: the reading's numbers, and its items in the table.
 use mathlib.Core.Path.{_≡_, sym, ap, subst, _∙_}
 use mathlib.Core.List.{List, [], _∷_}
-use mathlib.Core.Bool.{Bool, true, false}
+use mathlib.Core.Bool.{true, false}
 use Prim.Native.Nat.{ℕ, _<_, _≤_}
 use native.Mathlib.Omega.{arith}
 use lib.ListN.{length, getD}
@@ -16,13 +16,13 @@ use Rattle.value_meaning.specs.Reading.{Log, reads, levels, topOf, anyRoom, roo
 use Rattle.value_meaning.specs.Value.{roomIn, filledBy, itemNo}
 use Rattle.value_meaning.proofs.EnoughRoom.{room-kept}
 use Rattle.value_cursor.specs.declared.Cursor.{Cursor}
-use Rattle.value_cursor.specs.Lent.{Lent, lentSink}
+use Rattle.value_cursor.specs.Lent.{lentSink}
 use Rattle.value_cursor.specs.Walk.{stateOf, cursorStart}
-use Rattle.value_leaves.proofs.ItemsInTable.{fullAt, stored, Small, walked, filled, row, picked}
+use Rattle.value_leaves.proofs.ItemsInTable.{filled, row, picked}
 use Rattle.value.specs.declared.ItemAnswer.the-variants.{Given, Refused as refusedItem}
 use Rattle.value.specs.Single.{givenBy}
 use Rattle.value_typed.specs.Typed.{FitsWords}
-use Rattle.value_typed.proofs.AfterWalk.{After, after-walk}
+use Rattle.value_typed.proofs.AfterWalk.{after-walk}
 use Rattle.value.specs.Inner.{readInto, ReadAs}
 
 module _ (t : Checked) (x : Source) (bounded : FitsWords t x) where

@@ -14,6 +14,7 @@ use mir.Syntax.{w64}
 use mir.Val.{SFits, toZ, ofZ, sel}
 use mir.ValLaws.{toZ-pos, toZ-ofZ}
 use Rattle.choices.proofs.Choices.{chosen}
+use Rattle.type_numbers.specs.Kinds.{floatKind, doubleKind}
 use Rattle.value_items.specs.declared.ItemValue.{ItemValue}
 use Rattle.value_items.specs.declared.ItemValue.the-variants.{Signed, Unsigned}
 use Rattle.value_items.specs.Items.{signedKind, signedOf, complementOf, singleOf, doubleOf, itemOf, bitsOf}
@@ -92,17 +93,17 @@ pub item-signed : (kind content : ℕ) → signedKind kind ≡ true → itemOf k
 unfolding itemOf
 item-signed kind content e = rw e
 
-pub item-single : (kind content : ℕ) → kind ≡ 6 → itemOf kind content ≡ singleOf content
+pub item-single : (kind content : ℕ) → kind ≡ floatKind → itemOf kind content ≡ singleOf content
 unfolding itemOf
 item-single kind content e = subst⁻¹ (λ (k : ℕ). itemOf k content ≡ singleOf content) e refl
 
-pub item-double : (kind content : ℕ) → kind ≡ 7 → itemOf kind content ≡ doubleOf content
+pub item-double : (kind content : ℕ) → kind ≡ doubleKind → itemOf kind content ≡ doubleOf content
 unfolding itemOf
 item-double kind content e = subst⁻¹ (λ (k : ℕ). itemOf k content ≡ doubleOf content) e refl
 
-pub item-other : (kind content : ℕ) → signedKind kind ≡ false → (kind ≡ 6 → ⊥) → (kind ≡ 7 → ⊥) → itemOf kind content ≡ Unsigned content
+pub item-other : (kind content : ℕ) → signedKind kind ≡ false → (kind ≡ floatKind → ⊥) → (kind ≡ doubleKind → ⊥) → itemOf kind content ≡ Unsigned content
 unfolding itemOf
-item-other kind content e s d = rw (e, ne-eqb kind 6 s, ne-eqb kind 7 d)
+item-other kind content e s d = rw (e, ne-eqb kind floatKind s, ne-eqb kind doubleKind d)
 
 -- the two's complement of the number that content stands for is the content
 signed-back : (content : ℕ) → content < 2 ^ 64 → complementOf (signedOf content) ≡ content
@@ -116,9 +117,9 @@ signed-back content h = go (ltb content (2 ^ 63))
     go false = turned
 
 -- an item has the content that it was made of, a single float's of 32 bits
-pub bits-back : (kind content : ℕ) → content < 2 ^ 64 → (kind ≡ 6 → content < 2 ^ 32) → bitsOf (itemOf kind content) ≡ content
+pub bits-back : (kind content : ℕ) → content < 2 ^ 64 → (kind ≡ floatKind → content < 2 ^ 32) → bitsOf (itemOf kind content) ≡ content
 unfolding itemOf
 bits-back kind content h g =
     chosen (λ (i : ItemValue). bitsOf i ≡ content) (signedKind kind) _ _ (λ e. signed-back content h)
-    (λ e. chosen (λ (i : ItemValue). bitsOf i ≡ content) (eqb kind 6) _ _ (λ s. mod-eq-of-lt (g (eqb-true kind 6 s)))
-    (λ s. chosen (λ (i : ItemValue). bitsOf i ≡ content) (eqb kind 7) _ _ (λ d. refl) (λ d. refl)))
+    (λ e. chosen (λ (i : ItemValue). bitsOf i ≡ content) (eqb kind floatKind) _ _ (λ s. mod-eq-of-lt (g (eqb-true kind floatKind s)))
+    (λ s. chosen (λ (i : ItemValue). bitsOf i ≡ content) (eqb kind doubleKind) _ _ (λ d. refl) (λ d. refl)))

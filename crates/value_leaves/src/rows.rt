@@ -2,7 +2,6 @@
 ghost use mathlib.Core.Path.{_≡_};
 ghost use mathlib.Core.Bool.{cond, _&&_};
 ghost use lib.Dec.{leb};
-ghost use lib.ListN.{length};
 ghost use Prim.Native.Nat.{_/_};
 ghost use Rattle.value_meaning.specs.Sinks.{item, done};
 ghost use Rattle.value_cursor.specs.Lent.{rowPut};

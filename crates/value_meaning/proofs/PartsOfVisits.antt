@@ -47,15 +47,6 @@ module _ {A : Type 0} (k : Sink A) (x : Source) (s : St A) (Q P : St A → Type 
       (λ t. C .refused 50 r refl (λ z. omega arith) a)
       (λ t. h (r .at) (octetsAt k x (r .at) n) (tookOctets k x n r) (C .more n r (ltb-false (length (x .octets)) (r .at + n) t) a))
 
-  -- octets that are the part's first
-  pub octets-first : (n : ℕ) (f : ℕ → List ℕ → St A → St A) → 0 < n → ((p : ℕ) (these : List ℕ) (u : St A) → Q u → P (f p these u))
-      → P (octetsStep k x n f s)
-  unfolding octetsStep
-  octets-first n f some h =
-      by-choice P (ltb (length (x .octets)) (s .at + n))
-      (λ t. C .ended)
-      (λ t. h (s .at) (octetsAt k x (s .at) n) (tookOctets k x n s) (C .run n some (ltb-false (length (x .octets)) (s .at + n) t)))
-
   leaf-done : (kind p n : ℕ) (r : St A) → Q r → P (leafDone k x kind p n r)
   unfolding leafDone isValueRefusal anyOf
   leaf-done kind p n r a =

@@ -1,6 +1,6 @@
 -- The plain reader gives what the reading gives, for any type, source, sink and state that is not refused: what is left to do by its list is
 -- the same before and behind a step, and each step leaves one step less.
-use mathlib.Core.Path.{_≡_, refl, sym, ap, ap₂, subst, _∙_}
+use mathlib.Core.Path.{_≡_, refl, sym, ap, _∙_}
 use mathlib.Core.List.{List, [], _∷_}
 use mathlib.Core.Bool.{Bool, true, false}
 use Prim.Native.Nat.{ℕ, zero, suc, _+_, _-_, _<_, _≤_}

@@ -1,5 +1,5 @@
 -- The visits of a reading are at most k * (n + 1), with k kinds and n octets: between two octets taken, kinds of falling ranks are entered.
-use mathlib.Core.Path.{_≡_, refl, sym, _∙_, ap, subst}
+use mathlib.Core.Path.{_≡_, refl, sym, ap, subst}
 use mathlib.Core.List.{List, [], _∷_}
 use mathlib.Core.Bool.{Bool, true, false, _||_, true≢false}
 use Prim.Native.Nat.{ℕ, zero, suc, _+_, _-_, _*_, _≤_, _<_}
@@ -14,7 +14,6 @@ use Rattle.choices.proofs.Choices.{by-test, clash, neither}
 use Rattle.cdr.specs.declared.Order.{Order}
 use Rattle.type_kinds.specs.declared.Inner.{Inner}
 use Rattle.type_kinds.specs.declared.Inner.the-variants.{There}
-use Rattle.type_kinds.specs.declared.Inert.{Inert}
 use Rattle.type_kinds.specs.declared.Inert.the-variants.{Leaf, Text, Objref, Enum}
 use Rattle.type_kinds.specs.declared.Labels.the-variants.{NoLabels}
 use Rattle.type_parameters.specs.declared.Parameters.{Parameters}
@@ -35,17 +34,17 @@ use Rattle.type_fields.specs.Fields.{topOnly}
 use Rattle.type_steps.specs.Steps.{stands, anyStands, stepsOf, leads, steps}
 use Rattle.type_laws.proofs.Sound.{Known, NotTop, Fitting, Sound}
 use Rattle.type_laws.proofs.AcceptedAs.{AcceptedAs}
-use Rattle.value_meaning.specs.Sinks.{Source, Sink, St, failed, andThen, begun}
-use Rattle.value_meaning.specs.Visit.{Checked, checked, leafAt, textAt, countAt, inertAt}
-use Rattle.value_meaning.specs.Opens.{Node, node, nodeAt, Open, Next, onNext, next, entries, ownOf, own, unless, opens, closes, shuts}
+use Rattle.value_meaning.specs.Sinks.{Source, Sink, St, andThen, begun}
+use Rattle.value_meaning.specs.Visit.{Checked, checked, leafAt, countAt, inertAt}
+use Rattle.value_meaning.specs.Opens.{Node, node, nodeAt, Open, Next, onNext, next, entries, ownOf, unless, opens, closes, shuts}
 use Rattle.value_meaning.specs.Opens.{enterNode, readsNode}
-use Rattle.value_meaning.specs.Opens.Open.{shut, each, row, switch, pick}
+use Rattle.value_meaning.specs.Opens.Open.{shut, each, row, pick}
 use Rattle.value_meaning.specs.Opens.Next.{over, into}
 use Rattle.value_meaning.specs.Reading.{Log, logging, levels, atStart, topOf, reads, reading}
 use Rattle.value_meaning.proofs.ReadingCases.{unless-is}
 use Rattle.value_meaning.proofs.ChosenIsMember.{ArmIs, chosen-is}
 use Rattle.value_meaning.proofs.VisitsSpent.{itemsOf, visitsOf, Within, Spent, weaker, nothing-spent, refused-here, after-spent}
-use Rattle.value_meaning.proofs.VisitsSpent.{inert-spent, text-spent, count-spent}
+use Rattle.value_meaning.proofs.VisitsSpent.{inert-spent, count-spent}
 
 -- ---- kinds of which a value has an octet at least: all but null and void
 

@@ -1,5 +1,5 @@
 -- A loop over the members of a struct: what is left of it gives the same answer.
-use mathlib.Core.Path.{_≡_, refl, sym, ap, _∙_}
+use mathlib.Core.Path.{_≡_, refl, sym, _∙_}
 use mathlib.Core.List.{List}
 use Prim.Native.Nat.{ℕ, suc, _+_, _≤_, _<_}
 use Rattle.choices.proofs.Turns.{Left, left-none, left-here, left-more, left-end}

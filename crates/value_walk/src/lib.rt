@@ -7,7 +7,7 @@ ghost use Rattle.type_kinds.specs.Parts.{placeIn};
 ghost use Rattle.type_kinds.specs.Members.{membersOf, typesOf};
 ghost use Rattle.type_list.specs.Arrays.{kindsMet};
 ghost use Rattle.type_unions.specs.Discriminants.{labelsFor};
-ghost use Rattle.type_unions.specs.Shapes.{Shape, shapeOf, look};
+ghost use Rattle.type_unions.specs.Shapes.{Shape, look};
 ghost use Rattle.value_meaning.specs.Sinks.{repeats};
 ghost use Rattle.value_meaning.specs.Visit.{Checked, checked};
 ghost use Rattle.value_meaning.specs.Reading.{reads, levels, topOf};

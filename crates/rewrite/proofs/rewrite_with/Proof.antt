@@ -2,8 +2,6 @@
 use borrow.Author.Needs.{needs}
 use Rattle.rewrite.proofs.rewrite_with.Statement.{statement}
 use Rattle.rewrite.proofs.rewrite_with.Tie as tie
-use mathlib.Core.Path.{_≡_}
-use Prim.Native.Nat.{_<_, _≤_}
 use native.Mathlib.Omega.{arith}
 use Rattle.value_meaning.specs.Sinks.{source}
 use Rattle.value_meaning.specs.Visit.{checked}

@@ -2,7 +2,7 @@
 use borrow.Author.Needs.{needs}
 use Rattle.value.proofs.read_item.Statement.{statement}
 use Rattle.value.proofs.read_item.Tie as tie
-use mathlib.Core.Path.{_≡_, _∙_}
+use mathlib.Core.Path.{_∙_}
 use lib.ListN.{length}
 use Rattle.value_meaning.specs.Sinks.{source}
 use Rattle.value_typed.proofs.TypedCases as typed

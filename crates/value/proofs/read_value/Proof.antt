@@ -2,7 +2,6 @@
 use borrow.Author.Needs.{needs}
 use Rattle.value.proofs.read_value.Statement.{statement}
 use Rattle.value.proofs.read_value.Tie as tie
-use mathlib.Core.Path.{_≡_, _∙_}
 use lib.ListN.{length}
 use Rattle.value_meaning.specs.Sinks.{source}
 use Rattle.value_typed.proofs.TypedCases as typed

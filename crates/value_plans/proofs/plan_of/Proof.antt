@@ -4,9 +4,9 @@ use Rattle.value_plans.proofs.plan_of.Statement.{statement}
 use Rattle.value_plans.proofs.plan_of.Tie as tie
 use mathlib.Core.Path.{_≡_, refl, sym, ap, _∙_}
 use mathlib.Core.Bool.{true}
-use Prim.Native.Nat.{ℕ, _+_, _-_}
+use Prim.Native.Nat.{ℕ, _-_}
 use native.Mathlib.Omega.{arith}
-use lib.ListN.{set, replicate}
+use lib.ListN.{replicate}
 use Rattle.choices.proofs.Turns.{Left, left-none, left-here, left-more, left-end}
 use Rattle.type_kinds.specs.declared.Labels.the-variants.{NoLabels}
 use Rattle.type_parameters.specs.declared.Parameters.{Parameters}

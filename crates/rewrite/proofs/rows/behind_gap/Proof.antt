@@ -2,8 +2,8 @@
 use borrow.Author.Needs.{needs}
 use Rattle.rewrite.proofs.rows.behind_gap.Statement.{statement}
 use Rattle.rewrite.proofs.rows.behind_gap.Tie as tie
-use mathlib.Core.Path.{_≡_, ap, _∙_}
-use Prim.Native.Nat.{ℕ, _+_, _%_, _<_}
+use mathlib.Core.Path.{ap, _∙_}
+use Prim.Native.Nat.{ℕ, _+_, _%_}
 use native.Mathlib.Omega.{arith}
 use Rattle.cdr.proofs.GapsBounded.{octets-small, gap-small, gap-modulo-8}
 

@@ -3,7 +3,7 @@ use borrow.Author.Needs.{needs}
 use Rattle.rewrite.proofs.rows.count.Statement.{statement}
 use Rattle.rewrite.proofs.rows.count.Tie as tie
 use mathlib.Core.Path.{_≡_, sym, ap, _∙_}
-use Prim.Native.Nat.{ℕ, _+_, _-_, _*_, _<_, _≤_, _^_}
+use Prim.Native.Nat.{ℕ, _-_, _≤_}
 use native.Mathlib.Omega.{arith}
 use Rattle.rewrite.specs.Inner.{itemEnd, reach, rowOf}
 use Rattle.rewrite.proofs.ItemsWritten.{reach-none, reach-next, reach-small}

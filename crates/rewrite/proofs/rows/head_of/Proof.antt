@@ -1,8 +1,6 @@
 -- The number that stands for an item.
 use Rattle.rewrite.proofs.rows.head_of.Statement.{statement}
 use Rattle.rewrite.proofs.rows.head_of.Tie as tie
-use mathlib.Core.Path.{_≡_}
-use Prim.Native.Nat.{_+_, _≤_}
 use native.Mathlib.Omega.{arith}
 use borrow.Author.Tests.{eq-eqb, ne-eqb}
 use Rattle.rewrite.proofs.ItemsWritten.{tail-text}

@@ -2,8 +2,8 @@
 use borrow.Author.Needs.{needs}
 use Rattle.rewrite.proofs.rows.item_end.Statement.{statement}
 use Rattle.rewrite.proofs.rows.item_end.Tie as tie
-use mathlib.Core.Path.{_≡_, ap, _∙_}
-use Prim.Native.Nat.{ℕ, _+_, _<_, _≤_}
+use mathlib.Core.Path.{ap, _∙_}
+use Prim.Native.Nat.{ℕ, _+_}
 use native.Mathlib.Omega.{arith}
 use Rattle.cdr.specs.declared.Size.{Size}
 use Rattle.cdr.specs.Align.{octets, behindGap}

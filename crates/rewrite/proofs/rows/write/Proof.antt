@@ -3,7 +3,7 @@ use borrow.Author.Needs.{needs}
 use Rattle.rewrite.proofs.rows.write.Statement.{statement}
 use Rattle.rewrite.proofs.rows.write.Tie as tie
 use mathlib.Core.Path.{_≡_, refl, sym, ap, subst, _∙_}
-use Prim.Native.Nat.{ℕ, _+_, _-_, _*_, _<_, _≤_, _^_}
+use Prim.Native.Nat.{ℕ, _+_, _-_, _≤_}
 use native.Mathlib.Omega.{arith}
 use lib.ListN.{length}
 use lib.Seq.{sets, length-sets}

@@ -3,10 +3,8 @@ use borrow.Author.Needs.{needs}
 use Rattle.rewrite.proofs.rows.write_wide.Statement.{statement}
 use Rattle.rewrite.proofs.rows.write_wide.Tie as tie
 use mathlib.Core.Path.{_≡_, refl, _∙_}
-use mathlib.Core.List.{[]}
-use Prim.Native.Nat.{_+_, _<_, _≤_}
 use native.Mathlib.Omega.{arith}
-use Rattle.cdr.specs.Align.{octets, gap}
+use Rattle.cdr.specs.Align.{octets}
 use Rattle.rewrite_meaning.specs.Written.{target}
 use Rattle.rewrite.specs.Inner.{headOf}
 use Rattle.rewrite.proofs.ItemsWritten as items

@@ -2,7 +2,6 @@
 use borrow.Author.Needs.{needs}
 use Rattle.value_leaves.proofs.rows.put_row.Statement.{statement}
 use Rattle.value_leaves.proofs.rows.put_row.Tie as tie
-use mathlib.Core.Path.{_∙_}
 use Prim.Native.Nat.{_-_}
 use native.Mathlib.Omega.{arith}
 use lib.ListN.{length-set}

@@ -1,7 +1,6 @@
 -- The reader of members of a struct or an exception meets its contract, if those that it calls do.
 use borrow.Author.Needs.{needs}
 use Prim.Native.Nat.{ℕ}
-use borrow.Fn.PlainCycle.{is}
 use Rattle.value_walk.proofs.struct_members.Reads as struct-members
 use Rattle.value_walk.proofs.+each+elements+exception+sequence+struct_members+union_member+visit.Lts-struct_members as struct-members-lts
 use Rattle.value_walk.proofs.visit.Reads as visit
