@@ -21,6 +21,9 @@
 //!   are upper-case digits, `-` for none, COMPONENTS and EXTRA counts.
 //! - `component OCTETS NUMBER`: what is the profile's component of this number,
 //!   from 0? `ok TAG OCTETS` or `no N`.
+//!
+//! [`answer_header_questions`] answers these too:
+//!
 //! - `header OCTETS`, `context OCTETS NUMBER`, `target OCTETS NUMBER` and
 //!   `head OCTETS ROOM`: what do a Request and a Reply have before the body? The
 //!   answers are in [`crate::told`].
@@ -111,10 +114,26 @@ fn write_accepted(formatter: &mut fmt::Formatter<'_>, accepted: &Accepted) -> fm
     Ok(())
 }
 
-/// Answers every line of the input.
+/// Answers every line of the input. One about a header is no question here.
 ///
 /// If reading fails, the lines before the one it failed in are answered.
-pub fn answer_questions(mut input: impl BufRead, output: impl Write) -> Result<(), Failure> {
+pub fn answer_questions(input: impl BufRead, output: impl Write) -> Result<(), Failure> {
+    answer_each(input, output, answer)
+}
+
+/// Answers every line of the input, one about a header too.
+///
+/// If reading fails, the lines before the one it failed in are answered.
+pub fn answer_header_questions(input: impl BufRead, output: impl Write) -> Result<(), Failure> {
+    answer_each(input, output, answer_or_header)
+}
+
+/// Answers every line of the input in this way.
+fn answer_each(
+    mut input: impl BufRead,
+    output: impl Write,
+    answer: fn(&[u8]) -> Answer,
+) -> Result<(), Failure> {
     let mut output = BufWriter::with_capacity(BLOCK, output);
     let mut line = Vec::with_capacity(LONGEST_QUESTION + 1);
     let read = loop {
@@ -130,13 +149,25 @@ pub fn answer_questions(mut input: impl BufRead, output: impl Write) -> Result<(
 
 /// Answers a line.
 fn answer(line: &[u8]) -> Answer {
+    answer_split(line, answer_words)
+}
+
+/// Answers a line, one about a header too.
+fn answer_or_header(line: &[u8]) -> Answer {
+    answer_split(line, |words| {
+        answer_words(words).or_else(|| answer_header_words(words))
+    })
+}
+
+/// Answers a line by its words.
+fn answer_split(line: &[u8], answer: fn(&[&[u8]]) -> Option<Answer>) -> Answer {
     if line.len() > LONGEST_QUESTION {
         return Answer::NoQuestion;
     }
     let words = line.split(|&character| character == b' ');
     // One word too many is as good as all of them.
     let words: Vec<&[u8]> = words.take(MOST_WORDS + 1).collect();
-    answer_words(&words).unwrap_or(Answer::NoQuestion)
+    answer(&words).unwrap_or(Answer::NoQuestion)
 }
 
 /// Answers the words of a question, if they are one.
@@ -155,26 +186,28 @@ fn answer_words(words: &[&[u8]]) -> Option<Answer> {
             let (chosen, room) = (chosen(order, start)?, number_of(room)?);
             answer_about(value, |input| answer_rewrite(input, chosen, room))
         }
-        [part, octets] => answer_part(part, &octets_of(octets)?),
-        [part, octets, number] => answer_numbered(part, &octets_of(octets)?, number_of(number)?),
+        [b"profile", octets] => Some(told(profile::read(&octets_of(octets)?), profile_words)),
+        [b"component", octets, number] => Some(told(
+            profile::component(&octets_of(octets)?, number_of(number)?),
+            tagged_words,
+        )),
         _ => None,
     }
 }
 
-/// Answers what a profile or a header has, if the word asks for one.
-fn answer_part(part: &[u8], octets: &[u8]) -> Option<Answer> {
-    Some(match part {
-        b"profile" => told(profile::read(octets), profile_words),
-        b"header" => told(header::read(octets), header_words),
-        _ => return None,
-    })
+/// Answers the words of a question about a header, if they are one.
+fn answer_header_words(words: &[&[u8]]) -> Option<Answer> {
+    match *words {
+        [b"header", octets] => Some(told(header::read(&octets_of(octets)?), header_words)),
+        [part, octets, number] => answer_header_part(part, &octets_of(octets)?, number_of(number)?),
+        _ => None,
+    }
 }
 
-/// Answers which part has a number, or what is written with so much room, if the
-/// word asks for either.
-fn answer_numbered(part: &[u8], octets: &[u8], number: u64) -> Option<Answer> {
+/// Answers which part of a header has a number, or what is written with so much
+/// room, if the word asks for either.
+fn answer_header_part(part: &[u8], octets: &[u8], number: u64) -> Option<Answer> {
     Some(match part {
-        b"component" => told(profile::component(octets, number), tagged_words),
         b"context" => told(header::context(octets, number), tagged_words),
         b"target" => told(header::target(octets, number), tagged_words),
         b"head" => octets_told(header::head(octets, room_of(number))),
@@ -478,6 +511,89 @@ mod tests {
     }
 
     #[test]
+    fn profiles_and_components() {
+        const BODY: &str = "010102ee02000000610039300400000000FF6b00010000002a00000001000000aaEE";
+        for (question, expected) in [
+            (
+                format!("profile {BODY}"),
+                "ok little 1 2 61 12345 00FF6B00 1 1",
+            ),
+            (
+                "profile 000101EE0000000100EE00500000000000000000".into(),
+                "ok big 1 1 - 80 - 0 0",
+            ),
+            ("profile -".into(), "no 60"),
+            ("profile 02".into(), "no 61"),
+            ("profile 0002".into(), "no 62"),
+            ("profile 0001000000000000".into(), "no 63"),
+            ("profile 000100EE0000000100EE00500000000000".into(), "no 64"),
+            (format!("component {BODY} 0"), "ok 42 AA"),
+            (format!("component {BODY} 000"), "ok 42 AA"),
+            (format!("component {BODY} 1"), "no 69"),
+            (format!("component {BODY} 18446744073709551615"), "no 69"),
+            ("component - 0".into(), "no 60"),
+            ("component FF 18446744073709551615".into(), "no 61"),
+        ] {
+            assert_eq!(output(question.as_bytes()), format!("{expected}\n"));
+        }
+        let tagged = BODY.replace("01000000aaEE", "00000000");
+        let tagged = tagged.replace("2a000000", "FFFFFFFF");
+        let question = format!("component {tagged} 0");
+        assert_eq!(output(question.as_bytes()), "ok 4294967295 -\n");
+    }
+
+    #[test]
+    fn lines_that_are_no_question_about_profiles() {
+        for line in [
+            "profile",
+            "profile ",
+            "profile  -",
+            "profile - ",
+            "profile - -",
+            "profile big -",
+            "profile 0",
+            "profile 0G",
+            "profile --",
+            "Profile -",
+            "profiles -",
+            "component",
+            "component -",
+            "component - ",
+            "component  - 0",
+            "component -  0",
+            "component - 0 0",
+            "component - -",
+            "component - -1",
+            "component - +1",
+            "component - 0A",
+            "component - 18446744073709551616",
+            "component 0 0",
+            "component 0 -",
+            "Component - 0",
+            "components - 0",
+            "component - 0\r",
+        ] {
+            assert_eq!(output(line.as_bytes()), "?\n");
+        }
+    }
+
+    #[test]
+    fn profiles_around_the_longest() {
+        for (octets, expected) in [(16_384, "no 61"), (16_385, "no 42"), (65_532, "no 42")] {
+            let profile = format!("profile {}", "FF".repeat(octets));
+            let component = format!("component {} 7", "FF".repeat(octets - 2));
+            let question = format!("{profile}\n{component}");
+            let answers = output_in_blocks(question.as_bytes(), BLOCK);
+            assert!(answers.starts_with(expected), "{octets}: {answers}");
+            let expected = if octets > 16_386 { "no 42" } else { "no 61" };
+            assert!(answers.ends_with(&format!("{expected}\n")));
+        }
+        let longer = format!("profile {}", "FF".repeat(65_533));
+        assert!(longer.len() > LONGEST_QUESTION);
+        assert_eq!(output_in_blocks(longer.as_bytes(), BLOCK), "?\n");
+    }
+
+    #[test]
     fn numbers_of_a_question() {
         for (numbers, expected) in [
             ("0 0", "no 56 1"),
@@ -595,6 +711,31 @@ mod tests {
             let input = [line, b"\ntype big 00000003\n"].concat();
             assert_eq!(output(&input), "?\nok 4 1\n");
         }
+    }
+
+    #[test]
+    fn lines_about_headers_are_no_question() {
+        const REPLY: &str = "47494F50010200010000000C000000070000000000000000";
+        for line in [
+            format!("header {REPLY}"),
+            format!("context {REPLY} 0"),
+            format!("target {REPLY} 0"),
+            format!("head {REPLY} 24"),
+            "header -".into(),
+            "context - 0".into(),
+            "target - 0".into(),
+            "head - 0".into(),
+        ] {
+            assert_eq!(output(line.as_bytes()), "?\n");
+        }
+    }
+
+    #[test]
+    fn other_questions_are_answered_beside_headers() {
+        let questions = b"type big -\nheader -\nprofile 02\n\ncomponent - 0\nitem";
+        let mut output = Vec::new();
+        answer_header_questions(&questions[..], &mut output).expect("no failure");
+        assert_eq!(output, b"no 30\nno 12\nno 61\n?\nno 60\n?\n");
     }
 
     #[test]

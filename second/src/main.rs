@@ -1,5 +1,6 @@
 //! Reads a recording from standard input and answers its lines on standard
-//! output; with the argument `inspect`, questions.
+//! output; with the argument `inspect`, questions, and with `headers` questions
+//! about headers too.
 
 use std::env;
 use std::ffi::OsString;
@@ -8,7 +9,7 @@ use std::io::{self, BufReader, Write};
 use std::os::fd::{AsFd, BorrowedFd};
 use std::process::ExitCode;
 
-use second::inspect::answer_questions;
+use second::inspect::{answer_header_questions, answer_questions};
 use second::lines::{Failure, BLOCK};
 use second::recording::answer_lines;
 
@@ -32,7 +33,10 @@ fn run(arguments: &[OsString]) -> Result<(), String> {
         [word] if word == "inspect" => {
             streams().and_then(|(input, output)| answer_questions(input, output))
         }
-        _ => return Err("the only argument there is is `inspect`".into()),
+        [word] if word == "headers" => {
+            streams().and_then(|(input, output)| answer_header_questions(input, output))
+        }
+        _ => return Err("the only arguments there are are `inspect` and `headers`".into()),
     };
     answered.map_err(|failure| failure.to_string())
 }

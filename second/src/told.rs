@@ -85,96 +85,13 @@ fn target_word(target: &Target) -> String {
 
 #[cfg(test)]
 mod tests {
-    use crate::inspect::{answer_questions, LONGEST_QUESTION};
+    use crate::inspect::answer_header_questions;
 
-    /// What the questions are answered.
-    fn answers(questions: &str) -> String {
+    /// What the questions are answered where those about headers are too.
+    fn header_answers(questions: &str) -> String {
         let mut output = Vec::new();
-        answer_questions(questions.as_bytes(), &mut output).expect("no failure");
+        answer_header_questions(questions.as_bytes(), &mut output).expect("no failure");
         String::from_utf8(output).expect("text")
-    }
-
-    #[test]
-    fn profiles_and_components() {
-        const BODY: &str = "010102ee02000000610039300400000000FF6b00010000002a00000001000000aaEE";
-        for (question, expected) in [
-            (
-                format!("profile {BODY}"),
-                "ok little 1 2 61 12345 00FF6B00 1 1",
-            ),
-            (
-                "profile 000101EE0000000100EE00500000000000000000".into(),
-                "ok big 1 1 - 80 - 0 0",
-            ),
-            ("profile -".into(), "no 60"),
-            ("profile 02".into(), "no 61"),
-            ("profile 0002".into(), "no 62"),
-            ("profile 0001000000000000".into(), "no 63"),
-            ("profile 000100EE0000000100EE00500000000000".into(), "no 64"),
-            (format!("component {BODY} 0"), "ok 42 AA"),
-            (format!("component {BODY} 000"), "ok 42 AA"),
-            (format!("component {BODY} 1"), "no 69"),
-            (format!("component {BODY} 18446744073709551615"), "no 69"),
-            ("component - 0".into(), "no 60"),
-            ("component FF 18446744073709551615".into(), "no 61"),
-        ] {
-            assert_eq!(answers(&question), format!("{expected}\n"));
-        }
-        let tagged = BODY.replace("01000000aaEE", "00000000");
-        let tagged = tagged.replace("2a000000", "FFFFFFFF");
-        let question = format!("component {tagged} 0");
-        assert_eq!(answers(&question), "ok 4294967295 -\n");
-    }
-
-    #[test]
-    fn lines_that_are_no_question_about_profiles() {
-        for line in [
-            "profile",
-            "profile ",
-            "profile  -",
-            "profile - ",
-            "profile - -",
-            "profile big -",
-            "profile 0",
-            "profile 0G",
-            "profile --",
-            "Profile -",
-            "profiles -",
-            "component",
-            "component -",
-            "component - ",
-            "component  - 0",
-            "component -  0",
-            "component - 0 0",
-            "component - -",
-            "component - -1",
-            "component - +1",
-            "component - 0A",
-            "component - 18446744073709551616",
-            "component 0 0",
-            "component 0 -",
-            "Component - 0",
-            "components - 0",
-            "component - 0\r",
-        ] {
-            assert_eq!(answers(line), "?\n");
-        }
-    }
-
-    #[test]
-    fn profiles_around_the_longest() {
-        for (octets, expected) in [(16_384, "no 61"), (16_385, "no 42"), (65_532, "no 42")] {
-            let profile = format!("profile {}", "FF".repeat(octets));
-            let component = format!("component {} 7", "FF".repeat(octets - 2));
-            let question = format!("{profile}\n{component}");
-            let told = answers(&question);
-            assert!(told.starts_with(expected), "{octets}: {told}");
-            let expected = if octets > 16_386 { "no 42" } else { "no 61" };
-            assert!(told.ends_with(&format!("{expected}\n")));
-        }
-        let longer = format!("profile {}", "FF".repeat(65_533));
-        assert!(longer.len() > LONGEST_QUESTION);
-        assert_eq!(answers(&longer), "?\n");
     }
 
     /// A 1.0 request.
@@ -205,7 +122,7 @@ mod tests {
             ("47494F500102000500000000", "no 75"),
         ] {
             assert_eq!(
-                answers(&format!("header {message}")),
+                header_answers(&format!("header {message}")),
                 format!("{expected}\n")
             );
         }
@@ -225,12 +142,12 @@ mod tests {
             ("target - 0".into(), "no 12"),
             ("head - 0".into(), "no 12"),
         ] {
-            assert_eq!(answers(&question), format!("{expected}\n"));
+            assert_eq!(header_answers(&question), format!("{expected}\n"));
         }
         let zeroed = REFERENCE.to_uppercase().replace("EE", "00");
         for room in ["64", "0065", "18446744073709551615"] {
             let whole = format!("ok 64 {zeroed}\n");
-            assert_eq!(answers(&format!("head {REFERENCE} {room}")), whole);
+            assert_eq!(header_answers(&format!("head {REFERENCE} {room}")), whole);
         }
     }
 
@@ -240,7 +157,7 @@ mod tests {
             for words in [
                 "", " ", " -  ", " - -", " - -1", " - 0 0", " 0 0", " -  0", " - 0\r",
             ] {
-                assert_eq!(answers(&format!("{word}{words}")), "?\n");
+                assert_eq!(header_answers(&format!("{word}{words}")), "?\n");
             }
         }
         for line in [
@@ -251,7 +168,7 @@ mod tests {
             "heads - 0",
             "Header -",
         ] {
-            assert_eq!(answers(line), "?\n");
+            assert_eq!(header_answers(line), "?\n");
         }
     }
 }

@@ -1,5 +1,5 @@
 -- The answer of a line does not see its characters beyond the 131,073rd.
-use mathlib.Core.Path.{◌≡◌}
+use mathlib.Core.Path.{◌≡◌, sym, ap, ◌∙◌}
 use mathlib.Core.List.{List}
 use Prim.Native.Nat.{ℕ, ◌<◌}
 use native.Mathlib.Omega.{arith}
@@ -28,3 +28,6 @@ module _ (n : ℕ) (h : line_most < n) where
   pub answer-cut : (line : List ℕ) → answer_line (take n line) ≡ answer_line line
   unfolding answer_line
   answer-cut line = rw (question-cut line)
+
+  pub answer-same : (a b : List ℕ) → take n a ≡ take n b → answer_line a ≡ answer_line b
+  answer-same a b e = sym (answer-cut a) ∙ ap answer_line e ∙ answer-cut b

@@ -37,16 +37,15 @@ use Rattle.ask_words.specs.Words.{words}
 use Rattle.ask_words.specs.Fields.{value_fields, rewrite_fields_of, numbered_fields_of}
 use Rattle.ask_words.specs.Inner.{part, subject_words, WithinSubject, FieldsRead, RewriteRead, NumberedRead}
 use Rattle.rewrite_meaning.specs.Written.{target}
-use Rattle.ask_octets.specs.declared.WordAnswer.{WordAnswer}
-use Rattle.ask_octets.specs.declared.WordAnswer.TheVariants.{Count, NotOctets}
+use Rattle.ask_answers.specs.declared.octets.Octets.{Octets}
+use Rattle.ask_answers.specs.declared.octets.Octets.TheVariants.{Count, NotOctets}
 use Rattle.ask_answers.specs.declared.about.About.{About}
 use Rattle.ask_answers.specs.declared.about.About.TheVariants.{Is, NotAbout}
-use Rattle.ask_octets.specs.Octets.{octets_word, on_octets, OctetsRead}
-use Rattle.ask_octets.proofs.OctetsStand.{Stands, word_read}
-use Rattle.ask_answers.specs.Questions.{Question, value_asked, rewrite_asked, component_asked, no_question, about_of, on_about, about_question, rewrite_question, component_question}
+use Rattle.ask_octets.specs.Octets.{octets_word}
+use Rattle.ask_answers.specs.Questions.{Question, value_asked, rewrite_asked, component_asked, no_question, octets_question, about_of, on_about, about_question, rewrite_question, component_question}
 use Rattle.ask_answers.specs.Replies.{room_of}
 use Rattle.ask_answers.specs.Answers.{table_for}
-use Rattle.ask_answers.specs.Inner.{AboutRead, Replied}
+use Rattle.ask_answers.specs.Inner.{OctetsRead, AboutRead, Replied}
 
 -- the words of a value are within the line,
 module _ (rest : List ℕ) (f : SubjectFields) (p : FieldsRead rest f) where
@@ -85,24 +84,16 @@ module _ (rest : List ℕ) (f : Numbered) (p : NumberedRead rest f) where
     pub numbered-fits : (n : ℕ) → length rest ≤ n → length (take end rest) ≤ n
     numbered-fits n h = let k = numbered_within in omega (arith, length-take-le end rest k)
 
-    pub numbered-about : component_question (numbered_fields_of (words rest)) ≡ on_octets (octets_word (take end rest)) no_question (λ v. component_asked v number)
+    pub numbered-about : component_question (numbered_fields_of (words rest)) ≡ octets_question (octets_word (take end rest)) (λ v. component_asked v number)
     numbered-about = rw (← p.read, e)
 
--- a word has no more characters than the line, so that its octets are read where there is room for those of the line
-part-most : (rest : List ℕ) (from end : ℕ) → length (part rest from end) ≤ length rest
-part-most rest from end = rw length-take (omega (arith, length-drop from rest))
-
-pub part-read : (rest : List ℕ) (from end : ℕ) {before : List ℕ} {r : WordAnswer} {after : List ℕ} → length rest ≤ length before * 2
-    → OctetsRead (octets_word (part rest from end)) before r after → Stands (octets_word (part rest from end)) r after
-part-read rest from end h o = word_read (part rest from end) o (omega (arith, h, part-most rest from end))
-
 -- the octets of two of the words
-module _ (rest : List ℕ) (a : Subject) (o : WordAnswer) (t : List ℕ) (q : Stands (octets_word (part rest a.typed.from a.typed.end)) o t) where
+module _ (rest : List ℕ) (a : Subject) (o : Octets) (t : List ℕ) (q : OctetsRead (octets_word (part rest a.typed.from a.typed.end)) o t) where
   pub about-no-type : (v : List ℕ) → o ≡ NotOctets → AboutRead rest a NotAbout t v
   unfolding about_of
   about-no-type v g = record { stands = rw (← q.stands, g); typed = omega arith; valued = omega arith }
 
-  module _ (types : ℕ) (g : o ≡ Count types) (w : WordAnswer) (v : List ℕ) (s : Stands (octets_word (part rest a.value.from a.value.end)) w v) where
+  module _ (types : ℕ) (g : o ≡ Count types) (w : Octets) (v : List ℕ) (s : OctetsRead (octets_word (part rest a.value.from a.value.end)) w v) where
     pub about-no-value : w ≡ NotOctets → AboutRead rest a NotAbout t v
     unfolding about_of
     about-no-value h = record { stands = rw (← q.stands, g, ← s.stands, h); typed = omega arith; valued = omega arith }
@@ -110,7 +101,11 @@ module _ (rest : List ℕ) (a : Subject) (o : WordAnswer) (t : List ℕ) (q : St
     pub about-is : (values : ℕ) → w ≡ Count values → AboutRead rest a (Is a.typed.order types a.value.order values a.start) t v
     unfolding about_of
     about-is values h =
-        record { stands = rw (← q.stands, g, ← s.stands, h); typed = q.within types g; valued = s.within values h }
+        record { stands = rw (← q.stands, g, ← s.stands, h); typed = rw g at q.within; valued = rw h at s.within }
+
+-- a word has no more characters than the line
+pub part-most : (rest : List ℕ) (from end : ℕ) → length (part rest from end) ≤ length rest
+part-most rest from end = rw length-take (omega (arith, length-drop from rest))
 
 -- what is read of a value is within the memory, and is what is asked about
 module _ {rest : List ℕ} {a : Subject} {r : About} {t v : List ℕ} (p : AboutRead rest a r t v) where

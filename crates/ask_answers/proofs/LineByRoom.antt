@@ -5,8 +5,9 @@ use mathlib.Core.List.{List}
 use Prim.Native.Nat.{ℕ, ◌+◌, ◌≤◌}
 use native.Mathlib.Omega.{arith}
 use lib.ListN.{length}
+use lib.Seq.{sets}
 use Rattle.cdr_write.specs.declared.Written.{Written}
-use Rattle.cdr_write.specs.declared.Written.TheVariants.{NoRoom}
+use Rattle.cdr_write.specs.declared.Written.TheVariants.{Upto, NoRoom}
 use Rattle.cdr_write.specs.Write.{Stored}
 use Rattle.cdr_write.proofs.BufferHolds.{stored-upto, stored-fits}
 use Rattle.ask_room.specs.Room.{answer_room}
@@ -19,6 +20,10 @@ use Rattle.ask_answers.proofs.WordsAnswered.{answer-most}
 module _ (line out table : List ℕ) (at : ℕ) where
   pub line-left : false ≡ answer_room (length table) (length out) at → LineAnswered line out table at NoRoom out table
   line-left e = record { written = rw (← e); output = rw (← e); tabled = rw (← e) }
+
+  pub line-roomed : true ≡ answer_room (length table) (length out) at
+      → LineAnswered line out table at (Upto (at + length (answer_line line))) (sets out at (answer_line line)) (table_for (question_of line) table)
+  line-roomed e = record { written = rw (← e); output = rw (← e); tabled = rw (← e) }
 
   pub line-written : true ≡ answer_room (length table) (length out) at → (r : Written) (out_last table_last : List ℕ)
       → Stored out at (answer_line line) r out_last → table_last ≡ table_for (question_of line) table → LineAnswered line out table at r out_last table_last

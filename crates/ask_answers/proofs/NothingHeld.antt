@@ -32,8 +32,8 @@ use Rattle.ask_words.specs.Fields.{FieldsOf, are, not_fields, RewriteFields, rew
 use Rattle.ask_text.specs.declared.Reply.{Reply}
 use Rattle.ask_text.specs.declared.Reply.TheVariants.{NoQuestion}
 use Rattle.ask_text.specs.Items.{items_of}
-use Rattle.ask_octets.specs.Octets.{WordOctets, are_octets, not_octets, octets_word, lone_octets, on_octets}
-use Rattle.ask_answers.specs.Questions.{Question, type_asked, value_asked, item_asked, rewrite_asked, profile_asked, component_asked, no_question, named_type, type_question, About, about, not_about, about_of, on_about, about_question, rewrite_question, profile_question, component_question}
+use Rattle.ask_octets.specs.Octets.{WordOctets, are_octets, not_octets, octets_word, lone_octets}
+use Rattle.ask_answers.specs.Questions.{Question, type_asked, value_asked, item_asked, rewrite_asked, profile_asked, component_asked, no_question, octets_question, named_type, type_question, About, about, not_about, about_of, on_about, about_question, rewrite_question, profile_question, component_question}
 use Rattle.ask_answers.specs.Replies.{type_reply, value_reply, item_reply, rewrite_reply, profile_reply, component_reply, room_of, reply_to, items_in, answer_octets}
 use Rattle.ask_answers.specs.Answers.{table_for}
 use Rattle.ask_answers.specs.Inner.{reply_numbers, Replied, reply_octets, OctetsHeld}
@@ -121,7 +121,7 @@ pub none-held : (q : Question) (memory : List ℕ) → q ≡ no_question → Oct
 none-held q memory e = rw e (held_none no_question NoQuestion refl tt memory)
 
 -- by the words: of a type,
-octets-bare : (order : Order) (o : WordOctets) → NoItems (on_octets o no_question (λ v. type_asked order v)) × NoOctets (on_octets o no_question (λ v. type_asked order v))
+octets-bare : (order : Order) (o : WordOctets) → NoItems (octets_question o (λ v. type_asked order v)) × NoOctets (octets_question o (λ v. type_asked order v))
 octets-bare order (are_octets v) = (tt, tt)
 octets-bare order not_octets = (tt, tt)
 
@@ -159,7 +159,7 @@ rewrite-no-items (rewrites subject chosen index room) = rewrite-about (about_of 
 rewrite-no-items not_rewrite = tt
 
 -- of a profile, and of a component
-octets-no-items : (o : WordOctets) (ask : List ℕ → Question) → ((v : List ℕ) → NoItems (ask v)) → NoItems (on_octets o no_question ask)
+octets-no-items : (o : WordOctets) (ask : List ℕ → Question) → ((v : List ℕ) → NoItems (ask v)) → NoItems (octets_question o ask)
 octets-no-items (are_octets v) ask n = n v
 octets-no-items not_octets ask n = tt
 

@@ -1,4 +1,7 @@
 -- What private functions promise each other; nothing that a caller is told rests on these names.
+--   octets_read     what a word is as octets, by the answer and the memory that they were written into
+--   count_of        how many octets are written
+--   OctetsRead     octets that words stand for, or that they stand for none, were read and are within the memory
 --   about_read      the value that is asked about, by the answer and the memory that the octets were written into
 --   type_count      how many octets of the type are written
 --   value_count     how many octets of the value are written
@@ -18,11 +21,26 @@ use Rattle.ask_text.specs.declared.Reply.{Reply}
 use Rattle.ask_text.specs.declared.Reply.TheVariants.{Typed, Read, Refused, Unread, Signed, Unsigned, Single, Double}
 use Rattle.ask_text.specs.declared.Reply.TheVariants.{Rewritten, Profiled, Component, NoQuestion}
 use Rattle.ask_text.specs.Items.{items_of}
+use Rattle.ask_answers.specs.declared.octets.Octets.{Octets}
+use Rattle.ask_answers.specs.declared.octets.Octets.TheVariants.{Count, NotOctets}
 use Rattle.ask_answers.specs.declared.about.About.{About}
 use Rattle.ask_answers.specs.declared.about.About.TheVariants.{Is, NotAbout}
+use Rattle.ask_octets.specs.Octets.{WordOctets, are_octets, not_octets}
 use Rattle.ask_answers.specs.Questions.{Question, About as AboutOf, about, not_about, about_of}
 use Rattle.ask_answers.specs.Replies.{reply_to, items_in, answer_octets}
 use Rattle.ask_answers.specs.Answers.{table_for}
+
+abbrev pub octets_read : Octets → List ℕ → WordOctets
+octets_read (Count n) memory = are_octets (take n memory)
+octets_read NotOctets memory = not_octets
+
+abbrev pub count_of : Octets → ℕ
+count_of (Count n) = n
+count_of NotOctets = 0
+
+pub record OctetsRead (o : WordOctets) (r : Octets) (memory : List ℕ) : Type 0 where
+  pub stands : octets_read r memory ≡ o
+  pub within : count_of r ≤ length memory
 
 abbrev pub about_read : About → List ℕ → List ℕ → AboutOf
 about_read (Is typed types order values start) t v = about typed (take types t) (source (take values v) order (index_of start))

@@ -3,10 +3,12 @@
 --   Question                   the check of octets as a type in a byte order; the reading of a value under a type, with room for so many items;
 --                              an item of it by number; the value rewritten in a chosen order and index, with room for so many octets; the
 --                              reading of octets as a profile body; a component of it by number; or no question
+--   octets_question             the question by the octets that a word stands for
 --   ordered_type                by the words behind ORDER: TYPE, and no more
 --   named_type                  by the order that ORDER names
 --   type_question               by the words behind `type`: ORDER and those behind it
 --   About                      a type's order and octets, and a value; or that TYPE or VALUE stands for no octets
+--   about_octets                what follows octets that a word stands for
 --   about_of                    by the words of a value: what TYPE and VALUE stand for, START the index of the value's first octet
 --   on_about                    the question about a value
 --   about_question              by the words behind `value` or `item`: about a value, with ROOM or NUMBER
@@ -27,7 +29,7 @@ use Rattle.ask_words.specs.Words.{words, same_word, order_word}
 use Rattle.ask_words.specs.Fields.{SubjectOf, FieldsOf, are, not_fields, value_fields, RewriteFields, rewrites, not_rewrite, rewrite_fields_of}
 use Rattle.ask_words.specs.Fields.{NumberedFields, numbered, not_numbered, numbered_fields_of}
 use Rattle.rewrite_meaning.specs.Written.{Target, target}
-use Rattle.ask_octets.specs.Octets.{line_most, octets_word, lone_octets, on_octets}
+use Rattle.ask_octets.specs.Octets.{line_most, WordOctets, are_octets, not_octets, octets_word, lone_octets}
 
 abbrev pub type_word : List ℕ
 type_word = 116 ∷ 121 ∷ 112 ∷ 101 ∷ []
@@ -56,8 +58,12 @@ pub data Question : Type 0 where
   component_asked : List ℕ → (number : ℕ) → Question
   no_question : Question
 
+abbrev pub octets_question : WordOctets → (List ℕ → Question) → Question
+octets_question (are_octets v) ask = ask v
+octets_question not_octets ask = no_question
+
 abbrev pub ordered_type : Order → List (List ℕ) → Question
-ordered_type order rest = on_octets (lone_octets rest) no_question (λ v. type_asked order v)
+ordered_type order rest = octets_question (lone_octets rest) (λ v. type_asked order v)
 
 abbrev pub named_type : Named → List (List ℕ) → Question
 named_type (Is order) rest = ordered_type order rest
@@ -71,10 +77,14 @@ pub data About : Type 0 where
   about : Order → List ℕ → Source → About
   not_about : About
 
+abbrev pub about_octets : WordOctets → (List ℕ → About) → About
+about_octets (are_octets v) f = f v
+about_octets not_octets f = not_about
+
 unfoldable pub about_of : SubjectOf → About
 about_of s =
-    on_octets (octets_word s.typed.word) not_about
-    (λ t. on_octets (octets_word s.value.word) not_about
+    about_octets (octets_word s.typed.word)
+    (λ t. about_octets (octets_word s.value.word)
     (λ v. about s.typed.order t (source v s.value.order (index_of s.start))))
 
 abbrev pub on_about : About → (Order → List ℕ → Source → Question) → Question
@@ -91,10 +101,10 @@ rewrite_question (rewrites subject chosen index room) =
 rewrite_question not_rewrite = no_question
 
 abbrev pub profile_question : List (List ℕ) → Question
-profile_question rest = on_octets (lone_octets rest) no_question (λ v. profile_asked v)
+profile_question rest = octets_question (lone_octets rest) (λ v. profile_asked v)
 
 abbrev pub component_question : NumberedFields → Question
-component_question (numbered word number) = on_octets (octets_word word) no_question (λ v. component_asked v number)
+component_question (numbered word number) = octets_question (octets_word word) (λ v. component_asked v number)
 component_question not_numbered = no_question
 
 unfoldable pub word_question : List ℕ → List (List ℕ) → Question

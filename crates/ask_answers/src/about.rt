@@ -3,12 +3,13 @@ ghost use Rattle.std.specs.Prelude.{◌*◌, ◌≤◌, length};
 ghost use Rattle.ask_words.specs.Inner.{WithinSubject};
 ghost use Rattle.ask_answers.specs.Inner.{AboutRead};
 
-use ask_octets::WordAnswer;
+use crate::octets;
 use ask_words::Subject;
 use cdr::Order;
+use octets::Octets;
 
 // The order and the number of octets of the type, the same of the value, and the index of its first octet.
-#[derive(Drop)]
+#[derive(Clone, Copy)]
 pub(crate) enum About {
     Is {
         typed: Order,
@@ -29,12 +30,12 @@ pub(crate) fn read(rest: &[u8], subject: Subject, types: &mut [u8], value: &mut 
     let value_word = subject.value;
     let from = type_word.from;
     let end = type_word.end;
-    let WordAnswer::Count(type_count) = ask_octets::read(&rest[from..end], types) else {
+    let Octets::Count(type_count) = octets::read(&rest[from..end], types) else {
         return About::NotAbout;
     };
     let first = value_word.from;
     let last = value_word.end;
-    let WordAnswer::Count(value_count) = ask_octets::read(&rest[first..last], value) else {
+    let Octets::Count(value_count) = octets::read(&rest[first..last], value) else {
         return About::NotAbout;
     };
     let typed = type_word.order;

@@ -1,5 +1,7 @@
 // One line's answer: the question that a line is, and the text of its answer: the check of a TypeCode, the reading of a value, one of its items,
 // a value rewritten, the reading of a profile body, and one of its components.
+#![tactic(auto)]
+
 ghost use Rattle.std.specs.Prelude.{◌≡◌, ◌^◌, ◌<◌, ◌≤◌, min, length};
 ghost use Rattle.cdr_write.specs.Write.{Stored};
 ghost use Rattle.ask_room.specs.Room.{table_room};
@@ -10,15 +12,18 @@ ghost use Rattle.ask_answers.specs.Replies.{answer_line};
 ghost use Rattle.ask_answers.specs.Answers.{table_for, LineAnswered};
 ghost use Rattle.ask_answers.specs.Inner.{reply_numbers, Replied, rewritten_most, reply_octets, OctetsHeld};
 
-use ask_octets::LINE_LIMIT;
 use ask_text::Reply;
 use cdr_write::Written;
 
 mod about;
+mod octets;
 mod profiles;
 mod rewrites;
 mod types;
 mod values;
+
+// The most characters of a line.
+pub const LINE_LIMIT: usize = 131072;
 
 // Writes the answer of a line's characters, and its LF, from `at` on, and leaves its items in `table`; nothing where there is no room for the
 // longest answer.

@@ -6,9 +6,10 @@ ghost use Rattle.ask_octets.specs.Octets.{line_most};
 ghost use Rattle.ask_answers.specs.Questions.{profile_question, component_question};
 ghost use Rattle.ask_answers.specs.Inner.{rewritten_most, OctetsHeld};
 
-use ask_octets::WordAnswer;
+use crate::octets;
 use ask_text::Reply;
 use ask_words::Numbered;
+use octets::Octets;
 use profile::{ComponentAnswer, ProfileAnswer};
 
 // Answers the word behind `profile`, and leaves the body in the lent memory.
@@ -16,8 +17,8 @@ pub(crate) fn reply_profile(rest: &[u8], memory: &mut [u8]) -> Reply
     requires { (length rest.now ≤ line_most) × (rewritten_most ≤ length memory.old) }
     ensures { OctetsHeld (profile_question (words rest.now)) result memory.new }
 {
-    let mut body = [0u8; ask_octets::MOST];
-    let WordAnswer::Count(n) = ask_octets::read_lone(rest, &mut body) else {
+    let mut body = [0u8; octets::MOST];
+    let Octets::Count(n) = octets::read_lone(rest, &mut body) else {
         return Reply::NoQuestion;
     };
     match profile::read(&body[..n]) {
@@ -37,8 +38,8 @@ pub(crate) fn reply_component(rest: &[u8], memory: &mut [u8]) -> Reply
     let Numbered::Is { end, number } = ask_words::read_numbered(rest) else {
         return Reply::NoQuestion;
     };
-    let mut body = [0u8; ask_octets::MOST];
-    let WordAnswer::Count(n) = ask_octets::read(&rest[..end], &mut body) else {
+    let mut body = [0u8; octets::MOST];
+    let Octets::Count(n) = octets::read(&rest[..end], &mut body) else {
         return Reply::NoQuestion;
     };
     match profile::component(&body[..n], number) {

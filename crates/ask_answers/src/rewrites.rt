@@ -9,7 +9,7 @@ ghost use Rattle.ask_octets.specs.Octets.{line_most};
 ghost use Rattle.ask_answers.specs.Questions.{rewrite_asked, rewrite_question};
 ghost use Rattle.ask_answers.specs.Inner.{rewritten_most, OctetsHeld};
 
-use crate::about;
+use crate::{about, octets};
 use about::About;
 use ask_text::Reply;
 use ask_words::Rewrite;
@@ -29,8 +29,8 @@ pub(crate) fn reply_rewrite(rest: &[u8], memory: &mut [u8]) -> Reply
     };
     let subject = asked.subject;
     let chosen = asked.order;
-    let mut types = [0u8; ask_octets::MOST];
-    let mut value = [0u8; ask_octets::MOST];
+    let mut types = [0u8; octets::MOST];
+    let mut value = [0u8; octets::MOST];
     let About::Is {
         typed,
         type_count,

@@ -6,9 +6,10 @@ ghost use Rattle.ask_octets.specs.Octets.{line_most};
 ghost use Rattle.ask_answers.specs.Questions.{ordered_type, type_question};
 ghost use Rattle.ask_answers.specs.Replies.{reply_to, type_reply};
 
-use ask_octets::WordAnswer;
+use crate::octets;
 use ask_text::Reply;
 use cdr::{Named, Order};
+use octets::Octets;
 use typecode::TypeAnswer;
 
 // Answers the words `ORDER TYPE`.
@@ -31,8 +32,8 @@ fn reply_ordered(order: Order, rest: &[u8]) -> Reply
     requires { length rest.now ≤ line_most }
     ensures { result ≡ reply_to (ordered_type order (words rest.now)) }
 {
-    let mut memory = [0u8; ask_octets::MOST];
-    let WordAnswer::Count(n) = ask_octets::read_lone(rest, &mut memory) else {
+    let mut memory = [0u8; octets::MOST];
+    let Octets::Count(n) = octets::read_lone(rest, &mut memory) else {
         return Reply::NoQuestion;
     };
     check(&memory[..n], order)

@@ -10,7 +10,7 @@ ghost use Rattle.ask_answers.specs.Questions.{value_asked, item_asked, about_que
 ghost use Rattle.ask_answers.specs.Replies.{item_shown, room_of, reply_to};
 ghost use Rattle.ask_answers.specs.Inner.{Replied};
 
-use crate::about;
+use crate::{about, octets};
 use about::About;
 use ask_text::Reply;
 use ask_words::SubjectFields;
@@ -41,8 +41,8 @@ pub(crate) fn reply_value(rest: &[u8], table: &mut [u64]) -> Reply
         return Reply::NoQuestion;
     };
     let subject = asked.subject;
-    let mut types = [0u8; ask_octets::MOST];
-    let mut value = [0u8; ask_octets::MOST];
+    let mut types = [0u8; octets::MOST];
+    let mut value = [0u8; octets::MOST];
     let About::Is {
         typed,
         type_count,
@@ -110,8 +110,8 @@ pub(crate) fn reply_item(rest: &[u8]) -> Reply
         return Reply::NoQuestion;
     };
     let subject = asked.subject;
-    let mut types = [0u8; ask_octets::MOST];
-    let mut value = [0u8; ask_octets::MOST];
+    let mut types = [0u8; octets::MOST];
+    let mut value = [0u8; octets::MOST];
     let About::Is {
         typed,
         type_count,

@@ -1,4 +1,6 @@
 // The text of what a message's header says, each with its LF, written into lent memory where it fits.
+#![tactic(auto)]
+
 ghost use Rattle.cdr_write.specs.Write.{Stored};
 ghost use Rattle.header.specs.Header.{header_answer};
 ghost use Rattle.ask_header_text.specs.Texts.{number_text, part_text, target_text, request_text, reply_header_text, refusal_text, header_answer_text};

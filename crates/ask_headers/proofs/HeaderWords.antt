@@ -18,7 +18,7 @@ use Rattle.ask_words.specs.Fields.{numbered_fields_of}
 use Rattle.ask_words.specs.Inner.{NumberedRead}
 use Rattle.ask_octets.specs.declared.WordAnswer.{WordAnswer}
 use Rattle.ask_octets.specs.declared.WordAnswer.TheVariants.{Count, NotOctets}
-use Rattle.ask_octets.specs.Octets.{line_most, octets_word, OctetsRead}
+use Rattle.ask_octets.specs.Octets.{line_most, octets_word, WordRead}
 use Rattle.ask_octets.proofs.OctetsStand.{Stands, word_read, octets-not, octets-are, octets-within}
 use Rattle.ask_headers.specs.declared.NumberedOctets.{NumberedOctets}
 use Rattle.ask_headers.specs.declared.NumberedOctets.TheVariants.{Is, NotNumberedOctets}
@@ -127,7 +127,7 @@ module _ (rest : List ℕ) (f : Numbered) (p : NumberedRead rest f) where
     pub numbered_within : end ≤ length rest
     numbered_within = rw e at p.within
 
-    module _ (before : List ℕ) (h : length rest ≤ length before * 2) (r : WordAnswer) (after : List ℕ) (o : OctetsRead (octets_word (take end rest)) before r after) where
+    module _ (before : List ℕ) (h : length rest ≤ length before * 2) (r : WordAnswer) (after : List ℕ) (o : WordRead (octets_word (take end rest)) before r after) where
       octets : Stands (octets_word (take end rest)) r after
       octets = let k = numbered_within in word_read (take end rest) o (omega (arith, h, length-take-le end rest k))
 

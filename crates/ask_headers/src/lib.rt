@@ -1,5 +1,7 @@
 // One line's answer about the header of a message: what it says, one of its contexts, a profile of the reference that a request is addressed to,
 // and all before the body written back.
+#![tactic(auto)]
+
 ghost use Rattle.std.specs.Prelude.{◌≡◌, [], ◌*◌, ◌≤◌, min, length};
 ghost use Rattle.cdr.specs.Limit.{octets_limit};
 ghost use Rattle.cdr_write.specs.Write.{Stored};
@@ -21,7 +23,7 @@ use header::NumberedAnswer;
 use header_head::HeadAnswer;
 
 // The number of the octets that a question is about, and NUMBER or ROOM.
-#[derive(Drop)]
+#[derive(Clone, Copy)]
 enum NumberedOctets {
     Is { count: usize, number: u64 },
     NotNumberedOctets,

@@ -14,7 +14,7 @@ use Rattle.hexline.proofs.OctetsOfDigits.{octets-length}
 use Rattle.ask_words.specs.Words.{space, words, words_from, same_word}
 use Rattle.ask_octets.specs.declared.WordAnswer.{WordAnswer}
 use Rattle.ask_octets.specs.declared.WordAnswer.TheVariants.{Count, NotOctets}
-use Rattle.ask_octets.specs.Octets.{line_most, none_word, WordOctets, are_octets, not_octets, is_octets, octets_word, lone_octets, on_octets, OctetsRead}
+use Rattle.ask_octets.specs.Octets.{line_most, none_word, WordOctets, are_octets, not_octets, is_octets, octets_word, lone_octets, on_octets, WordRead}
 
 -- what was read, by the answer and the memory, and that it is within the memory
 abbrev pub octets_in : WordAnswer → List ℕ → WordOctets
@@ -30,7 +30,7 @@ octet_count (are_octets v) = length v
 octet_count not_octets = 0
 
 -- where there is room, all of them are read
-pub all_read : (o : WordOctets) {before : List ℕ} {r : WordAnswer} {after : List ℕ} → OctetsRead o before r after → octet_count o ≤ length before → Stands o r after
+pub all_read : (o : WordOctets) {before : List ℕ} {r : WordAnswer} {after : List ℕ} → WordRead o before r after → octet_count o ≤ length before → Stands o r after
 all_read (are_octets v) {before} {r} {after} w few =
     let f = le-ltb (length before) (length v) few in
     let e : r ≡ Count (length v) = rw f at w.answer in
@@ -66,11 +66,11 @@ lone-few begun (c ∷ s) n h =
     (λ e. rw e (omega (arith, more-few begun [] s)))
     (λ e. rw e (lone-few (begun ++ (c ∷ [])) s n (omega (arith, length-append begun (c ∷ [])))))
 
-pub word_read : (word : List ℕ) {before : List ℕ} {r : WordAnswer} {after : List ℕ} → OctetsRead (octets_word word) before r after
+pub word_read : (word : List ℕ) {before : List ℕ} {r : WordAnswer} {after : List ℕ} → WordRead (octets_word word) before r after
     → length word ≤ length before * 2 → Stands (octets_word word) r after
 word_read word {before} w h = all_read (octets_word word) w (word-few word (length before) h)
 
-line_read : (line : List ℕ) {before : List ℕ} {r : WordAnswer} {after : List ℕ} → OctetsRead (lone_octets (words line)) before r after
+line_read : (line : List ℕ) {before : List ℕ} {r : WordAnswer} {after : List ℕ} → WordRead (lone_octets (words line)) before r after
     → length line ≤ length before * 2 → Stands (lone_octets (words line)) r after
 line_read line {before} w h = all_read (lone_octets (words line)) w (lone-few [] line (length before) (omega arith))
 
@@ -78,11 +78,11 @@ line_read line {before} w h = all_read (lone_octets (words line)) w (lone-few []
 message-length : length {A = ℕ} (replicate 65536 0) ≡ 65536
 message-length = length-replicate {A = ℕ} 65536 0
 
-pub lone-stands : (rest : List ℕ) {r : WordAnswer} {after : List ℕ} → length rest ≤ line_most → OctetsRead (lone_octets (words rest)) (replicate 65536 0) r after
+pub lone-stands : (rest : List ℕ) {r : WordAnswer} {after : List ℕ} → length rest ≤ line_most → WordRead (lone_octets (words rest)) (replicate 65536 0) r after
     → Stands (lone_octets (words rest)) r after
 lone-stands rest h o = line_read rest o (omega (arith, h, message-length))
 
-pub word_stands : (word : List ℕ) {r : WordAnswer} {after : List ℕ} → length word ≤ line_most → OctetsRead (octets_word word) (replicate 65536 0) r after
+pub word_stands : (word : List ℕ) {r : WordAnswer} {after : List ℕ} → length word ≤ line_most → WordRead (octets_word word) (replicate 65536 0) r after
     → Stands (octets_word word) r after
 word_stands word h o = word_read word o (omega (arith, h, message-length))
 

@@ -4,8 +4,6 @@ use mathlib.Core.Bool.{Bool, true, false, not, ◌&&◌}
 use mathlib.Core.List.{List, [], ◌∷◌, ◌++◌}
 use Prim.Native.Nat.{ℕ, ◌+◌, ◌/◌, ◌%◌, ◌<◌, ◌≤◌}
 use native.Mathlib.Omega.{arith}
-use types.Run.{OneOf, miss}
-use denote.Enum.Declared.{tag_of}
 use lib.Dec.{eqb, ltb}
 use lib.ListN.{length, take, drop}
 use lib.Seq.{sets}
@@ -17,32 +15,31 @@ use Rattle.hexline.specs.declared.Decoded.TheVariants.{Octets}
 use Rattle.hexline.specs.Decoding.{all_digits, line_octets, digits_decoded, Decodes}
 use Rattle.hexline.proofs.Answers.{digits-accepted}
 use Rattle.hexline.proofs.OctetsOfDigits.{octets-length}
-use Rattle.hexline.specs.contracts.Decoded.{the_type as decoded-type}
 use Rattle.ask_words.specs.Words.{space, words_from, words, same_word}
 use Rattle.ask_words.specs.Found.{FirstWord}
 use Rattle.ask_octets.specs.declared.WordAnswer.{WordAnswer}
 use Rattle.ask_octets.specs.declared.WordAnswer.TheVariants.{Count, NotOctets}
-use Rattle.ask_octets.specs.Octets.{none_word, are_octets, not_octets, octets_word, lone_octets, OctetsRead}
+use Rattle.ask_octets.specs.Octets.{none_word, are_octets, not_octets, octets_word, lone_octets, WordRead}
 
 -- octets that there is room for, and those that there is none for
-are-read : (v memory : List ℕ) (n : ℕ) → n ≡ length v → n ≤ length memory → OctetsRead (are_octets v) memory (Count n) (sets memory 0 v)
+are-read : (v memory : List ℕ) (n : ℕ) → n ≡ length v → n ≤ length memory → WordRead (are_octets v) memory (Count n) (sets memory 0 v)
 are-read v memory n e h =
     let f = le-ltb (length memory) (length v) (omega arith) in
     record { answer = rw f (ap Count e); output = rw f }
 
-are-many : (v memory : List ℕ) → length memory < length v → OctetsRead (are_octets v) memory NotOctets memory
+are-many : (v memory : List ℕ) → length memory < length v → WordRead (are_octets v) memory NotOctets memory
 are-many v memory h = let f = lt-ltb (length memory) (length v) h in record { answer = rw f; output = rw f }
 
-are-none : (memory : List ℕ) → OctetsRead not_octets memory NotOctets memory
+are-none : (memory : List ℕ) → WordRead not_octets memory NotOctets memory
 are-none memory = record { answer = refl; output = refl }
 
 -- a word as octets: `-`, no characters,
-pub word-dash : (word memory : List ℕ) → same_word word none_word ≡ true → OctetsRead (octets_word word) memory (Count 0) memory
+pub word-dash : (word memory : List ℕ) → same_word word none_word ≡ true → WordRead (octets_word word) memory (Count 0) memory
 unfolding octets_word choose
 word-dash word memory d = rw d (are-read [] memory 0 refl (omega arith))
 
 module _ (word : List ℕ) (d : same_word word none_word ≡ false) where
-  pub word-empty : (memory : List ℕ) → length word ≡ 0 → OctetsRead (octets_word word) memory NotOctets memory
+  pub word-empty : (memory : List ℕ) → length word ≡ 0 → WordRead (octets_word word) memory NotOctets memory
   unfolding octets_word choose
   word-empty memory z = rw (d, eq-eqb (length word) 0 z) (are-none memory)
 
@@ -55,7 +52,7 @@ module _ (word : List ℕ) (d : same_word word none_word ≡ false) where
     stands_by false true o a = rw (d, ne_eqb (length word) 0 z, o, a)
     stands_by false false o a = rw (d, ne_eqb (length word) 0 z, o, a)
 
-    pub word-digits : (n : ℕ) → r ≡ Octets n → OctetsRead (octets_word word) memory (Count n) last
+    pub word-digits : (n : ℕ) → r ≡ Octets n → WordRead (octets_word word) memory (Count n) last
     unfolding choose
     word-digits n e =
         let a = digits-accepted word (length memory) n (sym s.answer ∙ e) in
@@ -64,7 +61,7 @@ module _ (word : List ℕ) (d : same_word word none_word ≡ false) where
         (are-read (line_octets word) memory n (a.count ∙ sym (octets-length word)) a.fits)
 
     other-by : (odd all lacks : Bool) → eqb (length word % 2) 1 ≡ odd → all_digits word ≡ all → ltb (length memory) (length word / 2) ≡ lacks
-        → OneOf (1 ∷ 2 ∷ 3 ∷ []) (tag_of decoded-type r) → OctetsRead (octets_word word) memory NotOctets last
+        → ((n : ℕ) → r ≡ Octets n → ⊥) → WordRead (octets_word word) memory NotOctets last
     unfolding choose digits_decoded
     other-by true all lacks o a l k =
         let m : last ≡ memory = rw (s.output, s.answer, o) in
@@ -76,9 +73,9 @@ module _ (word : List ℕ) (d : same_word word none_word ≡ false) where
         let m : last ≡ memory = rw (s.output, s.answer, o, a, l) in
         rw (stands_by false true o a, m)
         (are-many (line_octets word) memory (omega (arith, octets-length word, ltb-true (length memory) (length word / 2) l)))
-    other-by false true false o a l k = absurd (miss (1 ∷ 2 ∷ 3 ∷ []) 0 tt (rw (s.answer, o, a, l) at k))
+    other-by false true false o a l k = absurd (k (length word / 2) (rw (s.answer, o, a, l)))
 
-    pub word-other : OneOf (1 ∷ 2 ∷ 3 ∷ []) (tag_of decoded-type r) → OctetsRead (octets_word word) memory NotOctets last
+    pub word-other : ((n : ℕ) → r ≡ Octets n → ⊥) → WordRead (octets_word word) memory NotOctets last
     word-other k = other-by _ _ _ refl refl refl k
 
 -- the only word: more than one stand for no octets,
@@ -88,11 +85,11 @@ more-words word begun [] = refl
 more-words word begun (c ∷ s) = by-test (eqb c space) (λ e. rw e) (λ e. rw e (more-words word (begun ++ (c ∷ [])) s))
 
 module _ (line : List ℕ) (end : ℕ) (f : FirstWord line end) (memory : List ℕ) where
-  pub lone-and-more : end < length line → OctetsRead (lone_octets (words line)) memory NotOctets memory
+  pub lone-and-more : end < length line → WordRead (lone_octets (words line)) memory NotOctets memory
   lone-and-more h =
       rw (f.more h) (rw (more-words (take end line) [] (drop (end + 1) line)) (are-none memory))
 
   -- and one for its own
   pub lone-read : length line ≤ end → (r : WordAnswer) (last : List ℕ)
-      → OctetsRead (octets_word line) memory r last → OctetsRead (lone_octets (words line)) memory r last
+      → WordRead (octets_word line) memory r last → WordRead (lone_octets (words line)) memory r last
   lone-read h r last w = rw (f.only h) w

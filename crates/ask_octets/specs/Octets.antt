@@ -8,7 +8,7 @@
 --   on_octets      what follows octets that a word stands for
 --   octets_answer  what reading them answers, by the room for them
 --   octets_into    what the memory then holds: they are stored from its start on where they fit, and the rest is as it was
---   OctetsRead    both, as the contract says them
+--   WordRead    both, as the contract says them
 use Rattle.std.specs.Prelude.{◌≡◌, List, [], ◌∷◌, Bool, cond, not, ◌&&◌, ℕ, ◌%◌, eqb, ltb, length}
 use Rattle.std.proofs.lemmas.List.Edits.{sets}
 use Rattle.choices.specs.Branch.{choose}
@@ -54,6 +54,6 @@ abbrev pub octets_into : WordOctets → List ℕ → List ℕ
 octets_into (are_octets v) memory = cond (ltb (length memory) (length v)) memory (sets memory 0 v)
 octets_into not_octets memory = memory
 
-pub record OctetsRead (o : WordOctets) (before : List ℕ) (r : WordAnswer) (after : List ℕ) : Type 0 where
+pub record WordRead (o : WordOctets) (before : List ℕ) (r : WordAnswer) (after : List ℕ) : Type 0 where
   pub answer : r ≡ octets_answer o (length before)
   pub output : after ≡ octets_into o before

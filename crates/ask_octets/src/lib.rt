@@ -1,6 +1,8 @@
 // The octets that a word of a line stands for.
+#![tactic(auto)]
+
 ghost use Rattle.ask_words.specs.Words.{words};
-ghost use Rattle.ask_octets.specs.Octets.{octets_word, lone_octets, OctetsRead};
+ghost use Rattle.ask_octets.specs.Octets.{octets_word, lone_octets, WordRead};
 
 use hexline::Decoded;
 
@@ -11,7 +13,7 @@ pub const LINE_LIMIT: usize = 131072;
 pub const MOST: usize = LINE_LIMIT / 2;
 
 // What a word is as octets: how many were written; or that it stands for none, or for more than there is room for.
-#[derive(Drop)]
+#[derive(Clone, Copy)]
 pub enum WordAnswer {
     Count(usize),
     NotOctets,
@@ -19,7 +21,7 @@ pub enum WordAnswer {
 
 // The octets that a word stands for, written from the start of `octets`.
 pub fn read(word: &[u8], octets: &mut [u8]) -> WordAnswer
-    ensures { OctetsRead (octets_word word.now) octets.old result octets.new }
+    ensures { WordRead (octets_word word.now) octets.old result octets.new }
 {
     if ask_words::same(word, b"-") {
         return WordAnswer::Count(0);
@@ -35,7 +37,7 @@ pub fn read(word: &[u8], octets: &mut [u8]) -> WordAnswer
 
 // The octets that the only word of a line stands for, written from the start of `octets`.
 pub fn read_lone(line: &[u8], octets: &mut [u8]) -> WordAnswer
-    ensures { OctetsRead (lone_octets (words line.now)) octets.old result octets.new }
+    ensures { WordRead (lone_octets (words line.now)) octets.old result octets.new }
 {
     if ask_words::first_end(line) < line.len() {
         return WordAnswer::NotOctets;

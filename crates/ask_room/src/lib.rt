@@ -1,4 +1,6 @@
 // The room that the answer of any line needs.
+#![tactic(auto)]
+
 ghost use Rattle.std.specs.Prelude.{◌≡◌};
 ghost use Rattle.ask_room.specs.Room.{answer_room};
 

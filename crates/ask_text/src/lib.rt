@@ -1,4 +1,6 @@
 // The text of the answers, each with its LF, written into lent memory where it fits.
+#![tactic(auto)]
+
 ghost use Rattle.std.specs.Prelude.{◌++◌};
 ghost use Rattle.cdr_write.specs.Write.{Stored};
 ghost use Rattle.ask_text.specs.Items.{items_of};
@@ -19,7 +21,7 @@ const HEAD: usize = 66;
 const LF: u8 = b'\n';
 
 // What a question is answered.
-#[derive(Drop)]
+#[derive(Clone, Copy)]
 pub enum Reply {
     // A type: octets used and kinds written.
     Typed {

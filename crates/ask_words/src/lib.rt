@@ -1,5 +1,7 @@
 // The words of a line: where they end, whether two are the same, the orders and numbers that they name, and the words of the questions about
 // a value or a component.
+#![tactic(auto)]
+
 ghost use Rattle.std.specs.Prelude.{◌≡◌};
 ghost use Rattle.ask_words.specs.Words.{same_word, order_word};
 ghost use Rattle.ask_words.specs.Found.{FirstWord};
@@ -13,7 +15,7 @@ mod places;
 const SPACE: u8 = b' ';
 
 // An ORDER, and the place and the end of the word behind it.
-#[derive(Drop)]
+#[derive(Clone, Copy)]
 pub struct Coded {
     pub order: Order,
     pub from: usize,
@@ -21,7 +23,7 @@ pub struct Coded {
 }
 
 // The value that is asked about: ORDER TYPE, ORDER VALUE, and START.
-#[derive(Drop)]
+#[derive(Clone, Copy)]
 pub struct Subject {
     pub typed: Coded,
     pub value: Coded,
@@ -29,21 +31,21 @@ pub struct Subject {
 }
 
 // The words behind `value` or `item`: those of a value, and ROOM or NUMBER.
-#[derive(Drop)]
+#[derive(Clone, Copy)]
 pub struct Asked {
     pub subject: Subject,
     pub number: u64,
 }
 
 // What a line's words are as those behind `value` or `item`.
-#[derive(Drop)]
+#[derive(Clone, Copy)]
 pub enum SubjectFields {
     Are(Asked),
     NotFields,
 }
 
 // The words behind `rewrite`: those of a value, and ORDER START ROOM.
-#[derive(Drop)]
+#[derive(Clone, Copy)]
 pub struct Chosen {
     pub subject: Subject,
     pub order: Order,
@@ -52,14 +54,14 @@ pub struct Chosen {
 }
 
 // What a line's words are as those behind `rewrite`.
-#[derive(Drop)]
+#[derive(Clone, Copy)]
 pub enum Rewrite {
     Asks(Chosen),
     NotRewrite,
 }
 
 // What a line's words are as those behind `component`: the end of the first, and NUMBER.
-#[derive(Drop)]
+#[derive(Clone, Copy)]
 pub enum Numbered {
     Is { end: usize, number: u64 },
     NotNumbered,

@@ -8,35 +8,35 @@ use cdr::{Named, Order};
 use decimals::Number;
 
 // The end of a word, or that the words are used up.
-#[derive(Drop)]
+#[derive(Clone, Copy)]
 pub(crate) enum Word {
     Upto(usize),
     NoWord,
 }
 
 // An order that a word names, and the place of the word behind it.
-#[derive(Drop)]
+#[derive(Clone, Copy)]
 pub(crate) enum Ordered {
     Is { order: Order, next: usize },
     NotOrder,
 }
 
 // An ORDER and the word behind it, if they are there.
-#[derive(Drop)]
+#[derive(Clone, Copy)]
 enum Pair {
     Is(Coded),
     NotCoded,
 }
 
 // A number, and the place of the word behind it.
-#[derive(Drop)]
+#[derive(Clone, Copy)]
 pub(crate) enum Count {
     Is { number: u64, next: usize },
     NotNumber,
 }
 
 // The words of a value, and the place of the word behind them.
-#[derive(Drop)]
+#[derive(Clone, Copy)]
 pub(crate) enum About {
     Is { subject: Subject, next: usize },
     NotAbout,

@@ -1,4 +1,6 @@
 // The C interface's functions about Request and Reply headers: each answers the papers' number, and a refusal leaves all that was lent as it was.
+#![tactic(auto)]
+
 ghost use Rattle.std.specs.Prelude.{◌≡◌};
 ghost use Rattle.header.specs.Rows.{request_row, reply_row, numbered_row};
 ghost use Rattle.c_headers.specs.Answers.{target_cells, request_cells, ReadsHeaderC, FindsContextC, FindsTargetC};
@@ -8,7 +10,7 @@ use header::{HeaderAnswer, NumberedAnswer, ReplyHeader, RequestHeader};
 use header_parts::TargetAddress;
 
 // What a target says as numbers: its kind, the profile's tag or the reference's index, its octets, and the number of the reference's profiles.
-#[derive(Drop)]
+#[derive(Clone, Copy)]
 struct TargetCells {
     kind: u64,
     number: u64,
@@ -19,8 +21,7 @@ struct TargetCells {
 // A message's header read: 0, 42, 12 to 21, 75, or 70 to 74. `numbers` gets type, minor, order octet, id, response, status, the target's kind,
 // tag or index, the index of its octets' first one and their length, its number of profiles, the index and the length of the operation and of
 // the principal, number of contexts, and the place of the body. What the message hasn't is 0.
-#[unsafe(no_mangle)]
-pub extern "C" fn haulspar_header(octets: &[u8], numbers: &mut [u64; 17]) -> u32
+pub fn haulspar_header(octets: &[u8], numbers: &mut [u64; 17]) -> u32
     ensures { ReadsHeaderC octets.now numbers.old result numbers.new }
 {
     match header::read(octets) {
@@ -135,8 +136,7 @@ fn reply_row(a: ReplyHeader) -> [u64; 17]
 
 // A context of a message's header by its number, the first one 0: 0, 42, 12 to 21, 75, 70 to 74, or 69. `found` gets its id, the index of its
 // octets' first one, and their length.
-#[unsafe(no_mangle)]
-pub extern "C" fn haulspar_context(octets: &[u8], number: u64, found: &mut [u64; 3]) -> u32
+pub fn haulspar_context(octets: &[u8], number: u64, found: &mut [u64; 3]) -> u32
     ensures { FindsContextC octets.now number found.old result found.new }
 {
     match header::context(octets, number) {
@@ -149,8 +149,7 @@ pub extern "C" fn haulspar_context(octets: &[u8], number: u64, found: &mut [u64;
 }
 
 // A profile, by its number, the first one 0, of the reference that a request is addressed to: as a context, with its tag.
-#[unsafe(no_mangle)]
-pub extern "C" fn haulspar_target(octets: &[u8], number: u64, found: &mut [u64; 3]) -> u32
+pub fn haulspar_target(octets: &[u8], number: u64, found: &mut [u64; 3]) -> u32
     ensures { FindsTargetC octets.now number found.old result found.new }
 {
     match header::target_profile(octets, number) {

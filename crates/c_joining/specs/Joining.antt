@@ -15,7 +15,8 @@ abbrev pub joined_count : Output → ℕ → ℕ
 joined_count (Message n) before = n
 joined_count Nothing before = before
 
-pub record JoinsC (v : List ℕ) (before : Record) (places out : List ℕ) (count : ℕ) (r : Numbered) (places_last out_last : List ℕ) (count_last : ℕ) : Type 0 where
+pub record JoinsC (v : List ℕ) (before : Record) (places out : List ℕ) (count : ℕ) (r : Numbered) (places_last out_last : List ℕ)
+    (count_last : ℕ) : Type 0 where
   pub answer : Answer
   pub joins : Joins v before places out (record { answer = answer; after = r.after }) places_last out_last
   pub number : r.number ≡ answer_number answer

@@ -1,4 +1,6 @@
 // The C interface's function that joins: it answers 01's number, and a refusal leaves all that was lent as it was.
+#![tactic(auto)]
+
 ghost use Rattle.std.specs.Prelude.{◌≡◌};
 ghost use Rattle.join_answers.specs.Answers.{output_in};
 ghost use Rattle.c_joining.specs.Joining.{joined_count, JoinsC};
@@ -9,8 +11,7 @@ use join_places::Record;
 // A line's octets joined by the lent record and the octets of its places: 0 to 3, 10, or 12 to 28. Where a message is written,
 // `count` gets the number of its octets. The record is C's `struct { uint32_t ids[4]; size_t lengths[4]; bool opened[4]; }`, each
 // of its bools 0 or 1.
-#[unsafe(no_mangle)]
-pub extern "C" fn haulspar_join(
+pub fn haulspar_join(
     octets: &[u8],
     record: &mut Record,
     places: &mut [u8],
@@ -27,7 +28,7 @@ pub extern "C" fn haulspar_join(
 }
 
 // The number of an answer, and the record after the line.
-#[derive(Drop)]
+#[derive(Clone, Copy)]
 struct Numbered {
     number: u32,
     after: Record,

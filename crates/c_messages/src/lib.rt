@@ -1,4 +1,6 @@
 // The C interface's functions about lines and frame headers: each answers 01's number, and a refusal leaves all that was lent as it was.
+#![tactic(auto)]
+
 ghost use Rattle.std.specs.Prelude.{◌≡◌, cond};
 ghost use Rattle.frame.specs.Frames.{header_numbers};
 ghost use Rattle.c_messages.specs.Answers.{decoded_count, encoded_count, DecodesC, EncodesC, JudgesC};
@@ -7,8 +9,7 @@ use frame::{Frame, Header, RequestId};
 use hexline::{Decoded, Encoded};
 
 // A line's characters to octets in `out`, and their number in `count`; 10, 11, or 27 where `out` is too short.
-#[unsafe(no_mangle)]
-pub extern "C" fn haulspar_decode(line: &[u8], out: &mut [u8], count: &mut u64) -> u32
+pub fn haulspar_decode(line: &[u8], out: &mut [u8], count: &mut u64) -> u32
     ensures { DecodesC line.now out.old count.old result out.new count.new }
 {
     let answer = hexline::decode(line, out);
@@ -29,8 +30,7 @@ fn decoded_count(answer: Decoded, before: u64) -> u64
 }
 
 // Octets to upper-case digits in `out`, and their number in `count`; 27 where `out` is too short.
-#[unsafe(no_mangle)]
-pub extern "C" fn haulspar_encode(octets: &[u8], out: &mut [u8], count: &mut u64) -> u32
+pub fn haulspar_encode(octets: &[u8], out: &mut [u8], count: &mut u64) -> u32
     ensures { EncodesC octets.now out.old count.old result out.new count.new }
 {
     let answer = hexline::encode(octets, out);
@@ -49,8 +49,7 @@ fn encoded_count(answer: Encoded, before: u64) -> u64
 }
 
 // A message's octets judged; `header` gets minor, order, more, type, size, whether there is a request id, request id.
-#[unsafe(no_mangle)]
-pub extern "C" fn haulspar_frame(octets: &[u8], header: &mut [u64; 7]) -> u32
+pub fn haulspar_frame(octets: &[u8], header: &mut [u64; 7]) -> u32
     ensures { JudgesC octets.now header.old result header.new }
 {
     match frame::judge(octets) {

@@ -1,4 +1,6 @@
 // The C interface's functions about profile bodies: each answers 01's number, and a refusal leaves all that was lent as it was.
+#![tactic(auto)]
+
 ghost use Rattle.std.specs.Prelude.{◌≡◌};
 ghost use Rattle.profile.specs.Profile.{profile_row, component_row};
 ghost use Rattle.c_profiles.specs.Answers.{ReadsProfileC, FindsComponentC};
@@ -8,8 +10,7 @@ use profile::{ComponentAnswer, Profile, ProfileAnswer};
 
 // A profile body read: 0, or 42, or 60 to 64. `numbers` gets order octet, major, minor, the index of the host's first octet and its
 // length without its zero, port, the index of the key's first octet and its length, number of components, octets after them.
-#[unsafe(no_mangle)]
-pub extern "C" fn haulspar_profile(octets: &[u8], numbers: &mut [u64; 10]) -> u32
+pub fn haulspar_profile(octets: &[u8], numbers: &mut [u64; 10]) -> u32
     ensures { ReadsProfileC octets.now numbers.old result numbers.new }
 {
     match profile::read(octets) {
@@ -46,8 +47,7 @@ fn profile_row(p: Profile) -> [u64; 10]
 
 // A component of a profile body by its number, the first one 0: 0, or 42, 60 to 64, or 69. `found` gets its tag, the index of
 // its octets' first one, and their length.
-#[unsafe(no_mangle)]
-pub extern "C" fn haulspar_component(octets: &[u8], number: u64, found: &mut [u64; 3]) -> u32
+pub fn haulspar_component(octets: &[u8], number: u64, found: &mut [u64; 3]) -> u32
     ensures { FindsComponentC octets.now number found.old result found.new }
 {
     match profile::component(octets, number) {

@@ -1,4 +1,6 @@
 // The C interface's functions that rewrite a value: each answers 01's number, and a refusal leaves all that was lent as it was.
+#![tactic(auto)]
+
 ghost use Rattle.cdr.specs.Align.{index_of};
 ghost use Rattle.cdr.specs.Orders.{order_of_flag};
 ghost use Rattle.rewrite_meaning.specs.Written.{target, unnamed_order};
@@ -9,8 +11,7 @@ use cdr::{Index, Order};
 
 // A value rewritten in a chosen order from the chosen index on: 0, or 42, 30 to 40, 50 to 55, or 57. `out` gets the octets from its start on,
 // and `count` their number. `little` says that the type is little-endian, `order` that the value is, `to` that the chosen order is.
-#[unsafe(no_mangle)]
-pub extern "C" fn haulspar_rewrite(
+pub fn haulspar_rewrite(
     types: &[u8],
     little: bool,
     value: &[u8],
@@ -43,8 +44,7 @@ pub extern "C" fn haulspar_rewrite(
 }
 
 // The same where no order is named.
-#[unsafe(no_mangle)]
-pub extern "C" fn haulspar_rewrite_unnamed(
+pub fn haulspar_rewrite_unnamed(
     types: &[u8],
     little: bool,
     value: &[u8],

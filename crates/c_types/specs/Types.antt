@@ -45,7 +45,10 @@ used_after Loop before = before
 pub record ChecksC (v : List ℕ) (little : Bool) (places starts orders numbers : List ℕ) (r : ℕ)
     (places_last starts_last orders_last numbers_last : List ℕ) : Type 0 where
   pub number : r ≡ type_number (checked_type v (order_of_flag little)).answer
-  pub places-are : places_last ≡ met_after (checked_type v (order_of_flag little)).answer (entries_of place_number (checked_type v (order_of_flag little)).kinds) places
-  pub starts-are : starts_last ≡ met_after (checked_type v (order_of_flag little)).answer (entries_of start_number (checked_type v (order_of_flag little)).kinds) starts
-  pub orders-are : orders_last ≡ met_after (checked_type v (order_of_flag little)).answer (entries_of order_number (checked_type v (order_of_flag little)).kinds) orders
+  pub places-are : places_last
+      ≡ met_after (checked_type v (order_of_flag little)).answer (entries_of place_number (checked_type v (order_of_flag little)).kinds) places
+  pub starts-are : starts_last
+      ≡ met_after (checked_type v (order_of_flag little)).answer (entries_of start_number (checked_type v (order_of_flag little)).kinds) starts
+  pub orders-are : orders_last
+      ≡ met_after (checked_type v (order_of_flag little)).answer (entries_of order_number (checked_type v (order_of_flag little)).kinds) orders
   pub numbers-are : numbers_last ≡ used_after (checked_type v (order_of_flag little)).answer numbers

@@ -1,4 +1,6 @@
 // The C interface's function about types: it answers 01's number, and a refusal leaves all that was lent as it was.
+#![tactic(auto)]
+
 ghost use Rattle.std.specs.Prelude.{◌≡◌};
 ghost use Rattle.cdr.specs.Orders.{order_octet};
 ghost use Rattle.type_list.specs.Arrays.{order_in, kinds_met};
@@ -33,8 +35,7 @@ fn gather(met: Met) -> Met
 
 // A TypeCode checked: 0, or 30 to 40, or 42. Of an accepted one `numbers` gets the octets used and the kinds written; `places`, `starts`
 // and `orders` get what is met of each kind, 0 past the last.
-#[unsafe(no_mangle)]
-pub extern "C" fn haulspar_type(
+pub fn haulspar_type(
     octets: &[u8],
     little: bool,
     places: &mut [u16; type_numbers::KINDS_LIMIT],

@@ -1,5 +1,7 @@
 // The C interface's functions about values: each answers 01's number, and a refusal leaves all that was lent as it was, but for a value's
 // visits.
+#![tactic(auto)]
+
 ghost use Rattle.c_values.specs.Values.{value_at, ReadsValueC, PicksC};
 
 use cdr::{Index, Order};
@@ -8,8 +10,7 @@ use value_meaning::ValueAnswer;
 
 // A value read into the table, three numbers an item: 0, or 42, 30 to 40, or 50 to 56. Of an accepted one `numbers` gets the octets used
 // and the items; `visits` gets the visits begun, also of a refused one. `little` says that the type is little-endian, `order` that the value is.
-#[unsafe(no_mangle)]
-pub extern "C" fn haulspar_value(
+pub fn haulspar_value(
     types: &[u8],
     little: bool,
     value: &[u8],
@@ -48,8 +49,7 @@ pub extern "C" fn haulspar_value(
 
 // An item of a value by its number: 0, or 42, 30 to 40, 50 to 55, or 49. `given` gets which case it is (0 signed, 1 unsigned, 2 single,
 // 3 double) and its 64 bits. `little` says that the type is little-endian, `order` that the value is.
-#[unsafe(no_mangle)]
-pub extern "C" fn haulspar_item(
+pub fn haulspar_item(
     types: &[u8],
     little: bool,
     value: &[u8],

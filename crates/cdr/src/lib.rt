@@ -1,5 +1,7 @@
 // CDR, the encoding of GIOP: alignment, and numbers of 1, 2, 4 and 8 octets in either byte order, as they are read. Every function
 // answers for any slice and index.
+#![tactic(auto)]
+
 ghost use Rattle.std.specs.Prelude.{◌≡◌};
 ghost use Rattle.cdr.specs.Align.{octets, gap, aligned_of};
 ghost use Rattle.cdr.specs.Orders.{order_octet, order_of, order_of_flag};
@@ -22,14 +24,14 @@ pub fn fits(len: usize, at: usize, count: usize) -> bool
 }
 
 // A byte order.
-#[derive(Drop)]
+#[derive(Clone, Copy)]
 pub enum Order {
     Big,
     Little,
 }
 
 // The order that an octet names, if it names one.
-#[derive(Drop)]
+#[derive(Clone, Copy)]
 pub enum Named {
     Is(Order),
     NoOrder,
@@ -68,7 +70,7 @@ impl Order {
 }
 
 // The size of a primitive.
-#[derive(Drop)]
+#[derive(Clone, Copy)]
 pub enum Size {
     One,
     Two,
@@ -91,15 +93,15 @@ impl Size {
 }
 
 // The index of an octet in its encapsulation; alignment is counted in it.
-#[derive(Drop)]
+#[derive(Clone, Copy)]
 pub struct Index(pub usize);
 
 // The place of an octet in the whole TypeCode; indirections are counted in it.
-#[derive(Drop)]
+#[derive(Clone, Copy)]
 pub struct Place(pub usize);
 
 // The next aligned index, or none that a machine word can hold.
-#[derive(Drop)]
+#[derive(Clone, Copy)]
 pub enum Aligned {
     At(Index),
     Beyond,
@@ -137,7 +139,7 @@ impl Index {
 }
 
 // A number that was read: where it starts behind its gap, and its value; or that the octets end.
-#[derive(Drop)]
+#[derive(Clone, Copy)]
 pub enum Read {
     Number { at: usize, value: u64 },
     Ends,

@@ -1,5 +1,7 @@
 // The fields of an encapsulation, whose octets are a slice of their own, index 0 first: numbers, texts, counted octets, and lists of tagged,
 // counted octets.
+#![tactic(auto)]
+
 ghost use Rattle.std.specs.Prelude.{◌≡◌};
 ghost use Rattle.cdr_fields.specs.Encapsulation.{field_of, string_of, counted_of};
 ghost use Rattle.cdr_fields.specs.Extents.{PartOf, string_at, counted_at};
@@ -9,14 +11,14 @@ use cdr::{Index, Order, Read, Size};
 use cdr_text::{Run, Text};
 
 // A number of an encapsulation, and the index after it; or that the octets end.
-#[derive(Drop)]
+#[derive(Clone, Copy)]
 pub enum Field {
     Value { value: u64, next: Index },
     NoField,
 }
 
 // A text of an encapsulation: its first character's index, and its length without the final zero.
-#[derive(Drop)]
+#[derive(Clone, Copy)]
 pub enum Str {
     Characters { from: Index, length: usize },
     BadText,
@@ -24,7 +26,7 @@ pub enum Str {
 }
 
 // Counted octets of an encapsulation: the first one's index, and their count.
-#[derive(Drop)]
+#[derive(Clone, Copy)]
 pub enum Counted {
     Octets { from: Index, count: usize },
     NoOctets,
@@ -74,7 +76,7 @@ pub fn read_counted(s: &[u8], at: Index, order: Order) -> Counted
 }
 
 // Octets of an encapsulation: the first one's index, and how many.
-#[derive(Drop)]
+#[derive(Clone, Copy)]
 pub struct Extent {
     pub from: Index,
     pub length: usize,
@@ -97,7 +99,7 @@ pub fn octets_in<'a>(s: &'a [u8], part: Extent) -> &'a [u8]
 }
 
 // A text without its final zero, and the index after that zero.
-#[derive(Drop)]
+#[derive(Clone, Copy)]
 pub enum StringAt {
     Text { text: Extent, next: Index },
     BadText,
@@ -119,7 +121,7 @@ pub fn string_at(s: &[u8], at: Index, order: Order) -> StringAt
 }
 
 // Octets behind their count, and the index after them.
-#[derive(Drop)]
+#[derive(Clone, Copy)]
 pub enum CountedAt {
     Span { octets: Extent, next: Index },
     NoSpan,
@@ -142,7 +144,7 @@ pub fn counted_at(s: &[u8], at: Index, order: Order) -> CountedAt
 }
 
 // A tag, the counted octets behind it, and the index after them; or that the octets end.
-#[derive(Drop)]
+#[derive(Clone, Copy)]
 pub enum Tagged {
     Tag {
         tag: u64,
@@ -153,7 +155,7 @@ pub enum Tagged {
 }
 
 // The index after so many tagged octets, or that there are fewer.
-#[derive(Drop)]
+#[derive(Clone, Copy)]
 pub enum Skipped {
     Upto(Index),
     TooFew,
@@ -214,14 +216,14 @@ pub fn tagged_behind(s: &[u8], first: Index, number: u64, order: Order) -> Tagge
 }
 
 // A list of tagged octets: how many, and the first one's index.
-#[derive(Drop)]
+#[derive(Clone, Copy)]
 pub struct TaggedList {
     pub count: u64,
     pub first: Index,
 }
 
 // A list of tagged octets, and the index after the last of them; or that the octets end.
-#[derive(Drop)]
+#[derive(Clone, Copy)]
 pub enum TaggedListAt {
     Listed { list: TaggedList, next: Index },
     NoList,

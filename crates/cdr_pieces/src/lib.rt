@@ -1,4 +1,6 @@
 // A number behind its gap, written into lent memory where it fits; indices count from the memory's first octet.
+#![tactic(auto)]
+
 ghost use Rattle.cdr.specs.Align.{octets};
 ghost use Rattle.cdr_fields.specs.Encapsulation.{start};
 ghost use Rattle.cdr_write.specs.Pieces.{target};

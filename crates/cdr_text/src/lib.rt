@@ -1,5 +1,7 @@
 // Texts, and octets that a count stands before: the rule of a string, which types, values, profiles and headers share. Every function answers for
 // any slice and length.
+#![tactic(auto)]
+
 ghost use Rattle.std.specs.Prelude.{◌≡◌};
 ghost use Rattle.cdr_text.specs.Text.{over_bound, has_zero, ends_text, text_of, run_of};
 
@@ -11,7 +13,7 @@ pub fn over_bound(count: usize, bound: usize) -> bool
 }
 
 // A text's octets: its length without the final zero, or the first rule that they break.
-#[derive(Drop)]
+#[derive(Clone, Copy)]
 pub enum Text {
     Chars(usize),
     Empty,
@@ -41,7 +43,7 @@ pub fn read_text(s: &[u8], at: usize, length: usize, bound: usize) -> Text
 }
 
 // Counted octets: where they end, or that there are fewer.
-#[derive(Drop)]
+#[derive(Clone, Copy)]
 pub enum Run {
     To(usize),
     Past,

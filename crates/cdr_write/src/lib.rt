@@ -1,4 +1,6 @@
 // Numbers and octets of CDR, written into lent memory where they fit.
+#![tactic(auto)]
+
 ghost use Rattle.std.specs.Prelude.{replicate};
 ghost use Rattle.cdr.specs.Align.{octets};
 ghost use Rattle.cdr.specs.Number.{octets_of};
@@ -9,7 +11,7 @@ use cdr::{Order, Size};
 mod store;
 
 // What writing gives: where what was written ends, or that it does not fit and nothing was written.
-#[derive(Drop)]
+#[derive(Clone, Copy)]
 pub enum Written {
     Upto(usize),
     NoRoom,

@@ -1,4 +1,6 @@
 // The decimal digits of a machine word: written into lent memory where they fit, and read.
+#![tactic(auto)]
+
 ghost use Rattle.std.specs.Prelude.{◌≡◌, [], ◌∷◌, ◌++◌, ◌<◌, ◌≤◌, length, drop};
 ghost use Rattle.cdr_write.specs.Write.{Stored};
 ghost use Rattle.decimals.specs.Decimal.{decimal};
@@ -51,7 +53,7 @@ pub fn count_digits(x: u64) -> usize
 }
 
 // What a word is as a number of 64 bits.
-#[derive(Drop)]
+#[derive(Clone, Copy)]
 pub enum Number {
     Is(u64),
     NotNumber,

@@ -1,4 +1,6 @@
 // The frame of a GIOP message: its twelve octets of header judged by 01's table, 10 and 12 to 21, and what an accepted header says.
+#![tactic(auto)]
+
 ghost use Rattle.std.specs.Prelude.{◌≡◌, ◌≤◌, length};
 ghost use Rattle.frame.specs.Header.{header_size, order_flag, more_flag, id_at};
 ghost use Rattle.frame.specs.Inner.{IdThere};
@@ -10,14 +12,14 @@ mod fields;
 mod rules;
 
 // The request id of a message, where it has one.
-#[derive(Drop)]
+#[derive(Clone, Copy)]
 pub enum RequestId {
     Id(u32),
     NoId,
 }
 
 // What an accepted header says. The major version is 1; `kind` is the message type.
-#[derive(Drop)]
+#[derive(Clone, Copy)]
 pub struct Header {
     pub minor: u8,
     pub order: Order,
@@ -28,7 +30,7 @@ pub struct Header {
 }
 
 // A row of the table that refuses a frame.
-#[derive(Drop)]
+#[derive(Clone, Copy)]
 pub enum Refusal {
     TooLong,
     Short,
@@ -65,7 +67,7 @@ impl Refusal {
 }
 
 // What judging a frame gives.
-#[derive(Drop)]
+#[derive(Clone, Copy)]
 pub enum Frame {
     Accepted(Header),
     Refused(Refusal),

@@ -1,5 +1,7 @@
 // The header of a Request or Reply of 1.0 to 1.2, in a whole or joined message: 42, 12 to 21, 75, then 70 to 74 in the order of the octets; and a
 // context, or a profile of the reference that a request is addressed to, by number, 69.
+#![tactic(auto)]
+
 ghost use Rattle.std.specs.Prelude.{◌≡◌, true, false};
 ghost use Rattle.header_layout.specs.Layout.{early_request, late_request, early_reply, late_reply, is_request, layout_of};
 ghost use Rattle.header.specs.Header.{header_answer, header_in, header_by};
@@ -30,7 +32,7 @@ const NO_LIST: TaggedList = TaggedList {
 };
 
 // What a request's header says. The principal is empty from 1.2 on; `body` is where the body begins.
-#[derive(Drop)]
+#[derive(Clone, Copy)]
 pub struct RequestHeader {
     pub minor: u8,
     pub order: Order,
@@ -44,7 +46,7 @@ pub struct RequestHeader {
 }
 
 // What a reply's header says.
-#[derive(Drop)]
+#[derive(Clone, Copy)]
 pub struct ReplyHeader {
     pub minor: u8,
     pub order: Order,
@@ -55,7 +57,7 @@ pub struct ReplyHeader {
 }
 
 // What the reading of a header answers.
-#[derive(Drop)]
+#[derive(Clone, Copy)]
 pub enum HeaderAnswer {
     Called(RequestHeader),
     Answered(ReplyHeader),
@@ -63,7 +65,7 @@ pub enum HeaderAnswer {
 }
 
 // A context's id or a profile's tag, and its octets.
-#[derive(Drop)]
+#[derive(Clone, Copy)]
 pub enum NumberedAnswer {
     Found { tag: u64, octets: Extent },
     Refused(Refusal),

@@ -1,4 +1,6 @@
 // All octets of a message before its body, written back: gaps and reserved octets zero; 76 where the output is too short.
+#![tactic(auto)]
+
 ghost use Rattle.std.specs.Prelude.{◌≡◌, length};
 ghost use Rattle.header_head.specs.Head.{head_answer, head_after};
 ghost use Rattle.header_head.specs.Inner.{WritesHead};
@@ -17,7 +19,7 @@ const FRAME: Extent = Extent {
 };
 
 // How many octets were written, or the refusal.
-#[derive(Drop)]
+#[derive(Clone, Copy)]
 pub enum HeadAnswer {
     Written(usize),
     Refused(Refusal),

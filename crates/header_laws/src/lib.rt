@@ -1,1 +1,2 @@
 // What was written back of a Request or Reply header reads again: definitions and theorems, no code.
+#![tactic(auto)]

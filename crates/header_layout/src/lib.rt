@@ -1,4 +1,6 @@
 // The parts of a Request or Reply header in the order of its octets, by message type and version.
+#![tactic(auto)]
+
 ghost use Rattle.std.specs.Prelude.{◌≡◌};
 ghost use Rattle.header_layout.specs.Layout.{early_request, late_request, early_reply, late_reply, layout_of, part_number};
 
@@ -8,7 +10,7 @@ pub const REQUEST: u8 = 0;
 pub const REPLY: u8 = 1;
 
 // A part of a header. The reserved octets are none in 1.0.
-#[derive(Drop)]
+#[derive(Clone, Copy)]
 pub enum HeaderPart {
     Contexts,
     Id,
@@ -22,7 +24,7 @@ pub enum HeaderPart {
 }
 
 // The part of a number, or that there are no more.
-#[derive(Drop)]
+#[derive(Clone, Copy)]
 pub enum PartNumber {
     Is(HeaderPart),
     NoMore,

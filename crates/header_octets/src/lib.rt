@@ -1,4 +1,6 @@
 // The target, the operation, the principal, a context and a profile of a message's header, each as the caller's own octets.
+#![tactic(auto)]
+
 ghost use Rattle.std.specs.Prelude.{◌≡◌};
 ghost use Rattle.cdr_fields.specs.Extents.{PartOf};
 ghost use Rattle.header_octets.specs.Octets.{target_part, target_extent, operation_extent, principal_extent, context_extent, profile_extent};

@@ -1,5 +1,7 @@
 // The parts of a Request or Reply header that have rules of their own: response, status, texts, target, and the place of the body. Indices are
 // those of the message, its first octet 0. Every function answers for any octets and index.
+#![tactic(auto)]
+
 ghost use Rattle.std.specs.Prelude.{◌≡◌, ◌≤◌};
 ghost use Rattle.header_parts.specs.Parts.{header_refusal_number, response_at, status_at, header_text_at, body_place};
 ghost use Rattle.header_parts.specs.Targets.{key_target, profile_target, type_id_then, reference_target, target_at};
@@ -8,7 +10,7 @@ use cdr::{Index, Order, Size};
 use cdr_fields::{CountedAt, Extent, Field, StringAt, Tagged, TaggedList, TaggedListAt};
 
 // Why a header is refused, or a part of it is not there, or it is not written back.
-#[derive(Drop)]
+#[derive(Clone, Copy)]
 pub enum Refusal {
     TooLong,
     Frame(frame::Refusal),
@@ -43,21 +45,21 @@ impl Refusal {
 }
 
 // A number, and the index after it.
-#[derive(Drop)]
+#[derive(Clone, Copy)]
 pub enum NumberField {
     Number { value: u64, next: Index },
     Refused(Refusal),
 }
 
 // A text without its final zero, and the index after that zero.
-#[derive(Drop)]
+#[derive(Clone, Copy)]
 pub enum TextPart {
     Text { text: Extent, next: Index },
     Refused(Refusal),
 }
 
 // What a request is addressed to: a key, a profile, or a reference with the index of one of its profiles, which is not compared with their count.
-#[derive(Drop)]
+#[derive(Clone, Copy)]
 pub enum TargetAddress {
     Key(Extent),
     Profile {
@@ -72,14 +74,14 @@ pub enum TargetAddress {
 }
 
 // A target, and the index after it.
-#[derive(Drop)]
+#[derive(Clone, Copy)]
 pub enum TargetPart {
     To { target: TargetAddress, next: Index },
     Refused(Refusal),
 }
 
 // Where the body begins.
-#[derive(Drop)]
+#[derive(Clone, Copy)]
 pub enum BodyPart {
     From(usize),
     Refused(Refusal),

@@ -1,4 +1,6 @@
 // Parts of a header that stand one behind the other in every version, read together.
+#![tactic(auto)]
+
 ghost use Rattle.std.specs.Prelude.{◌≡◌};
 ghost use Rattle.header_reading.specs.Groups.{ReadsCall, ReadsOutcome, ReadsKeyAddress, ReadsAddress};
 
@@ -8,21 +10,21 @@ use cdr_text::Run;
 use header_parts::{NumberField, Refusal, TargetAddress, TargetPart, TextPart};
 
 // The request id and the response, and the index after the reserved octets.
-#[derive(Drop)]
+#[derive(Clone, Copy)]
 pub enum CallPart {
     Call { id: u64, response: u64, next: Index },
     Refused(Refusal),
 }
 
 // The request id and the status of a reply, and the index after them.
-#[derive(Drop)]
+#[derive(Clone, Copy)]
 pub enum OutcomePart {
     Outcome { id: u64, status: u64, next: Index },
     Refused(Refusal),
 }
 
 // The target and the operation, and the index after them.
-#[derive(Drop)]
+#[derive(Clone, Copy)]
 pub enum AddressPart {
     Address {
         target: TargetAddress,

@@ -1,4 +1,6 @@
 // Lines of hexadecimal: digits of either case to octets, and octets to upper-case digits.
+#![tactic(auto)]
+
 ghost use Rattle.std.specs.Prelude.{true, ◌≡◌, ◌*◌, ◌/◌, ◌≤◌, ◌<◌, length};
 ghost use Rattle.std.proofs.lemmas.List.Edits.{sets};
 ghost use Rattle.hexline.specs.Digit.{is_digit, digit_value, upper_digit};
@@ -9,7 +11,7 @@ ghost use Rattle.hexline.specs.Encoding.{octet_digits, encoded_number, Encodes};
 pub const LINE_LIMIT: usize = 8192;
 
 // What decoding gives: the number of octets written, or why nothing was.
-#[derive(Drop)]
+#[derive(Clone, Copy)]
 pub enum Decoded {
     Octets(usize),
     TooLong,
@@ -33,7 +35,7 @@ impl Decoded {
 }
 
 // What encoding octets gives: the number of digits written, or that there was no room.
-#[derive(Drop)]
+#[derive(Clone, Copy)]
 pub enum Encoded {
     Digits(usize),
     NoRoom,

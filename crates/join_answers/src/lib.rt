@@ -1,9 +1,11 @@
 // The answers to a line of a recording: 0 to 3, and the refusals 10 and 12 to 28.
+#![tactic(auto)]
+
 ghost use Rattle.std.specs.Prelude.{◌≡◌};
 ghost use Rattle.join_answers.specs.Answers.{join_refusal_number, answer_number, output_in};
 
 // A refusal: a row of the frame header's table, or a rule of joining.
-#[derive(Drop)]
+#[derive(Clone, Copy)]
 pub enum Refusal {
     Frame(frame::Refusal),
     IdOpen,
@@ -34,7 +36,7 @@ impl Refusal {
 }
 
 // The answer to a line, with the number of octets of the message that it writes.
-#[derive(Drop)]
+#[derive(Clone, Copy)]
 pub enum Answer {
     Whole(usize),
     Held,
@@ -72,7 +74,7 @@ impl Answer {
 }
 
 // The octets of the message that an answer writes, if it writes one.
-#[derive(Drop)]
+#[derive(Clone, Copy)]
 pub enum Output {
     Message(usize),
     Nothing,

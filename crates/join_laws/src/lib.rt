@@ -1,1 +1,2 @@
 // Joining over the whole sequence of lines: definitions and theorems, no code.
+#![tactic(auto)]

@@ -1,4 +1,6 @@
 // The joined message: the octets held of it and a last fragment's body, with its header corrected.
+#![tactic(auto)]
+
 ghost use Rattle.std.specs.Prelude.{◌≡◌, ◌-◌, ◌≤◌, length, set};
 ghost use Rattle.std.proofs.lemmas.List.Edits.{sets};
 ghost use Rattle.cdr.specs.Number.{octets_of};
@@ -11,7 +13,7 @@ use cdr_write::Written;
 
 // What writing a joined message gives: its octets; or that it does not fit, or that its first octets are no header, and
 // nothing was written.
-#[derive(Drop)]
+#[derive(Clone, Copy)]
 pub enum Assembled {
     Message(usize),
     NoRoom,

@@ -1,4 +1,6 @@
 // The record of a recording: places for open messages.
+#![tactic(auto)]
+
 ghost use Rattle.std.specs.Prelude.{◌≡◌, ◌<◌};
 ghost use Rattle.join_places.specs.Places.{places_count, is_at, is_open_with, place_of_id, lowest_free, open_count, fresh_record};
 ghost use Rattle.join_places.specs.Places.{both_open, open_before, id_open_twice, length_wrong, some_length_wrong, bad_record};
@@ -8,7 +10,7 @@ pub const PLACES_COUNT: usize = 4;
 
 // Of each place its open message's request id and length, and whether there is one.
 #[repr(C)]
-#[derive(Drop)]
+#[derive(Clone, Copy)]
 pub struct Record {
     pub ids: [u32; PLACES_COUNT],
     pub lengths: [usize; PLACES_COUNT],
@@ -29,7 +31,7 @@ impl Record {
 }
 
 // One of the places, or none of them.
-#[derive(Drop)]
+#[derive(Clone, Copy)]
 pub enum Found {
     At(usize),
     Nowhere,

@@ -1,4 +1,6 @@
 // What a line does, by the record of the messages that are open: the decision alone, refusal by refusal in 01's order. Nothing is written.
+#![tactic(auto)]
+
 ghost use Rattle.std.specs.Prelude.{◌≡◌, length};
 ghost use Rattle.frame.specs.declared.Frame.TheVariants.{Accepted};
 ghost use Rattle.frame.specs.Frames.{frame_of};
@@ -15,7 +17,7 @@ pub use message::ID_END;
 
 // The message passes as it is; a place is opened for a request id; lengthened by a fragment; joined and freed by its last one; freed by a
 // cancel; or the line is refused.
-#[derive(Drop)]
+#[derive(Clone, Copy)]
 pub enum LineStep {
     Passes,
     Opens { place: usize, id: u32 },

@@ -1,4 +1,6 @@
 // Joining of 1.2 fragments: what each line of a recording is answered, by the record of the messages that are open.
+#![tactic(auto)]
+
 ghost use Rattle.std.specs.Prelude.{◌≡◌, List, ℕ, ◌≤◌, ◌<◌, length};
 ghost use Rattle.join_places.specs.Places.{places_count, place_size};
 ghost use Rattle.join_steps.specs.Steps.{Passes, Opens, Extends, Completes, Frees, length_after};
@@ -13,7 +15,7 @@ use join_steps::LineStep;
 mod change;
 
 // The answer, and the record after the line.
-#[derive(Drop)]
+#[derive(Clone, Copy)]
 pub struct Outcome {
     pub answer: Answer,
     pub after: Record,

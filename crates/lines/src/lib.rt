@@ -1,4 +1,6 @@
 // The lines of a recording that is read in blocks: a line of any length is taken in the memory of one lent buffer.
+#![tactic(auto)]
+
 ghost use Rattle.std.specs.Prelude.{◌≡◌, ◌+◌, ◌≤◌, min, length, drop};
 ghost use Rattle.lines.specs.Lines.{up_to_lf, has_lf, LineTaken};
 ghost use Rattle.lines.specs.Inner.{SameLF};
@@ -10,7 +12,7 @@ const RUN: usize = 64;
 
 // Where reading a line stands: the next character of the block, the characters of the line kept so far, and whether the
 // line's LF was met.
-#[derive(Drop)]
+#[derive(Clone, Copy)]
 pub struct Taken {
     pub next: usize,
     pub kept: usize,

@@ -1,5 +1,7 @@
 // An IIOP profile body: order, version, host, port, key, components and extra octets, or 01's refusal, 42 and 60 to 64; and a component by
 // number, 69.
+#![tactic(auto)]
+
 ghost use Rattle.std.specs.Prelude.{◌≡◌};
 ghost use Rattle.profile.specs.Profile.{profile_number, component_number, profile_of, component_of, component_then};
 ghost use Rattle.profile.specs.Inner.{version_then, host_then, port_then, key_then, list_then};
@@ -16,7 +18,7 @@ use list::Components;
 const LIMIT: usize = cdr::OCTETS_LIMIT;
 
 // What a body's first octets say.
-#[derive(Drop)]
+#[derive(Clone, Copy)]
 pub struct Head {
     pub order: Order,
     pub major: u8,
@@ -25,7 +27,7 @@ pub struct Head {
 
 // What a body says. The host is without its final zero; `first` is the index after the components' count, in 1.0 after the key; `extra` is how
 // many octets stand after the last component.
-#[derive(Drop)]
+#[derive(Clone, Copy)]
 pub struct Profile {
     pub head: Head,
     pub host: Extent,
@@ -37,7 +39,7 @@ pub struct Profile {
 }
 
 // What the reading of a body answers.
-#[derive(Drop)]
+#[derive(Clone, Copy)]
 pub enum ProfileAnswer {
     Read(Profile),
     Refused(Refusal),
@@ -56,7 +58,7 @@ impl ProfileAnswer {
 }
 
 // A component of a body: its tag and octets.
-#[derive(Drop)]
+#[derive(Clone, Copy)]
 pub enum ComponentAnswer {
     Found { tag: u64, octets: Extent },
     Refused(Refusal),

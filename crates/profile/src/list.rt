@@ -7,7 +7,7 @@ use cdr_fields::Skipped;
 use profile_parts::{ComponentPart, NumberPart, Refusal};
 
 // The number of components, the first one's index, and the octets after the last.
-#[derive(Drop)]
+#[derive(Clone, Copy)]
 pub(crate) enum Components {
     Listed {
         count: u64,

@@ -1,4 +1,6 @@
 // The host, the key and a component of a profile body, each as the caller's own octets.
+#![tactic(auto)]
+
 ghost use Rattle.cdr_fields.specs.Extents.{PartOf};
 ghost use Rattle.profile_octets.specs.Octets.{host_extent, key_extent, component_extent};
 

@@ -1,4 +1,6 @@
 // The parts of an IIOP profile body, an encapsulation: each is read where it stands. Every function answers for any octets and index.
+#![tactic(auto)]
+
 ghost use Rattle.std.specs.Prelude.{◌≡◌};
 ghost use Rattle.profile_parts.specs.Parts.{profile_refusal_number, order_part_at, minor_part_at, version_at, host_at};
 ghost use Rattle.profile_parts.specs.Parts.{number_part_at, port_at, key_at, component_count_at, component_at};
@@ -8,7 +10,7 @@ use cdr_fields::{Counted, Extent, Field, StringAt, Tagged};
 use cdr_text::Run;
 
 // Why a profile body is refused, or a component of it is not there.
-#[derive(Drop)]
+#[derive(Clone, Copy)]
 pub enum Refusal {
     TooLong,
     Ends,
@@ -37,35 +39,35 @@ impl Refusal {
 }
 
 // The byte order, and the index after its octet.
-#[derive(Drop)]
+#[derive(Clone, Copy)]
 pub enum OrderPart {
     InOrder { order: Order, next: Index },
     Refused(Refusal),
 }
 
 // The version, and the index after it.
-#[derive(Drop)]
+#[derive(Clone, Copy)]
 pub enum VersionPart {
     Version { major: u8, minor: u8, next: Index },
     Refused(Refusal),
 }
 
 // Octets of the body, the host's without its final zero or the key's, and the index after them.
-#[derive(Drop)]
+#[derive(Clone, Copy)]
 pub enum OctetsPart {
     Span { octets: Extent, next: Index },
     Refused(Refusal),
 }
 
 // A number, the port or the count of components, and the index after it.
-#[derive(Drop)]
+#[derive(Clone, Copy)]
 pub enum NumberPart {
     Number { value: u64, next: Index },
     Refused(Refusal),
 }
 
 // A component's tag and octets, and the index after it.
-#[derive(Drop)]
+#[derive(Clone, Copy)]
 pub enum ComponentPart {
     Component {
         tag: u64,

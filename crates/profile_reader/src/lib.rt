@@ -1,5 +1,7 @@
 // A reader of a profile body: a struct that holds the body's octets, an index in them and their byte order, and a thin call for each part in
 // turn. Each takes the struct apart and leaves the work to `profile_parts`. 42, 64 and the extra octets are of the whole body: `profile::read` gives them.
+#![tactic(auto)]
+
 ghost use Rattle.std.specs.Prelude.{◌≡◌};
 ghost use Rattle.cdr.specs.Align.{index_of};
 ghost use Rattle.cdr.specs.declared.Order.TheVariants.{Big};
@@ -9,7 +11,7 @@ use cdr::{Index, Order};
 use profile_parts::{ComponentPart, NumberPart, OctetsPart, OrderPart, VersionPart};
 
 // A body's octets, the index of the part that is read next, and the byte order of its numbers.
-#[derive(Drop)]
+#[derive(Clone, Copy)]
 pub struct Reader<'a> {
     pub octets: &'a [u8],
     pub at: Index,

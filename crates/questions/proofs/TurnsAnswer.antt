@@ -19,19 +19,21 @@ use Rattle.cdr_write.proofs.BufferHolds.{take-stored, drop-stored}
 use Rattle.questions.specs.declared.Progress.{Progress}
 use Rattle.ask_octets.specs.Octets.{line_most}
 use Rattle.ask_answers.specs.Questions.{question_of}
+use Rattle.ask_answers.specs.Replies.{answer_line}
 use Rattle.ask_room.specs.Room.{answer_room}
-use Rattle.ask_answers.specs.Answers.{table_for}
-use Rattle.questions.specs.Replies.{line_reply, LineReplied}
+use Rattle.ask_answers.specs.Answers.{table_for, LineAnswered}
 use Rattle.questions.specs.Blocks.{AskWork, ask_turn, ask_turns, ask_work, ask_start, ask_block, answers_of, answers_after, QuestionsAnswered}
 use Rattle.questions.specs.Turns.{Goes, Onto, Turned}
+use Rattle.ask_answers.proofs.WordsAnswered.{answer-most}
 use Rattle.ask_room.proofs.RoomTested.{roomy}
-use Rattle.questions.proofs.LinesReplied.{reply-most, reply-same, reply-roomed}
+use Rattle.ask_answers.proofs.LineByRoom.{line-roomed}
+use Rattle.ask_answers.proofs.AnswersCut.{answer-same}
 use Rattle.questions.proofs.TurnsOfBlock.{GoesWith, begun-is, answered-is, Going, going_done}
 
 -- the answers of lines see no more of the first than is kept
 answers-first : (n : ℕ) → line_most < n → (a b : List ℕ) (rest : List (List ℕ)) → take n a ≡ take n b → answers_of (a ∷ rest) ≡ answers_of (b ∷ rest)
 unfolding answers_of
-answers-first n h a b rest e = rw (reply-same n h a b e)
+answers-first n h a b rest e = rw (answer-same n h a b e)
 
 -- a turn
 module _ (block : List ℕ) (at : Progress) (line out table : List ℕ) (g : Goes (length block) (length line) (length out) (length table) at)
@@ -78,9 +80,9 @@ module _ (block : List ℕ) (at : Progress) (line out table : List ℕ) (g : Goe
     most : t.next ≤ length block
     most = rw next-is (next-most block at.next (length line) at.kept)
 
-    answer-is : line_reply whole ≡ line_reply (take t.kept l)
+    answer-is : answer_line whole ≡ answer_line (take t.kept l)
     answer-is =
-        reply-same (length kept) enough whole (take t.kept l)
+        answer-same (length kept) enough whole (take t.kept l)
         (sym (take-take (length kept) (length kept) whole (omega arith)) ∙ ap (take (length kept)) (sym held ∙ sym taken-held))
 
     abbrev before : AskWork
@@ -111,10 +113,10 @@ module _ (block : List ℕ) (at : Progress) (line out table : List ℕ) (g : Goe
 
     module _ (e : t.ended ≡ true) where
       abbrev text : List ℕ
-      text = line_reply (take t.kept l)
+      text = answer_line (take t.kept l)
 
       fits : at.filled + length text ≤ length out
-      fits = omega (arith, reply-most (take t.kept l), g.room)
+      fits = omega (arith, answer-most (take t.kept l), g.room)
 
       text-first : (rest : List ℕ)
           → answers_after at.kept line (drop at.next block ++ rest) ≡ text ++ answers_of (lines_of (drop t.next block ++ rest))
@@ -144,7 +146,7 @@ module _ (block : List ℕ) (at : Progress) (line out table : List ℕ) (g : Goe
       pub has_room : true ≡ answer_room (length table) (length out) at.filled
       has_room = roomy (length table) (length out) at.filled g.tabled g.room
 
-      module _ (r : Written) (out_last table_last : List ℕ) (s : LineReplied (take t.kept l) out table at.filled r out_last table_last) where
+      module _ (r : Written) (out_last table_last : List ℕ) (s : LineAnswered (take t.kept l) out table at.filled r out_last table_last) where
         upto : r ≡ Upto (at.filled + length text)
         upto = s.written ∙ rw (← has_room)
 
@@ -167,7 +169,7 @@ turn-of block w g =
     let k : LineTaken block w.at.next w.line w.at.kept t l = record { answered = refl; filled = refl } in
     by-test t.ended
     (λ e.
-    let s = reply-roomed (take t.kept l) w.out w.table w.at.filled (has_room block w.at w.line w.out w.table g t l k e) in
+    let s = line-roomed (take t.kept l) w.out w.table w.at.filled (has_room block w.at w.line w.out w.table g t l k e) in
     let z = turn-ended block w.at w.line w.out w.table g t l k e _ _ _ s _ refl in
     subst (Turned block w) z.is z)
     (λ e. let z = turn-begun block w.at w.line w.out w.table g t l k e in subst (Turned block w) z.is z)

@@ -12,9 +12,9 @@ use Rattle.choices.specs.Branch.{choose}
 use Rattle.lines.specs.declared.Taken.{Taken}
 use Rattle.lines.specs.Lines.{taken_of, kept_into, LineTaken}
 use Rattle.ask_answers.specs.Questions.{question_of}
+use Rattle.ask_answers.specs.Replies.{answer_line}
 use Rattle.ask_room.specs.Room.{answer_room}
 use Rattle.ask_answers.specs.Answers.{table_for}
-use Rattle.questions.specs.Replies.{line_reply}
 use Rattle.ask_room.proofs.RoomTested.{roomy, table-enough, output-enough}
 use Rattle.questions.specs.declared.Progress.{Progress}
 use Rattle.questions.specs.Blocks.{ask_room, AskWork, ask_goes_on, ask_answered, ask_begun, ask_turn, ask_turns, ask_work}
@@ -90,8 +90,8 @@ module _ (block : List ℕ) (w : AskWork) (t : Taken) (l : List ℕ) (k : LineTa
       (ap (λ (x : Taken). ask_answered (take x.kept l) x.next l w) k.answered
       ∙ ap (λ (x : List ℕ). ask_answered (take taken.kept x) taken.next x w) k.filled)
 
-  pub answered-is : t.ended ≡ true → (end : ℕ) (out_last table_last : List ℕ) → end ≡ w.at.filled + length (line_reply (take t.kept l))
-      → out_last ≡ sets w.out w.at.filled (line_reply (take t.kept l)) → table_last ≡ table_for (question_of (take t.kept l)) w.table
+  pub answered-is : t.ended ≡ true → (end : ℕ) (out_last table_last : List ℕ) → end ≡ w.at.filled + length (answer_line (take t.kept l))
+      → out_last ≡ sets w.out w.at.filled (answer_line (take t.kept l)) → table_last ≡ table_for (question_of (take t.kept l)) w.table
       → ask_work (record { kept = 0; next = t.next; filled = end }) l out_last table_last ≡ ask_turn block w
   answered-is e end out_last table_last f o b = rw (f, o, b) (answering-is e)
 

@@ -21,9 +21,9 @@ use Rattle.lines.specs.Lines.{lines_from, taken_of, kept_into}
 use Rattle.questions.specs.declared.Progress.{Progress}
 use Rattle.ask_octets.specs.Octets.{line_most}
 use Rattle.ask_answers.specs.Questions.{question_of}
+use Rattle.ask_answers.specs.Replies.{answer_line}
 use Rattle.ask_room.specs.Room.{table_room, answer_most, answer_room}
 use Rattle.ask_answers.specs.Answers.{table_for}
-use Rattle.questions.specs.Replies.{line_reply}
 
 abbrev pub ask_room : ℕ
 ask_room = line_most + 1
@@ -42,9 +42,9 @@ ask_goes_on block w =
 abbrev pub ask_answered : (asked : List ℕ) (next : ℕ) (line : List ℕ) → AskWork → AskWork
 ask_answered asked next line w =
     record {
-      at = record { kept = 0; next = next; filled = w.at.filled + length (line_reply asked) };
+      at = record { kept = 0; next = next; filled = w.at.filled + length (answer_line asked) };
       line = line;
-      out = sets w.out w.at.filled (line_reply asked);
+      out = sets w.out w.at.filled (answer_line asked);
       table = table_for (question_of asked) w.table;
     }
 
@@ -74,7 +74,7 @@ ask_block block from line out table kept = ask_turns (length block) block (ask_w
 
 unfoldable pub answers_of : List (List ℕ) → List ℕ
 answers_of [] = []
-answers_of (line ∷ rest) = line_reply line ++ answers_of rest
+answers_of (line ∷ rest) = answer_line line ++ answers_of rest
 
 abbrev pub answers_after : ℕ → List ℕ → List ℕ → List ℕ
 answers_after kept line input = answers_of (lines_from (take kept line) input)

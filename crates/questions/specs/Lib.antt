@@ -1,5 +1,4 @@
 -- Questions, one a line, answered block by block.
-pub mod Replies
 pub mod Blocks
 pub mod Calls
 pub mod Turns

@@ -3,7 +3,7 @@ ghost use Rattle.std.specs.Prelude.{◌≡◌, true, false, ◌<◌, min, length
 ghost use Rattle.questions.specs.Blocks.{ask_work};
 ghost use Rattle.questions.specs.Turns.{Goes, Turned};
 
-use crate::{LINE_ROOM, Progress, reply};
+use crate::{LINE_ROOM, Progress};
 use cdr_write::Written;
 
 // Whether characters are left in the block, and there is room for any line, its items and its answer.
@@ -41,7 +41,7 @@ pub(crate) fn turn(
             filled,
         };
     }
-    let Written::Upto(end) = reply::reply_line(&line[..kept], out, table, filled) else {
+    let Written::Upto(end) = ask_answers::answer_line(&line[..kept], out, table, filled) else {
         return at;
     };
     Progress {

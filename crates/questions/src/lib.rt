@@ -1,16 +1,17 @@
 // Questions, one a line, answered block by block.
+#![tactic(auto)]
+
 ghost use Rattle.questions.specs.Blocks.{QuestionsAnswered};
 
-use ask_octets::LINE_LIMIT;
+use ask_answers::LINE_LIMIT;
 
 mod block;
-mod reply;
 
 // The characters that are kept of a line: one more than a line may have tells an over-long one.
 pub const LINE_ROOM: usize = LINE_LIMIT + 1;
 
 // Where a call stands: the characters kept of the line begun, the next character of the block, and the characters of output filled.
-#[derive(Drop)]
+#[derive(Clone, Copy)]
 pub struct Progress {
     pub kept: usize,
     pub next: usize,

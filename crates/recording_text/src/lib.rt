@@ -1,4 +1,6 @@
 // The listing of a recording: what the program writes for its lines, answered block by block.
+#![tactic(auto)]
+
 ghost use Rattle.recording_text.specs.Blocks.{BlockAnswered, EndAnswered};
 
 use cdr_write::Written;
@@ -18,7 +20,7 @@ pub const LINE_ROOM: usize = hexline::LINE_LIMIT + 1;
 pub const CLOSING: usize = 46;
 
 // Where a call stands: the recording's state, the next character of the block, and the characters of output filled.
-#[derive(Drop)]
+#[derive(Clone, Copy)]
 pub struct Progress {
     pub state: State,
     pub next: usize,

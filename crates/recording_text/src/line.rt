@@ -16,7 +16,7 @@ const OCTETS: usize = frame::MESSAGE_LIMIT;
 const MESSAGE: usize = join_places::PLACE_SIZE;
 
 // The record after a line, and where the line's text ends.
-#[derive(Drop)]
+#[derive(Clone, Copy)]
 pub(crate) struct Listed {
     pub(crate) after: Record,
     pub(crate) end: usize,

@@ -1,4 +1,5 @@
 // The numbers that papers 01 and 02 give to refusals, by name.
+#![tactic(auto)]
 
 // A line is over 8,192 characters, or a line's message over 4,096 octets.
 pub const LINE_TOO_LONG: u32 = 10;

@@ -15,7 +15,8 @@
 --                and kinds without parameters are null, void and primitives
 --   RoomForItems  a table with room for as many items as a value has octets
 --   Rewrites     an answer and an output that are those of a reading
-use Rattle.choices.specs.{◌≡◌, Bool, cond, ◌||◌, List, [], ◌++◌, ℕ, zero, suc, ◌+◌, ◌*◌, ◌≤◌, ◌<◌, eqb, length, get_or, take, drop}
+use Rattle.std.specs.Prelude.{◌≡◌, ◌||◌, ◌++◌, ◌+◌, ◌*◌, ◌≤◌, ◌<◌}
+use Rattle.choices.specs.{Bool, cond, List, [], ℕ, zero, suc, eqb, length, get_or, take, drop}
 use Rattle.choices.specs.{replicate}
 use Rattle.cdr.specs.{Index, Size, One, Four, octets, gap, behind_gap, octets_of, octets_limit}
 use Rattle.type_kinds.specs.{Plain, Inner, Leaf, Forms.form_of}

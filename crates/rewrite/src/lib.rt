@@ -1,5 +1,7 @@
 // Rewriting a value: the same value in a chosen order and from a chosen index on, into lent output. 42 comes first, then the type's refusal,
 // then the value's, then 57.
+#![tactic(auto)]
+
 ghost use Rattle.std.specs.Prelude.{◌≡◌, length};
 ghost use Rattle.value_meaning.specs.Sinks.{source};
 ghost use Rattle.value_meaning.specs.Visit.{checked};

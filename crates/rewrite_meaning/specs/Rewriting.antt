@@ -7,7 +7,8 @@
 --   rewritten       the octets of the reading under the type that octets give
 --   written_by       lent output that an answer fills or leaves
 --   output_after     "lent memory that an answer doesn't fill keeps its contents": the octets from the output's start, or as it was
-use Rattle.choices.specs.{ℕ, List, [], ◌∷◌, ltb, eqb, length, sets, choose}
+use Rattle.std.specs.Prelude.{◌∷◌}
+use Rattle.choices.specs.{ℕ, List, [], ltb, eqb, length, sets, choose}
 use Rattle.cdr.specs.{Order}
 use Rattle.value_meaning.specs.{Source, St, Log, any_room, Value.reading_of, Value.under_type}
 use Rattle.rewrite_meaning.specs.{declared.RewriteAnswer.RewriteAnswer, Written.Target, Written.written}

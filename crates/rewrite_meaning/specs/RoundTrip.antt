@@ -8,7 +8,8 @@
 --                   there is room for them; and to any order and index it gives what the value gives
 --   ReadsBack       the result of every accepted rewriting, if it is not too long, reads back where there is room for the value's items
 --   RewritesBack    and is rewritten so
-use Rattle.choices.specs.{ℕ, ◌≤◌, ◌≡◌, List, map, length}
+use Rattle.std.specs.Prelude.{◌≤◌, ◌≡◌}
+use Rattle.choices.specs.{ℕ, List, map, length}
 use Rattle.cdr.specs.{Order, octets_limit}
 use Rattle.value_meaning.specs.{Source, source, any_room, room_for, declared.ValueAnswer.TheVariants.Accepted, Value.reading_of}
 use Rattle.value_meaning.specs.{Value.value_answer}

@@ -6,7 +6,8 @@
 --   gaps_zeroed     the same for the gaps before pieces, one after the other
 --   used_zeroed     "the used octets with gaps zeroed"
 --   unplaced       an item without its place: "the same items except places"
-use Rattle.choices.specs.{ℕ, ◌-◌, List, [], ◌∷◌, take, replicate, sets}
+use Rattle.std.specs.Prelude.{◌-◌, ◌∷◌}
+use Rattle.choices.specs.{ℕ, List, [], take, replicate, sets}
 use Rattle.cdr.specs.{Order, Big}
 pub use Rattle.cdr_write.specs.Pieces.{Target, target, bare}
 unfoldable pub use Rattle.cdr_write.specs.Pieces.{wrote, writes}

@@ -1,9 +1,11 @@
 // What rewriting a value is, and the round trip: definitions and theorems. There is no code here but the answer.
+#![tactic(auto)]
+
 ghost use Rattle.std.specs.Prelude.{◌≡◌};
 ghost use Rattle.rewrite_meaning.specs.Rewriting.{rewrite_number, written_count};
 
 // What rewriting a value answers: octets written; or 01's number of the refusal.
-#[derive(Drop)]
+#[derive(Clone, Copy)]
 pub enum RewriteAnswer {
     Accepted(usize),
     Refused(u32),

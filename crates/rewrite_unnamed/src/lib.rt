@@ -1,4 +1,6 @@
 // Rewriting a value where no byte order is named.
+#![tactic(auto)]
+
 ghost use Rattle.std.specs.Prelude.{◌≡◌, length};
 ghost use Rattle.value_meaning.specs.Sinks.{source};
 ghost use Rattle.rewrite_meaning.specs.Written.{target, unnamed_order};

@@ -3,8 +3,8 @@
 --   c_answered         what the definitions answer
 --   c_samples          the table
 --   c-interface-hold  the statement
-use Rattle.std.specs.Prelude.{T}
-use Rattle.choices.specs.{ℕ, List, [], ◌∷◌, Bool, true, false, length, replicate}
+use Rattle.std.specs.Prelude.{T, ◌∷◌}
+use Rattle.choices.specs.{ℕ, List, [], Bool, true, false, length, replicate}
 use Rattle.cdr.specs.{index_of}
 use Rattle.hexline.specs.Decoding.{decoded_of}
 use Rattle.hexline.specs.Encoding.{encoded_of}

@@ -6,15 +6,16 @@
 --   full              a record with four open messages
 --   frame_samples      the table
 --   frames-hold       the statement
-use Rattle.std.specs.Prelude.{T}
-use Rattle.choices.specs.{ℕ, List, [], ◌∷◌, true, replicate}
+use Rattle.std.specs.Prelude.{T, ◌∷◌}
+use Rattle.choices.specs.{ℕ, List, [], true, replicate}
 use Rattle.version.specs.Versions.{major_exists, minor_exists, flags_allowed, type_exists, body_starts_with_id, reads_fragments}
 use Rattle.frame.specs.Messages.{version_exists, is_request_or_reply, is_bare, has_request_id}
 use Rattle.frame.specs.Frames.{size_allowed, fragment_allowed, eights_allowed, sized_of, message_of, frame_of, frame_numbers}
 use Rattle.join_places.specs.declared.Record.{Record}
 use Rattle.join_places.specs.declared.Found.{Found}
 use Rattle.join_places.specs.declared.Found.TheVariants.{At, Nowhere}
-use Rattle.join_places.specs.Places.{fresh_record, is_open, id_of, length_of, sum_over, first_with, is_open_with, place_of_id, is_at, lowest_free, open_count, closed}
+use Rattle.join_places.specs.Places.{fresh_record, is_open, id_of, length_of, sum_over, first_with, is_open_with, place_of_id, is_at}
+use Rattle.join_places.specs.Places.{lowest_free, open_count, closed}
 use Rattle.samples.specs.Tables.{paper, bit, Sample, sample, all_answered}
 use Rattle.samples.specs.Numbers.{number_answered}
 

@@ -6,8 +6,8 @@
 --   early              a 1.0 request: one context, key `KY`, operation `ping`, principal `P`, a body of two octets
 --   header_samples      the table
 --   headers-hold       the statement
-use Rattle.std.specs.Prelude.{T}
-use Rattle.choices.specs.{ℕ, List, [], ◌∷◌, ◌++◌, replicate}
+use Rattle.std.specs.Prelude.{T, ◌∷◌, ◌++◌}
+use Rattle.choices.specs.{ℕ, List, [], replicate}
 use Rattle.version.specs.Versions.{reserved_octets, response_allowed, status_exists, body_in_eights}
 use Rattle.cdr_fields.specs.Extents.{counted_at}
 use Rattle.cdr_fields.specs.Tagged.{tagged_list_at}
@@ -37,9 +37,10 @@ pub data HeaderQuestion : Type 0 where
   written : List ℕ → ℕ → HeaderQuestion
 
 unfoldable pub header_answered : HeaderQuestion → List ℕ
-unfolding profile_answered message_of reserved_octets response_allowed status_exists body_in_eights counted_at tagged_list_at layout_of response_at status_at header_text_at
-    body_place key_target profile_target type_id_then reference_target target_at part_read parts_read header_by header_in header_answer numbered_tag context_of
-    profile_of_target wrote writes list_pieces part_pieces head_pieces header_octets head_written head_answer head_after
+unfolding profile_answered message_of reserved_octets response_allowed status_exists body_in_eights counted_at tagged_list_at layout_of response_at
+    status_at header_text_at body_place key_target profile_target type_id_then reference_target target_at part_read parts_read header_by header_in
+    header_answer numbered_tag context_of profile_of_target wrote writes list_pieces part_pieces head_pieces header_octets head_written head_answer
+    head_after
 header_answered (header v) = header_answer_numbers (header_answer v)
 header_answered (context v n) = numbered_numbers (context_of v n)
 header_answered (profile v n) = numbered_numbers (profile_of_target v n)

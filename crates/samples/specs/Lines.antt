@@ -5,8 +5,8 @@
 --   line_answered      what the definitions answer
 --   line_samples       the table; its listing is the same whatever memory is lent
 --   lines-hold        the statement
-use Rattle.std.specs.Prelude.{T}
-use Rattle.choices.specs.{ℕ, List, [], ◌∷◌, ◌++◌, length, replicate}
+use Rattle.std.specs.Prelude.{T, ◌∷◌, ◌++◌}
+use Rattle.choices.specs.{ℕ, List, [], length, replicate}
 use Rattle.cdr.specs.{Named, Is, NoOrder}
 use Rattle.cdr.specs.Orders.{order_octet}
 use Rattle.hexline.specs.Digit.{is_digit, digit_value, upper_digit}

@@ -8,8 +8,8 @@
 --   number_answered     what the definitions answer
 --   number_samples      the table
 --   numbers-hold       the statement
-use Rattle.std.specs.Prelude.{T}
-use Rattle.choices.specs.{ℕ, List, [], ◌∷◌, ◌++◌, length, replicate}
+use Rattle.std.specs.Prelude.{T, ◌∷◌, ◌++◌}
+use Rattle.choices.specs.{ℕ, List, [], length, replicate}
 use Rattle.choices.specs.Branch.{choose}
 use Rattle.cdr.specs.{Order, Big, Little, Size, Two, Four, index_of, octets, gap, declared.Aligned.Aligned}
 use Rattle.cdr.specs.declared.Aligned.TheVariants.{At, Beyond}

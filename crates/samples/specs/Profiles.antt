@@ -7,8 +7,8 @@
 --   keyless             a big-endian body of 1.1 without host and key octets, and a component of one octet
 --   profile_samples      the table
 --   profiles-hold       the statement
-use Rattle.std.specs.Prelude.{T}
-use Rattle.choices.specs.{ℕ, List, [], ◌∷◌, ◌++◌, replicate}
+use Rattle.std.specs.Prelude.{T, ◌∷◌, ◌++◌}
+use Rattle.choices.specs.{ℕ, List, [], replicate}
 use Rattle.version.specs.Versions.{has_components}
 use Rattle.cdr_fields.specs.Extents.{extent_octets, string_at}
 use Rattle.cdr_fields.specs.Tagged.{tagged_at, skip_tagged, tagged_behind}
@@ -31,8 +31,9 @@ pub data ProfileQuestion : Type 0 where
   octets_of_component : List ℕ → ℕ → ProfileQuestion
 
 unfoldable pub profile_answered : ProfileQuestion → List ℕ
-unfolding frame_answered extent_octets string_at tagged_at skip_tagged tagged_behind has_components order_part_at minor_part_at version_at host_at number_part_at
-    key_at component_at list_from counted_list list_at component_from profile_of host_extent key_extent component_then component_of component_extent
+unfolding frame_answered extent_octets string_at tagged_at skip_tagged tagged_behind has_components order_part_at minor_part_at version_at host_at
+    number_part_at key_at component_at list_from counted_list list_at component_from profile_of host_extent key_extent component_then component_of
+    component_extent
 profile_answered (profile v) = profile_numbers (profile_of v)
 profile_answered (component v number) = component_numbers (component_of v number)
 profile_answered (host v) = extent_octets v (host_extent v)

@@ -8,8 +8,8 @@
 --   abc                  the value `ABC` of an exception's id
 --   rewrite_samples       the table
 --   rewritings-hold      the statement
-use Rattle.std.specs.Prelude.{T}
-use Rattle.choices.specs.{ℕ, List, [], ◌∷◌, ◌++◌, length, replicate}
+use Rattle.std.specs.Prelude.{T, ◌∷◌, ◌++◌}
+use Rattle.choices.specs.{ℕ, List, [], length, replicate}
 use Rattle.cdr.specs.{Big, Little, index_of}
 use Rattle.value_meaning.specs.{Source, source}
 use Rattle.rewrite_meaning.specs.Written.{Target, target, unnamed_order, wrote, writes}

@@ -5,8 +5,8 @@
 --   longs_value        the paper's value of it
 --   paper_samples      the table: what the paper gives, and what follows from it
 --   samples-hold      the statement
-use Rattle.std.specs.Prelude.{T}
-use Rattle.choices.specs.{ℕ, List, [], ◌∷◌, ◌++◌, replicate}
+use Rattle.std.specs.Prelude.{T, ◌∷◌, ◌++◌}
+use Rattle.choices.specs.{ℕ, List, [], replicate}
 use Rattle.cdr.specs.{Big}
 use Rattle.samples.specs.Tables.{paper, Sample, sample, all_answered}
 use Rattle.samples.specs.Frames.{FrameQuestion, frame_answered, frame}

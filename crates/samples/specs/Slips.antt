@@ -6,8 +6,8 @@
 --   around        a union with two equal labels, and between them an indirection that leads before its own encapsulation
 --   slips         the table
 --   slips-hold    the statement
-use Rattle.std.specs.Prelude.{T}
-use Rattle.choices.specs.{ℕ, List, [], ◌∷◌, ◌++◌}
+use Rattle.std.specs.Prelude.{T, ◌∷◌, ◌++◌}
+use Rattle.choices.specs.{ℕ, List, []}
 use Rattle.cdr.specs.{Big}
 use Rattle.samples.specs.Tables.{paper, Sample, sample, all_answered}
 use Rattle.samples.specs.TypeQuestions.{TypeQuestion, type_answered, type_code}

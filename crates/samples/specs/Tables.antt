@@ -5,7 +5,8 @@
 --   sample        the same from its parts
 --   same          whether two lists of numbers are equal
 --   all_answered   whether the definitions give each question of a table its numbers
-use Rattle.choices.specs.{ℕ, List, [], ◌∷◌, Bool, true, false, cond, ◌&&◌, eqb}
+use Rattle.std.specs.Prelude.{◌∷◌, ◌&&◌}
+use Rattle.choices.specs.{ℕ, List, [], Bool, true, false, cond, eqb}
 use Rattle.cdr.specs.{Big, octets_of}
 
 abbrev pub paper : ℕ → ℕ → List ℕ

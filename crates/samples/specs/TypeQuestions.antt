@@ -17,7 +17,8 @@
 --   part_numbers           the number of a refusal, or 0, start, end and order octet of an encapsulation
 --   switch_numbers         the number of a refusal, or 0, default, count and the index after them
 --   type_answered          what the definitions answer
-use Rattle.choices.specs.{ℕ, List, [], ◌∷◌, ◌++◌, get_or}
+use Rattle.std.specs.Prelude.{◌∷◌, ◌++◌}
+use Rattle.choices.specs.{ℕ, List, [], get_or}
 use Rattle.choices.specs.Lists.{any_of}
 use Rattle.cdr.specs.{Order, Size, index_of, octets}
 use Rattle.cdr.specs.Orders.{order_octet}
@@ -48,8 +49,8 @@ use Rattle.type_counts.specs.Counts.{part_of}
 use Rattle.type_fields.specs.{Entry, NoEntry, Enters, Switch, NoSwitch, Cases}
 use Rattle.type_fields.specs.Fields.{below_top, kind_entry, bad_default, switch_step, label_before, label_step}
 use Rattle.type_walk.specs.Walk.{entered, closed_at}
-use Rattle.type_walk.specs.Types.{target_step, indirection_at, name_step, members_at, labels_at, switched_at, discriminant_at, ended_at, composite_at, entered_at}
-use Rattle.type_walk.specs.Types.{type_with, enter_at, type_at, walked_of}
+use Rattle.type_walk.specs.Types.{target_step, indirection_at, name_step, members_at, labels_at, switched_at, discriminant_at, ended_at}
+use Rattle.type_walk.specs.Types.{composite_at, entered_at, type_with, enter_at, type_at, walked_of}
 use Rattle.type_loops.specs.Loops.{closure, any_below, loop_found}
 use Rattle.type_steps.specs.Steps.{steps_of, steps}
 use Rattle.typecode.specs.TypeCode.{type_answer_numbers, loop_last, checked_type}

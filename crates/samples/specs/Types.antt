@@ -6,8 +6,8 @@
 --   headed          the octets of an encapsulation with an empty id, an empty name, and a count
 --   type_samples     the table
 --   types-hold      the statement
-use Rattle.std.specs.Prelude.{T}
-use Rattle.choices.specs.{ℕ, ◌+◌, ◌^◌, List, [], ◌∷◌, ◌++◌}
+use Rattle.std.specs.Prelude.{T, ◌+◌, ◌^◌, ◌∷◌, ◌++◌}
+use Rattle.choices.specs.{ℕ, List, []}
 use Rattle.cdr.specs.{Big, Little, One, Four, Eight, index_of}
 use Rattle.type_kinds.specs.{Plain, Of, Here, There, Member, members_of, place_of, written_at}
 use Rattle.type_parameters.specs.Parameters.{member_fields}

@@ -7,7 +7,8 @@
 --   judged_number      the number of a judgement, 0 for an accepted type
 --   plan_numbers       whether there is a plan, its members, and their kinds
 --   value_answered     what the definitions answer
-use Rattle.choices.specs.{ℕ, List, [], ◌∷◌, ◌++◌, true}
+use Rattle.std.specs.Prelude.{◌∷◌, ◌++◌}
+use Rattle.choices.specs.{ℕ, List, [], true}
 use Rattle.cdr.specs.{Order, Big, index_of, octets}
 use Rattle.type_kinds.specs.{Inert, Inner}
 use Rattle.type_unions.specs.{Shape}

@@ -12,8 +12,8 @@
 --   lone_members     the types of so many members that are listed there
 --   value_samples    the table; what a visit reads that enters nothing is the same in every type
 --   values-hold     the statement
-use Rattle.std.specs.Prelude.{T}
-use Rattle.choices.specs.{ℕ, List, [], ◌∷◌, ◌++◌, true, replicate}
+use Rattle.std.specs.Prelude.{T, ◌∷◌, ◌++◌}
+use Rattle.choices.specs.{ℕ, List, [], true, replicate}
 use Rattle.cdr.specs.{Big, index_of}
 use Rattle.type_kinds.specs.{Inner, NoLabels, Leaf, Text, Objref, Enum, members_of, types_of, place_of}
 use Rattle.type_parameters.specs.Parameters.{member_fields}

@@ -17,7 +17,8 @@
 --   part_from         an encapsulation by its order octet: 33 "above 1"
 --   part_of           "a length, then an order octet": where an encapsulation starts and ends, and its order; 33 for "length 0 or beyond
 --                    its surroundings"
-use Rattle.choices.specs.{ℕ, zero, suc, ◌+◌, ◌-◌, List, cond, ltb, eqb, length, get_or}
+use Rattle.std.specs.Prelude.{◌+◌, ◌-◌}
+use Rattle.choices.specs.{ℕ, zero, suc, List, cond, ltb, eqb, length, get_or}
 use Rattle.cdr.specs.{Index, Order, Named, Is, NoOrder, Four, index_of, order_of}
 use Rattle.cdr_fields.specs.{Str, Characters, BadText as bad_text, NoText, field_of, string_of}
 use Rattle.type_kinds.specs.{on_field}

@@ -1,4 +1,6 @@
 // The texts, numbers and counts of a type's parameters, checked, and the refusals of a type. Every function answers for any octets.
+#![tactic(auto)]
+
 ghost use Rattle.std.specs.Prelude.{◌≡◌};
 ghost use Rattle.type_counts.specs.Refusals.{type_refusal_number};
 ghost use Rattle.type_counts.specs.Counts.{text_step, names_step, number_step, count_step, any_count, head_step, exception_step, length_step};
@@ -7,7 +9,7 @@ use cdr::{Index, Order, Size};
 use cdr_fields::{Field, Str};
 
 // Why the octets of a type are refused.
-#[derive(Drop)]
+#[derive(Clone, Copy)]
 pub enum Refusal {
     Ends,
     NoSuchKind,
@@ -44,21 +46,21 @@ impl Refusal {
 }
 
 // Where the check goes on, or why it does not.
-#[derive(Drop)]
+#[derive(Clone, Copy)]
 pub enum Step {
     Refused(Refusal),
     Next(Index),
 }
 
 // A count and the index after it, or why there is none.
-#[derive(Drop)]
+#[derive(Clone, Copy)]
 pub enum Count {
     Wrong(Refusal),
     Stands { count: u64, next: Index },
 }
 
 // The part of the octets that is an encapsulation, and its order; or why there is none.
-#[derive(Drop)]
+#[derive(Clone, Copy)]
 pub enum Part {
     NoPart(Refusal),
     Inside {

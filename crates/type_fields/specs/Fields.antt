@@ -12,7 +12,8 @@
 --   label_before      a label is that of one of the `done` members before it, from `first` on; they were checked, and are read again over the
 --                    whole octets v, from the place b of their encapsulation on
 --   label_step        a label before a member: 30, then, if it counts, 35 "out of its kind" or equal to one before it
-use Rattle.choices.specs.{ℕ, ◌/◌, List, Bool, true, false, cond, not, ◌||◌, leb, eqb}
+use Rattle.std.specs.Prelude.{◌/◌, ◌||◌}
+use Rattle.choices.specs.{ℕ, List, Bool, true, false, cond, not, leb, eqb}
 use Rattle.cdr.specs.{Index, Place, Order, Four}
 use Rattle.cdr_fields.specs.{field_of}
 use Rattle.type_kinds.specs.{Form, Unlisted, Plain, Bounded, Composite, Labels, Of, NoLabels, on_field, long_range, members_of}

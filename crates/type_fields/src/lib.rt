@@ -1,4 +1,6 @@
 // Where a kind may stand, and the defaults and labels of a union, checked. Every function answers for any octets.
+#![tactic(auto)]
+
 ghost use Rattle.std.specs.Prelude.{◌≡◌};
 ghost use Rattle.type_fields.specs.Fields.{top_only, below_top, is_listed, kind_entry, bad_default, switch_step, label_before, label_step};
 
@@ -9,14 +11,14 @@ use type_kinds::{Fields, Form, Labels};
 use type_unions::Arm;
 
 // Whether a kind may stand where it does, or why not.
-#[derive(Drop)]
+#[derive(Clone, Copy)]
 pub enum Entry {
     NoEntry(Refusal),
     Enters,
 }
 
 // Default, count and the index after them, of a union; or why there are none.
-#[derive(Drop)]
+#[derive(Clone, Copy)]
 pub enum Switch {
     NoSwitch(Refusal),
     Cases {

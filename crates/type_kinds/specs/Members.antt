@@ -4,7 +4,8 @@
 --   members_from    n members from an index on, as far as they are there
 --   members_of      the members that are listed somewhere
 --   types_of        their types, in octet order
-use Rattle.choices.specs.{ℕ, zero, suc, List, [], ◌∷◌}
+use Rattle.std.specs.Prelude.{◌∷◌}
+use Rattle.choices.specs.{ℕ, zero, suc, List, []}
 use Rattle.cdr.specs.{Index, Place, Order}
 use Rattle.type_kinds.specs.Names.{Inner, Labels, Of, NoLabels, Fields}
 use Rattle.type_kinds.specs.Parts.{on_field, on_spot, field_in, member_at}
@@ -21,9 +22,9 @@ label_at (Of size limit) v b i order = on_field (field_in v b i size order) 0 (�
 label_at NoLabels v b i order = 0
 
 unfoldable pub members_from : Labels → List ℕ → Place → Order → ℕ → Index → List Member
-members_from labels v b order zero i = []
-members_from labels v b order (suc n) i =
-    on_spot (member_at labels v b i order) [] (λ t next. member (label_at labels v b i order) t ∷ members_from labels v b order n next)
+members_from sort v b order zero i = []
+members_from sort v b order (suc n) i =
+    on_spot (member_at sort v b i order) [] (λ t next. member (label_at sort v b i order) t ∷ members_from sort v b order n next)
 
 abbrev pub members_of : Labels → List ℕ → Fields → List Member
 members_of labels v g = members_from labels v g.start g.order g.count g.first

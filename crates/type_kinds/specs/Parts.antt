@@ -21,7 +21,8 @@
 --   lead_in         the label before a member's name, where members have labels, passed over
 --   member_at       a member: a label where there are labels, a name, a type
 --   names_in        id and name passed over, the first two parameters of all but a sequence and an array
-use Rattle.choices.specs.{ℕ, ◌+◌, ◌-◌, ◌/◌, ◌^◌, List, cond, ltb, eqb, drop}
+use Rattle.std.specs.Prelude.{◌+◌, ◌-◌, ◌/◌, ◌^◌}
+use Rattle.choices.specs.{ℕ, List, cond, ltb, eqb, drop}
 use Rattle.cdr.specs.{Index, Place, Order, Size, Four, index_of}
 use Rattle.cdr_fields.specs.{Field, Value, NoField, Counted, Octets, NoOctets, field_of, counted_of}
 use Rattle.type_kinds.specs.Names.{Form, Unlisted, Plain, Bounded, Composite, Skip, EndsAt, NoEnd, Lead, LeadsTo, Outside, Kind, Inner, Here}

@@ -1,5 +1,7 @@
 // Kinds of type: what stands at a kind, read again by its place, its encapsulation's start and its order, without judging it. Every
 // function answers for any octets and places.
+#![tactic(auto)]
+
 ghost use Rattle.std.specs.Prelude.{◌≡◌};
 ghost use Rattle.type_kinds.specs.Forms.{form_of};
 ghost use Rattle.type_kinds.specs.Parts.{place_in, field_in, target_of, spot_at, member_at};
@@ -13,7 +15,7 @@ mod parts;
 pub use parts::names_in;
 
 // What follows a kind.
-#[derive(Drop)]
+#[derive(Clone, Copy)]
 pub enum Form {
     Unlisted,
     Plain,
@@ -22,7 +24,7 @@ pub enum Form {
 }
 
 // What an encapsulation holds.
-#[derive(Drop)]
+#[derive(Clone, Copy)]
 pub enum Layout {
     Objref,
     Struct,
@@ -87,21 +89,21 @@ pub fn form_of(kind: u64) -> Form
 }
 
 // The index after something that is passed over, or that the octets end.
-#[derive(Drop)]
+#[derive(Clone, Copy)]
 pub enum Skip {
     EndsAt(Index),
     NoEnd,
 }
 
 // Where an offset leads: to a place, or to none that there can be.
-#[derive(Drop)]
+#[derive(Clone, Copy)]
 pub enum Lead {
     LeadsTo(Place),
     Outside,
 }
 
 // A kind that is written: its place, and the start and order of the encapsulation it stands in.
-#[derive(Drop)]
+#[derive(Clone, Copy)]
 pub struct Kind {
     pub place: Place,
     pub start: Place,
@@ -109,28 +111,28 @@ pub struct Kind {
 }
 
 // A type inside another: a kind that is written there, or an indirection, by its target's place.
-#[derive(Drop)]
+#[derive(Clone, Copy)]
 pub enum Inner {
     Here(Kind),
     There(Place),
 }
 
 // The type that stands at an index, and the index after it.
-#[derive(Drop)]
+#[derive(Clone, Copy)]
 pub enum Spot {
     TypeAt { inner: Inner, next: Index },
     NoType,
 }
 
 // The labels before a union's members, of a size, and below a limit of which 0 is none; a struct's members have none.
-#[derive(Drop)]
+#[derive(Clone, Copy)]
 pub enum Labels {
     Of { size: Size, limit: u64 },
     NoLabels,
 }
 
 // Where members are listed: the start and order of their encapsulation, their count, and the first one's index.
-#[derive(Drop)]
+#[derive(Clone, Copy)]
 pub struct Fields {
     pub start: Place,
     pub order: Order,
@@ -139,7 +141,7 @@ pub struct Fields {
 }
 
 // A kind that holds no other: of a leaf its kind, of a string its bound, of an enum the number of its names.
-#[derive(Drop)]
+#[derive(Clone, Copy)]
 pub enum Inert {
     Leaf(u64),
     Text(u64),

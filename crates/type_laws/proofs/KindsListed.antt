@@ -47,9 +47,9 @@ pub same-union : {g g' : Fields} {d d' : Inner} {n n' : ℕ} → Union g d n ≡
 same-union e = (cc, cc)
 
 -- an entry has a position
-pub among-at : (m : List Kind) (b : Kind) → Among b m → (j : ℕ) × (j < length m) × (kind_no m j ≡ b)
-among-at m b first = (0, omega arith, refl)
-among-at m b (later {xs = ms} h) = let z = among-at ms b h in (suc z.0, omega (arith, z.1), z.2)
+pub among-at : (b : Kind) (m : List Kind) → Among b m → (j : ℕ) × (j < length m) × (kind_no m j ≡ b)
+among-at b m first = (0, omega arith, refl)
+among-at b m (later {xs = ms} h) = let z = among-at b ms h in (suc z.0, omega (arith, z.1), z.2)
 
 at-among : (m : List Kind) (j : ℕ) → j < length m → Among (kind_no m j) m
 at-among [] j l = absurd (omega arith)
@@ -60,7 +60,7 @@ at-among (a ∷ m) (suc j) l = later (at-among m j (omega arith))
 rises-ascending : (m : List Kind) → Rises m → Ascending m
 rises-ascending [] r = tt
 rises-ascending (a ∷ m) r = (
-  (λ b y. let z = among-at m b y in subst (λ (x : Kind). a.place.0 < x.place.0) z.2 (r 0 (suc z.0) (omega arith) (omega (arith, z.1)))),
+  (λ b y. let z = among-at b m y in subst (λ (x : Kind). a.place.0 < x.place.0) z.2 (r 0 (suc z.0) (omega arith) (omega (arith, z.1)))),
   rises-ascending m (λ i j k l. r (suc i) (suc j) (omega arith) (omega arith)),
 )
 
@@ -230,7 +230,7 @@ module _ (v : List ℕ) (order : Order) (m : List Kind) (c : Complete v order m)
       record {
         ascending = rises-ascending m c.rises;
         all = λ a. (
-          (λ y. let z = among-at m a y in subst (KindWritten v order) z.2 (all-written z.0 z.1)),
+          (λ y. let z = among-at a m y in subst (KindWritten v order) z.2 (all-written z.0 z.1)),
           (λ w. let k = written_entry a w in subst (λ (x : Kind). Among x m) k.2 (at-among m k.0 k.1)),
         );
       }

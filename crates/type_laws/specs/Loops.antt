@@ -9,7 +9,8 @@
 --   Ascending     each kind's place lies before those of the kinds after it
 --   Listed        a list of the kinds written, in order of place, each of them once
 --   KindCount     the number of kinds written
-use Rattle.choices.specs.{◌≡◌, ◌↔◌, List, [], ◌∷◌, false, ℕ, ◌<◌, length, Among}
+use Rattle.std.specs.Prelude.{◌≡◌, ◌↔◌, ◌∷◌, ◌<◌}
+use Rattle.choices.specs.{List, [], false, ℕ, length, Among}
 use Rattle.cdr.specs.{Place, Order}
 use Rattle.type_kinds.specs.{Kind, Here, There}
 use Rattle.type_parameters.specs.{Parameters.parameters_at}

@@ -6,7 +6,8 @@
 --   Inside           a type stands directly inside a kind: "discriminant type, default, count, then label, name and type for each" of a
 --                    union, whose discriminant tells how long labels are
 --   Tells            what a discriminant tells of labels, "after aliases and indirections"; a target is the kind written at its place
-use Rattle.choices.specs.{◌≡◌, List, [], ◌∷◌, Bool, true, false, ℕ, Among}
+use Rattle.std.specs.Prelude.{◌≡◌, ◌∷◌}
+use Rattle.choices.specs.{List, [], Bool, true, false, ℕ, Among}
 use Rattle.cdr.specs.{Place, Order}
 use Rattle.type_kinds.specs.{Kind, Inner, Here, There, Fields, Labels, NoLabels, place_of, written_at, members_of, types_of}
 use Rattle.type_parameters.specs.{declared.Parameters.Parameters, Parameters.parameters_at}

@@ -10,7 +10,8 @@
 --   kind_fits     there is room for one more kind, at a place and in an encapsulation that the entries can hold, as every one of a type of at
 --                most 16,384 octets is
 --   added        the struct with one more kind
-use Rattle.choices.specs.{ℕ, zero, suc, min, ◌+◌, ◌^◌, List, [], ◌∷◌, Bool, cond, ◌&&◌, ltb, eqb, get_or, set, replicate}
+use Rattle.std.specs.Prelude.{◌+◌, ◌^◌, ◌∷◌, ◌&&◌}
+use Rattle.choices.specs.{ℕ, zero, suc, min, List, [], Bool, cond, ltb, eqb, get_or, set, replicate}
 use Rattle.cdr.specs.{Place, Order, Big, Little, Orders.order_octet}
 use Rattle.type_kinds.specs.{Kind, place_of, written_at}
 use Rattle.type_list.specs.{declared.Met.Met}

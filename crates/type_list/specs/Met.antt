@@ -8,7 +8,8 @@
 --   found_at         the parameters of the kind at a place
 --   inside_of        the parameters of a type inside another: of a kind that is written there by its own octets, of an indirection's target by
 --                   the list; where the list has none there, which no accepted type leads to, a fault
-use Rattle.choices.specs.{ℕ, suc, List, [], ◌∷◌, cond, ltb, eqb, length, get_or, choose}
+use Rattle.std.specs.Prelude.{◌∷◌}
+use Rattle.choices.specs.{ℕ, suc, List, [], cond, ltb, eqb, length, get_or, choose}
 use Rattle.cdr.specs.{Place, Big}
 use Rattle.type_kinds.specs.{Kind, Inner, Here, There, place_of, written_at}
 use Rattle.type_parameters.specs.{declared.Parameters.Parameters}

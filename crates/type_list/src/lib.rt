@@ -1,4 +1,6 @@
 // The kinds met in a TypeCode: where each stands, and what its parameters are. Every function answers for any octets and lists.
+#![tactic(auto)]
+
 ghost use Rattle.std.specs.Prelude.{◌≡◌, min};
 ghost use Rattle.type_list.specs.Met.{kind_no, position_of, parameters_of, found_at, inside_of};
 ghost use Rattle.type_list.specs.Arrays.{order_in, kinds_met, no_kinds, added};
@@ -11,7 +13,7 @@ use type_parameters::Parameters;
 
 // Of each kind met its place, the start of its encapsulation, and that encapsulation's order octet.
 #[repr(C)]
-#[derive(Drop)]
+#[derive(Clone, Copy)]
 pub struct Met {
     pub places: [u16; KINDS_LIMIT],
     pub starts: [u16; KINDS_LIMIT],
@@ -23,7 +25,7 @@ pub struct Met {
 const ENTRY_LIMIT: usize = 65536;
 
 // The position of a kind in the list, or that it is not there.
-#[derive(Drop)]
+#[derive(Clone, Copy)]
 pub enum Position {
     IsAt(usize),
     NoPosition,

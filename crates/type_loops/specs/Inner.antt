@@ -3,7 +3,8 @@
 --   RoundDone      the rows below n after the round for kind k
 --   Closed         the rows below n after the rounds for the kinds below k
 --   some_returns    whether some kind below n has a step to itself
-use Rattle.choices.specs.{◌≡◌, Bool, cond, List, ℕ, ◌<◌, bit_or, get_or, length}
+use Rattle.std.specs.Prelude.{◌≡◌, ◌<◌}
+use Rattle.choices.specs.{Bool, cond, List, ℕ, bit_or, get_or, length}
 use Rattle.type_loops.specs.Loops.{closure, any_below, bit_at, cell}
 use Rattle.type_numbers.specs.{kinds_limit}
 

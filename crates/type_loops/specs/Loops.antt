@@ -8,7 +8,8 @@
 --   cell          whether rows of bits have a step from kind i to kind j
 --   row_with       a row with bit j set
 --   with_step      rows and the step from kind i to kind j; as they are where there is no row i or no bit j
-use Rattle.choices.specs.{Bool, false, cond, ◌&&◌, ◌||◌, List, ℕ, zero, suc, ◌/◌, ◌%◌, ◌^◌, bit_or, ltb, eqb, length, get_or, set}
+use Rattle.std.specs.Prelude.{◌&&◌, ◌||◌, ◌/◌, ◌%◌, ◌^◌}
+use Rattle.choices.specs.{Bool, false, cond, List, ℕ, zero, suc, bit_or, ltb, eqb, length, get_or, set}
 use Rattle.type_numbers.specs.{kinds_limit}
 
 unfoldable pub closure : (ℕ → ℕ → Bool) → ℕ → ℕ → ℕ → Bool

@@ -1,4 +1,6 @@
 // Whether a graph of at most 64 kinds has a loop: Warshall's closure, in place, on rows of bits.
+#![tactic(auto)]
+
 ghost use Rattle.std.specs.Prelude.{◌≡◌, min, ◌≤◌, ◌<◌, length};
 ghost use Rattle.type_loops.specs.Loops.{loop_found, bit_at, cell, row_with, with_step};
 ghost use Rattle.type_numbers.specs.{kinds_limit};
@@ -7,7 +9,7 @@ ghost use Rattle.type_loops.specs.Inner.{through_row, RoundDone, Closed, some_re
 use type_numbers::KINDS_LIMIT;
 
 // The steps of a graph: bit j of row i says that there is one from kind i to kind j.
-#[derive(Drop)]
+#[derive(Clone, Copy)]
 pub struct Steps {
     pub rows: [u64; KINDS_LIMIT],
 }

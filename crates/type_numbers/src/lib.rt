@@ -1,4 +1,5 @@
 // The numbers that paper 01 gives to the kinds of a TypeCode and of an item, by name.
+#![tactic(auto)]
 
 // Nothing, at the top alone.
 pub const NULL: u64 = 0;

@@ -11,7 +11,8 @@
 --   encapsulated        the same behind its order octet
 --   parameters_after     what follows a kind that was read
 --   parameters_at        the parameters of a kind that is written
-use Rattle.choices.specs.{ℕ, ◌+◌, ◌-◌, List, cond, ltb, length, get_or}
+use Rattle.std.specs.Prelude.{◌+◌, ◌-◌}
+use Rattle.choices.specs.{ℕ, List, cond, ltb, length, get_or}
 use Rattle.cdr.specs.{Index, Place, Order, Named, Is, NoOrder, Four, index_of, order_of}
 use Rattle.cdr_fields.specs.{Field, NoField}
 use Rattle.type_kinds.specs.Names.{Form, Unlisted, Plain, Bounded, Composite, Layout, Kind, Inner, Spot, NoType}

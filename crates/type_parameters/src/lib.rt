@@ -1,5 +1,7 @@
 // The parameters of a kind that is written, by what stands in its encapsulation, without judging them. The function answers for any octets
 // and places.
+#![tactic(auto)]
+
 ghost use Rattle.std.specs.Prelude.{◌≡◌, ◌-◌};
 ghost use Rattle.cdr.specs.Align.{index_of};
 ghost use Rattle.type_numbers.specs.Kinds.{string_kind};
@@ -13,7 +15,7 @@ use cdr_fields::Field;
 use type_kinds::{Fields, Form, Inert, Inner, Kind, Layout, Skip, Spot};
 
 // The type and the number of a sequence or an array.
-#[derive(Drop)]
+#[derive(Clone, Copy)]
 pub enum Element {
     Holds { inner: Inner, number: u64 },
     NoElement,
@@ -21,7 +23,7 @@ pub enum Element {
 
 // The parameters of a kind; a union's default as the unsigned long that is recorded. A fault is what octets give that are no kind's
 // parameters.
-#[derive(Drop)]
+#[derive(Clone, Copy)]
 pub enum Parameters {
     Fault,
     Flat(Inert),

@@ -1,4 +1,6 @@
 // The names of an enum and the encapsulations of a type's parameters, checked. Every function answers for any octets.
+#![tactic(auto)]
+
 ghost use Rattle.std.specs.Prelude.{◌≡◌};
 ghost use Rattle.type_counts.specs.Counts.{texts_step, enum_step, part_of};
 

@@ -1,7 +1,8 @@
 -- What private functions promise each other; nothing that a caller is told rests on these names.
 --   Noted      rows after the steps from kind i to where a test holds are put into them; only the columns below n count
 --   RowsFilled     rows that have the steps from the kinds below i, and no other
-use Rattle.choices.specs.{◌≡◌, Bool, ◌&&◌, ◌||◌, List, ℕ, ◌<◌, ltb, eqb, length}
+use Rattle.std.specs.Prelude.{◌≡◌, ◌&&◌, ◌||◌, ◌<◌}
+use Rattle.choices.specs.{Bool, List, ℕ, ltb, eqb, length}
 use Rattle.type_loops.specs.Loops.{cell}
 use Rattle.type_kinds.specs.{Kind}
 use Rattle.type_steps.specs.Steps.{steps}

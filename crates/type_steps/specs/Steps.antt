@@ -6,7 +6,8 @@
 --                an alias's type
 --   leads        a shape leads to the kind at the position k
 --   steps        one steps from the kind at i to the kind at j
-use Rattle.choices.specs.{ℕ, List, [], ◌∷◌, Bool, eqb, any_of}
+use Rattle.std.specs.Prelude.{◌∷◌}
+use Rattle.choices.specs.{ℕ, List, [], Bool, eqb, any_of}
 use Rattle.cdr.specs.{Place}
 use Rattle.type_kinds.specs.{Inner, Kind, place_in, types_of}
 use Rattle.type_list.specs.{Met.find_kind, Met.parameters_of}

@@ -1,4 +1,6 @@
 // The loop rule over the kinds met in a TypeCode: each kind's steps by its parameters, and whether some kind returns to itself.
+#![tactic(auto)]
+
 ghost use Rattle.std.specs.Prelude.{◌≡◌, ◌<◌, length};
 ghost use Rattle.type_list.specs.Arrays.{kinds_met};
 ghost use Rattle.type_loops.specs.Loops.{loop_found};

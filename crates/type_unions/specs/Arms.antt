@@ -9,7 +9,8 @@
 --   default_of    the default member, if there is one
 --   on_arm        what follows a member, and what follows none
 --   chosen_of     "the member with that label, else the default, else none"
-use Rattle.choices.specs.{ℕ, ◌+◌, ◌-◌, List, [], ◌∷◌, Bool, true, ◌&&◌, eqb, choose}
+use Rattle.std.specs.Prelude.{◌+◌, ◌-◌, ◌∷◌, ◌&&◌}
+use Rattle.choices.specs.{ℕ, List, [], Bool, true, eqb, choose}
 use Rattle.type_kinds.specs.{Inner, Member, long_range}
 use Rattle.type_unions.specs.{declared.Arm.Arm, declared.Arm.TheVariants.Chosen, declared.Arm.TheVariants.NoneChosen}
 use Rattle.type_unions.specs.{declared.Sought.Sought, declared.Sought.TheVariants.ByLabel, declared.Sought.TheVariants.ByNumber}

@@ -25,7 +25,8 @@
 --   enter_at           a kind of a form with so many levels left; with none left no kind may stand there
 --   type_at            a TypeCode with so many levels left
 --   walked_of          the check of octets as a TypeCode: "42 over 16,384 octets (before all else)"
-use Rattle.choices.specs.{ℕ, zero, suc, ◌+◌, ◌-◌, List, false, cond, ltb, eqb, length, get_or, take, drop, choose}
+use Rattle.std.specs.Prelude.{◌+◌, ◌-◌}
+use Rattle.choices.specs.{ℕ, zero, suc, List, false, cond, ltb, eqb, length, get_or, take, drop, choose}
 use Rattle.cdr.specs.{octets_limit, Index, Place, Order, Four, index_of}
 use Rattle.cdr_fields.specs.{field_of}
 use Rattle.type_kinds.specs.{Form, Unlisted, Plain, Bounded, Composite, Layout, Lead, LeadsTo, Outside, Labels, Of, NoLabels, Kind, place_of}
@@ -61,10 +62,10 @@ unfoldable pub name_step : Labels → List ℕ → List ℕ → Place → Order 
 name_step labels v s b order default done first i = then_step (label_step labels v s b order default done first i) (λ h. text_step s h order)
 
 unfoldable pub members_at : List ℕ → Checker → Labels → ℕ → List ℕ → Place → Order → Index → ℕ → ℕ → Index → Walk → Walked
-members_at v go labels default s b order first zero done i w = goes_on_at i w
-members_at v go labels default s b order first (suc n) done i w =
-    on_step (name_step labels v s b order default done first i) w (λ j.
-    after_type (go s b order j w) (λ k w'. members_at v go labels default s b order first n (done + 1) k w'))
+members_at v go sort default s b order first zero done i w = goes_on_at i w
+members_at v go sort default s b order first (suc n) done i w =
+    on_step (name_step sort v s b order default done first i) w (λ j.
+    after_type (go s b order j w) (λ k w'. members_at v go sort default s b order first n (done + 1) k w'))
 
 unfoldable pub labels_at : List ℕ → List Kind → Place → Index → Order → Labels
 labels_at v ks b i order = on_spot (spot_at v b i order) NoLabels (λ x next. labels_for v ks (place_in x))

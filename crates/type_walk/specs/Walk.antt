@@ -12,7 +12,8 @@
 --   on_step         what follows, unless it is refused
 --   count_then      what follows a count, unless it is refused
 --   after_type          what follows a type that was checked
-use Rattle.choices.specs.{ℕ, List, [], ◌∷◌, ◌++◌, Bool, true, false, length, set, take}
+use Rattle.std.specs.Prelude.{◌∷◌, ◌++◌}
+use Rattle.choices.specs.{ℕ, List, [], Bool, true, false, length, set, take}
 use Rattle.cdr.specs.{Index, Place, Order}
 use Rattle.type_kinds.specs.{Kind, Form, Unlisted, Plain, Bounded, Composite, Layout, written_at}
 use Rattle.type_kinds.specs.declared.Layout.TheVariants.{Objref, Struct, Union, Enum, Sequence, Array, Alias, Exception}

@@ -1,4 +1,6 @@
 // The check of a TypeCode, octet by octet: 42, 30 to 38 and 40. A type nested in another is checked by the same function, one level on.
+#![tactic(auto)]
+
 ghost use Rattle.std.specs.Prelude.{◌≡◌, ◌+◌, ◌≤◌, ◌<◌, length};
 ghost use Rattle.cdr.specs.{octets_limit};
 ghost use Rattle.type_numbers.specs.Kinds.{kinds_limit};
@@ -17,14 +19,14 @@ use type_list::Met;
 mod walks;
 
 // The kinds met so far, and which of them are no target yet.
-#[derive(Drop)]
+#[derive(Clone, Copy)]
 pub struct Walk {
     pub met: Met,
     pub barred: [bool; type_numbers::KINDS_LIMIT],
 }
 
 // Where a check goes on, or why it does not; and what it has met.
-#[derive(Drop)]
+#[derive(Clone, Copy)]
 pub struct Walked {
     pub step: Step,
     pub walk: Walk,
@@ -90,7 +92,7 @@ fn labels_at(types: &[u8], met: Met, start: Place, at: Index, order: Order) -> L
 }
 
 // A TypeCode at an index, with so many levels left.
-#[cycle(check_inside_member_types_parameters_switched)]
+#[cycle(walk)]
 fn check(
     types: &[u8],
     part: &[u8],
@@ -133,7 +135,7 @@ fn check(
 }
 
 // What follows a kind of a form, which has the position `here`.
-#[cycle(check_inside_member_types_parameters_switched)]
+#[cycle(walk)]
 fn inside(
     types: &[u8],
     form: Form,
@@ -168,7 +170,7 @@ fn inside(
 }
 
 // What an encapsulation of a layout holds.
-#[cycle(check_inside_member_types_parameters_switched)]
+#[cycle(walk)]
 fn parameters(
     types: &[u8],
     layout: Layout,
@@ -238,7 +240,7 @@ fn parameters(
 }
 
 // The discriminant of a union at an index, and what follows it.
-#[cycle(check_inside_member_types_parameters_switched)]
+#[cycle(walk)]
 fn switched(
     types: &[u8],
     part: &[u8],
@@ -274,7 +276,7 @@ fn switched(
 }
 
 // So many members from an index on, each with a label where there are labels.
-#[cycle(check_inside_member_types_parameters_switched)]
+#[cycle(walk)]
 fn member_types(
     types: &[u8],
     labels: Labels,

@@ -9,7 +9,8 @@
 --   checked_from     what the walk over the octets gives
 --   checked_type     the check
 --   told_by          what the struct that the code gives stands for
-use Rattle.choices.specs.{ℕ, List, [], ◌∷◌, length, choose}
+use Rattle.std.specs.Prelude.{◌∷◌}
+use Rattle.choices.specs.{ℕ, List, [], length, choose}
 use Rattle.type_loops.specs.Loops.{loop_found}
 use Rattle.cdr.specs.{Index, Order}
 use Rattle.type_kinds.specs.{Kind}

@@ -1,4 +1,6 @@
 // The check of a TypeCode: octets used and kinds written, or 01's refusal, 30 to 40 and 42; and the kinds met, for whoever reads values.
+#![tactic(auto)]
+
 ghost use Rattle.std.specs.Prelude.{◌≡◌};
 ghost use Rattle.type_list.specs.Arrays.{kinds_met};
 ghost use Rattle.typecode.specs.TypeCode.{type_answer_number, without_type, loop_last, checked_type, told_by};
@@ -8,7 +10,7 @@ use type_counts::{Refusal, Step};
 use type_list::Met;
 
 // What the check of a type answers.
-#[derive(Drop)]
+#[derive(Clone, Copy)]
 pub enum TypeAnswer {
     Accepted { used: usize, kinds: usize },
     Refused(Refusal),
@@ -29,7 +31,7 @@ impl TypeAnswer {
 }
 
 // The answer, and the kinds met, none for a refused type.
-#[derive(Drop)]
+#[derive(Clone, Copy)]
 pub struct CheckedType {
     pub answer: TypeAnswer,
     pub met: Met,

@@ -1,7 +1,8 @@
 -- What private functions promise each other; nothing that a caller is told rests on these names.
 --   read_into   what reading into a table answers
 --   ReadAs     an answer and a table that are those of a reading
-use Rattle.choices.specs.{◌≡◌, List, ℕ}
+use Rattle.std.specs.Prelude.{◌≡◌}
+use Rattle.choices.specs.{List, ℕ}
 use Rattle.value_meaning.specs.{Source, room_for, reading, declared.ValueAnswer.ValueAnswer, Visit.Checked, Value.room_in, Value.reading_answer}
 use Rattle.value_meaning.specs.{Value.filled_by}
 

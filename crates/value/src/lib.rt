@@ -1,4 +1,6 @@
 // Reading a value: its items into a lent table, or a single item by its number. 42 comes first, then the type's refusal, then the value's.
+#![tactic(auto)]
+
 ghost use Rattle.std.specs.Prelude.{◌≡◌};
 ghost use Rattle.value_meaning.specs.Sinks.{source};
 ghost use Rattle.value_meaning.specs.Visit.{checked};
@@ -17,7 +19,7 @@ use value_meaning::ValueAnswer;
 use value_typed::Judged;
 
 // What a single item asked for by its number is, or 01's number of the refusal.
-#[derive(Drop)]
+#[derive(Clone, Copy)]
 pub enum ItemAnswer {
     Given(ItemValue),
     Refused(u32),

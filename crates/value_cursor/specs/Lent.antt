@@ -4,7 +4,8 @@
 --   set3       three numbers of a table
 --   row_put     the table with item i, where the items from `first` on go into it and there is room
 --   lent_sink   the sink: `limited` says that no more items are taken than the table has room for, `fill` that they go into it
-use Rattle.choices.specs.{ℕ, ◌+◌, ◌-◌, ◌*◌, ◌%◌, ◌^◌, List, Bool, cond, ◌&&◌, ltb, leb, set}
+use Rattle.std.specs.Prelude.{◌+◌, ◌-◌, ◌*◌, ◌%◌, ◌^◌, ◌&&◌}
+use Rattle.choices.specs.{ℕ, List, Bool, cond, ltb, leb, set}
 use Rattle.value_meaning.specs.{Item, Sink, Value.room_in}
 
 pub record Lent : Type 0 where

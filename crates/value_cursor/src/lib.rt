@@ -1,4 +1,6 @@
 // Where a walk over a value is, and the primitives' sizes, numbers and contents. Every function answers for any octets and cursor.
+#![tactic(auto)]
+
 ghost use Rattle.std.specs.Prelude.{◌≡◌, ℕ, List};
 ghost use Rattle.cdr.specs.Number.{read_of};
 ghost use Rattle.value_meaning.specs.Sinks.{failed, begun};
@@ -9,7 +11,7 @@ use cdr::{Index, Order, Read, Size};
 
 // What holds of a whole walk: order and starting index of the value; whether no more items are taken than the table has room for, whether
 // they go into it, and the number of the item that goes first.
-#[derive(Drop)]
+#[derive(Clone, Copy)]
 pub struct Mode {
     pub order: Order,
     pub start: Index,
@@ -19,7 +21,7 @@ pub struct Mode {
 }
 
 // Where a walk is: the next octet, visits begun, items finished, 01's number of the refusal or 0, and the number that was taken last.
-#[derive(Drop)]
+#[derive(Clone, Copy)]
 pub struct Cursor {
     pub at: usize,
     pub visits: u64,

@@ -1,12 +1,14 @@
 // A single item of a value: the number, signed or not, or the float that its kind makes of its content. Every function answers for any
 // kind, content and item.
+#![tactic(auto)]
+
 ghost use Rattle.std.specs.Prelude.{◌≡◌};
 ghost use Rattle.std.specs.Float.{binary32, binary64};
 ghost use Rattle.std.specs.Float.Ieee.{of_bits};
 ghost use Rattle.value_items.specs.Items.{signed_kind, signed_of, complement_of, single_of, item_of, item_case, bits_of};
 
 // What an item is; a float has the recorded bits beside it.
-#[derive(Drop)]
+#[derive(Clone, Copy)]
 pub enum ItemValue {
     Signed(i64),
     Unsigned(u64),

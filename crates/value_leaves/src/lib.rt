@@ -1,5 +1,7 @@
 // What a visit of a value does that enters nothing: primitives, enums, texts and references to objects; and how items go into a lent
 // table. Every function answers for any octets, cursor and table.
+#![tactic(auto)]
+
 ghost use Rattle.std.specs.Prelude.{◌≡◌, ℕ, List};
 ghost use Rattle.value_meaning.specs.Sinks.{number, taken};
 ghost use Rattle.value_meaning.specs.Visit.{leaf_at, enum_at, text_at, count_at, objref_at, inert_at};

@@ -12,7 +12,8 @@
 --                  faults    it refuses with 42, 30 to 38 or 40 exactly where that is the first fault in octet order
 --                  loops     it refuses with 39 exactly where none of these applies and some kind written leads to itself in one or more steps,
 --                            none of which leaves a sequence, over the octets alone
-use Rattle.choices.specs.{◌≡◌, ◌↔◌, List, true, ℕ, ◌+◌, ◌*◌, ◌≤◌, length, sets}
+use Rattle.std.specs.Prelude.{◌≡◌, ◌↔◌, ◌+◌, ◌*◌, ◌≤◌}
+use Rattle.choices.specs.{List, true, ℕ, length, sets}
 use Rattle.cdr.specs.{Order, octets_limit}
 use Rattle.type_counts.specs.{Refusal}
 use Rattle.typecode.specs.{Accepted as accepted, Refused as refused, Loop, TypeCode.checked_type}

@@ -22,7 +22,8 @@
 --   shuts      the same until nothing is open
 --   enter_node  what a visit does: its own octets, then what it leaves open
 --   reads_node  a visit with so many levels left; "55 a visit with 64 open above it, not counted"
-use Rattle.choices.specs.{ℕ, zero, suc, List, [], ◌∷◌, eqb, length, choose}
+use Rattle.std.specs.Prelude.{◌∷◌}
+use Rattle.choices.specs.{ℕ, zero, suc, List, [], eqb, length, choose}
 use Rattle.type_kinds.specs.{Inner, Inert, Text, Member}
 use Rattle.type_unions.specs.{Shape, fault, flat, struct, exception, union, sequence, array, alias, Arms.on_arm, Arms.chosen_of}
 use Rattle.value_meaning.specs.{Sinks.Source, Sinks.Sink, Sinks.St, Sinks.failed, Sinks.and_then, Sinks.begun, Visit.Checked, Visit.count_at}

@@ -8,7 +8,8 @@
 --   at_start    the state before the first octet
 --   top_of      what the type's top looks like
 --   reading    the reading of a value from its start
-use Rattle.choices.specs.{ℕ, ◌+◌, List, [], ◌∷◌, ◌++◌, Bool, false, leb, length}
+use Rattle.std.specs.Prelude.{◌+◌, ◌∷◌, ◌++◌}
+use Rattle.choices.specs.{ℕ, List, [], Bool, false, leb, length}
 use Rattle.type_kinds.specs.{There, place_of}
 use Rattle.type_unions.specs.{Shape}
 use Rattle.value_meaning.specs.{Sinks.Source, Sinks.Item, Sinks.Piece, Sinks.Sink, Sinks.St, Sinks.st, Visit.Checked, Opens.node}

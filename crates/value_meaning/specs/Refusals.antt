@@ -3,7 +3,8 @@
 --   value_refusals     all of them
 --   is_value_refusal    a number is one of them
 --   room_refusal       the one that only a lack of room for items gives
-use Rattle.choices.specs.{ℕ, List, [], ◌∷◌, Bool, eqb, any_of}
+use Rattle.std.specs.Prelude.{◌∷◌}
+use Rattle.choices.specs.{ℕ, List, [], Bool, eqb, any_of}
 
 abbrev pub value_refusals : List ℕ
 value_refusals = 50 ∷ 51 ∷ 52 ∷ 53 ∷ 54 ∷ 55 ∷ 56 ∷ []

@@ -13,7 +13,8 @@
 --   filled_by        a table that an answer fills or leaves
 --   table_after      "lent memory that an answer doesn't fill keeps its contents": the items from the table's start, or as it was
 --   item_no          "numbers start at 0": the item of a number; past the last, three zeros
-use Rattle.choices.specs.{ℕ, zero, suc, ◌/◌, List, [], ◌∷◌, ◌++◌, Bool, ◌||◌, ltb, eqb, length, sets, choose}
+use Rattle.std.specs.Prelude.{◌/◌, ◌∷◌, ◌++◌, ◌||◌}
+use Rattle.choices.specs.{ℕ, zero, suc, List, [], Bool, ltb, eqb, length, sets, choose}
 use Rattle.cdr.specs.{Order, octets_limit}
 unfoldable pub use Rattle.value_items.specs.Rows.{item_rows}
 use Rattle.typecode.specs.{TypeAnswer, Accepted as accepted, Refused as refused, Loop, TypeCode.type_answer_number, TypeCode.checked_type}

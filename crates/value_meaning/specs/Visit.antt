@@ -22,7 +22,8 @@
 --   profiles_at     "count, then tag and counted octets for each profile"
 --   objref_at       "objref: text, count, then tag and counted octets for each profile, all one visit"
 --   inert_at        what is read of a kind that holds no other
-use Rattle.choices.specs.{ℕ, ◌-◌, List, cond, ◌||◌, ltb, leb, eqb, choose}
+use Rattle.std.specs.Prelude.{◌-◌, ◌||◌}
+use Rattle.choices.specs.{ℕ, List, cond, ltb, leb, eqb, choose}
 use Rattle.cdr.specs.{Size, One, Two, Four, Eight, octets, Number.sign_extended}
 use Rattle.value_items.specs.Items.{signed_kind}
 use Rattle.type_numbers.specs.Kinds.{short_kind, long_kind, unsigned_short_kind, unsigned_long_kind, float_kind, double_kind, boolean_kind, enum_kind}

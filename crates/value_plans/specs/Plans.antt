@@ -10,7 +10,8 @@
 --   laid          the kinds of members, laid into a list from the j-th place on
 --   plan_found     a plan of these kinds; `no_plan` none
 --   plan_of        the plan of a struct of so many members, of which those that are there have these types, with so many levels left
-use Rattle.choices.specs.{ℕ, zero, suc, ◌+◌, List, [], ◌∷◌, Bool, true, false, cond, ◌&&◌, eqb, ltb, leb, get_or, set, replicate, choose}
+use Rattle.std.specs.Prelude.{◌+◌, ◌∷◌, ◌&&◌}
+use Rattle.choices.specs.{ℕ, zero, suc, List, [], Bool, true, false, cond, eqb, ltb, leb, get_or, set, replicate, choose}
 use Rattle.type_kinds.specs.{Inner, Inert, Leaf, Text, Objref, Enum}
 use Rattle.type_unions.specs.{Shape, fault, flat, struct, exception, union, sequence, array, alias}
 use Rattle.value_meaning.specs.{Source, Sink, St, and_then, begun, Visit.Checked, Visit.leaf_at}

@@ -1,5 +1,7 @@
 // What a walk over a value needs beside the cycle of its readers: visits that enter nothing, and plans of structs whose members are all
 // kinds without parameters. Every function answers for any octets, list of kinds and table.
+#![tactic(auto)]
+
 ghost use Rattle.std.specs.Prelude.{◌≡◌, List, cond, ℕ, ltb, get_or};
 ghost use Rattle.type_kinds.specs.declared.Labels.TheVariants.{NoLabels};
 ghost use Rattle.type_kinds.specs.Members.{members_of, types_of};
@@ -21,7 +23,7 @@ use value_cursor::{Cursor, Mode};
 pub const MOST_MEMBERS: usize = 16;
 
 // A struct whose members are all kinds without parameters: the kinds of its members, and their number; or that there is none.
-#[derive(Drop)]
+#[derive(Clone, Copy)]
 pub struct Plan {
     pub found: bool,
     pub kinds: [u8; MOST_MEMBERS],

@@ -5,7 +5,8 @@
 --   Fits     n octets from a cursor on fit the octets, and their items the table
 --   OctetsInto  plain visits of n octets that go into the table as they are
 --   value_of  a number that was read, or 0
-use Rattle.choices.specs.{◌≡◌, true, List, ℕ, ◌+◌, ◌*◌, ◌≤◌, ◌<◌, length}
+use Rattle.std.specs.Prelude.{◌≡◌, ◌+◌, ◌*◌, ◌≤◌, ◌<◌}
+use Rattle.choices.specs.{true, List, ℕ, length}
 use Rattle.cdr.specs.{octets_limit, Size, One, Read, Ends, octets, behind_gap, declared.Read.TheVariants.Number}
 use Rattle.type_numbers.specs.Kinds.{short_kind, boolean_kind}
 use Rattle.value_meaning.specs.{Visit.size_of, Visit.content_of, Value.room_in}

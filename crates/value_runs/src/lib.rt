@@ -1,5 +1,7 @@
 // Visits of one kind without parameters, one behind the other: at once where the numbers stand in a row, else one by one. `leaves`
 // answers for any octets, cursor and table.
+#![tactic(auto)]
+
 ghost use Rattle.std.specs.Prelude.{◌≡◌, ℕ, ◌+◌, ◌<◌, ◌≤◌, true, false, ◌&&◌, List, length, nat_lt};
 ghost use Rattle.cdr.specs.Align.{octets, behind_gap};
 ghost use Rattle.cdr.specs.Number.{number_at};

@@ -4,7 +4,8 @@
 --   judged_by    what a type's check means for a value of it
 --   typed_for    what a value of so many octets is read under
 --   FitsWords   a machine word holds the visits and the items of every reading
-use Rattle.choices.specs.{ℕ, ◌^◌, ◌<◌, List, [], Bool, ◌||◌, ltb, length, choose}
+use Rattle.std.specs.Prelude.{◌^◌, ◌<◌, ◌||◌}
+use Rattle.choices.specs.{ℕ, List, [], Bool, ltb, length, choose}
 use Rattle.cdr.specs.{Order, octets_limit}
 use Rattle.type_kinds.specs.{Kind}
 use Rattle.type_list.specs.Arrays.{kinds_met}

@@ -1,4 +1,6 @@
 // What a value is read under: 42, then the type's refusal, or the kinds of an accepted type.
+#![tactic(auto)]
+
 ghost use Rattle.std.specs.Prelude.{◌≡◌, ◌||◌, ltb};
 ghost use Rattle.cdr.specs.Limit.{octets_limit};
 ghost use Rattle.value_typed.specs.Typed.{typed_by, judged_by, typed_for};
@@ -8,14 +10,14 @@ use type_list::Met;
 use typecode::TypeAnswer;
 
 // Whether a value may be read under a type, or 01's number of the refusal.
-#[derive(Drop)]
+#[derive(Clone, Copy)]
 pub enum Judged {
     Accepted,
     Refused(u32),
 }
 
 // What a value is read under: the judgement, and the kinds of an accepted type.
-#[derive(Drop)]
+#[derive(Clone, Copy)]
 pub struct Typed {
     pub judged: Judged,
     pub met: Met,

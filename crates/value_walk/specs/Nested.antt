@@ -6,7 +6,8 @@
 --   exception_at    "exception: a text id, then members"; "an exception's id none"
 --   arm_at          the chosen member, if there is one
 --   union_at        "union: discriminant, then the member"
-use Rattle.choices.specs.{ℕ, List, [], ◌∷◌}
+use Rattle.std.specs.Prelude.{◌∷◌}
+use Rattle.choices.specs.{ℕ, List, []}
 use Rattle.type_kinds.specs.{Inner, Member, Kind}
 use Rattle.type_parameters.specs.declared.Parameters.{Parameters}
 use Rattle.type_unions.specs.{Shape, Shapes.shape_of, declared.Arm.Arm, Arms.chosen_of}

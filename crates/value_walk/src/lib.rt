@@ -1,5 +1,7 @@
 // The walk over a value: the readers of struct, union, sequence and array call one another, with the open levels left falling at each
 // entry. Every function answers for any octets, list of kinds and table.
+#![tactic(auto)]
+
 ghost use Rattle.std.specs.Prelude.{◌≡◌};
 ghost use Rattle.type_kinds.specs.declared.Inert.TheVariants.{Leaf};
 ghost use Rattle.type_kinds.specs.declared.Labels.TheVariants.{NoLabels};
@@ -38,7 +40,7 @@ pub fn walk(types: &[u8], met: Met, value: &[u8], mode: Mode, table: &mut [u64])
 }
 
 // A visit, with so many levels left.
-#[cycle(each_elements_exception_sequence_struct_members_union_member_visit)]
+#[cycle(readers)]
 fn visit(
     types: &[u8],
     met: Met,
@@ -99,7 +101,7 @@ fn visit(
 }
 
 // The members of a struct or an exception, in order.
-#[cycle(each_elements_exception_sequence_struct_members_union_member_visit)]
+#[cycle(readers)]
 fn struct_members(
     types: &[u8],
     met: Met,
@@ -146,7 +148,7 @@ fn struct_members(
 }
 
 // An exception: its id, then its members.
-#[cycle(each_elements_exception_sequence_struct_members_union_member_visit)]
+#[cycle(readers)]
 fn exception(
     types: &[u8],
     met: Met,
@@ -170,7 +172,7 @@ fn exception(
 }
 
 // A union: its discriminant, then the member that the discriminant chooses.
-#[cycle(each_elements_exception_sequence_struct_members_union_member_visit)]
+#[cycle(readers)]
 fn union_member(
     types: &[u8],
     met: Met,
@@ -209,7 +211,7 @@ fn union_member(
 }
 
 // A sequence: its count, then its elements.
-#[cycle(each_elements_exception_sequence_struct_members_union_member_visit)]
+#[cycle(readers)]
 fn sequence(
     types: &[u8],
     met: Met,
@@ -237,7 +239,7 @@ fn sequence(
 }
 
 // So many elements of one type.
-#[cycle(each_elements_exception_sequence_struct_members_union_member_visit)]
+#[cycle(readers)]
 fn elements(
     types: &[u8],
     met: Met,
@@ -321,7 +323,7 @@ fn flat_elements(
 }
 
 // So many elements of one type, one after the other.
-#[cycle(each_elements_exception_sequence_struct_members_union_member_visit)]
+#[cycle(readers)]
 fn each(
     types: &[u8],
     met: Met,

@@ -1,4 +1,6 @@
 // The versions of GIOP and IIOP that are read, and what each minor version implies.
+#![tactic(auto)]
+
 ghost use Rattle.std.specs.Prelude.{◌≡◌};
 ghost use Rattle.version.specs.Versions.{major_exists, minor_exists, flags_allowed, type_exists, body_starts_with_id, reads_fragments};
 ghost use Rattle.version.specs.Versions.{has_components, reserved_octets, response_allowed, status_exists, body_in_eights};

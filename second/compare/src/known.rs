@@ -1,7 +1,8 @@
 //! What both sides answer to inputs with known answers, as the program over
 //! questions has it.
 
-use second::inspect::answer_questions;
+use second::inspect::{answer_header_questions, answer_questions};
+use second::lines::Failure;
 use second::told::word_of;
 
 use crate::archive::TaggedNumbers;
@@ -33,8 +34,21 @@ pub fn unlike([second, archive]: [String; 2], expected: &str) -> Option<String> 
 /// The second program's answer to a question.
 pub fn second_answer(question: &str) -> String {
     let mut answer = Vec::new();
-    match answer_questions(question.as_bytes(), &mut answer) {
-        Ok(()) => String::from_utf8_lossy(&answer).trim_end().to_owned(),
+    let answered = answer_questions(question.as_bytes(), &mut answer);
+    said(answered, &answer)
+}
+
+/// The second program's answer to a question about a header.
+pub fn second_header_answer(question: &str) -> String {
+    let mut answer = Vec::new();
+    let answered = answer_header_questions(question.as_bytes(), &mut answer);
+    said(answered, &answer)
+}
+
+/// An answer without its LF, or why there is none.
+fn said(answered: Result<(), Failure>, answer: &[u8]) -> String {
+    match answered {
+        Ok(()) => String::from_utf8_lossy(answer).trim_end().to_owned(),
         Err(failure) => failure.to_string(),
     }
 }

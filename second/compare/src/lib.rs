@@ -9,7 +9,6 @@ pub mod fragments;
 pub mod frames;
 pub mod graphs;
 pub mod header_judge;
-pub mod header_questions;
 pub mod headers;
 pub mod heavy;
 pub mod joinings;

@@ -15,7 +15,7 @@ use crate::bodies::Body;
 use crate::header_judge::List;
 use crate::headers::one;
 use crate::judge::Judge;
-use crate::known::{digits_at, listed, octets, second_answer, tagged_answer, unlike};
+use crate::known::{digits_at, listed, octets, second_header_answer, tagged_answer, unlike};
 
 /// The ORB's messages.
 const ORB: &str = include_str!("orb-headers.txt");
@@ -83,13 +83,13 @@ pub fn judge(judge: &mut Judge) {
 /// Holds both sides to what the list says.
 fn hold(judge: &mut Judge, name: &str, row: &Row) {
     let question = format!("header {}", row.digits);
-    let found = [second_answer(&question), archive_header(&row.octets)];
+    let found = [second_header_answer(&question), archive_header(&row.octets)];
     let difference = unlike_name(&found, row.name).or_else(|| unlike(found, row.answer));
     judge.tally.hold(name, &row.octets, difference);
     for (number, expected) in row.contexts.iter().enumerate() {
         let question = format!("context {} {number}", row.digits);
         let found = [
-            second_answer(&question),
+            second_header_answer(&question),
             archive_context(&row.octets, number as u64),
         ];
         let difference = unlike(found, expected);

@@ -35,9 +35,7 @@ pub fn lines(chance: &mut Chance) -> Vec<Vec<u8>> {
                 lines.push(component_line(chance, octets));
             }
             if body.octets.len() < 300 {
-                let profile = profile_line(chance, &body.octets);
-                let component = component_line(chance, &body.octets);
-                lines.extend(near_lines(chance, profile, component));
+                lines.extend(near_lines(chance, &body.octets));
             }
         }
     }
@@ -66,11 +64,12 @@ fn component_line(chance: &mut Chance, octets: &[u8]) -> Vec<u8> {
     .join(&b' ')
 }
 
-/// Lines that are mostly no question, from one of two words and one with a number
-/// as the third: a number that is none, a word too few or too many, or anything
-/// else.
-pub fn near_lines(chance: &mut Chance, plain: Vec<u8>, numbered: Vec<u8>) -> [Vec<u8>; 3] {
-    let mut words: Vec<&[u8]> = numbered.split(|&c| c == b' ').collect();
+/// Lines that are mostly no question: a number that is none, a word too few or too
+/// many, or anything else.
+fn near_lines(chance: &mut Chance, octets: &[u8]) -> Vec<Vec<u8>> {
+    let profile = profile_line(chance, octets);
+    let component = component_line(chance, octets);
+    let mut words: Vec<&[u8]> = component.split(|&c| c == b' ').collect();
     match chance.below(3) {
         0 => words[2] = chance.pick(&NO_NUMBERS).as_bytes(),
         1 => drop(words.remove(chance.below(words.len()))),
@@ -79,9 +78,9 @@ pub fn near_lines(chance: &mut Chance, plain: Vec<u8>, numbered: Vec<u8>) -> [Ve
             words.insert(place, chance.pick(&["", "", "0", "big", "-"]).as_bytes());
         }
     }
-    [
+    vec![
         words.join(&b' '),
-        spoilt(chance, plain),
-        spoilt(chance, numbered),
+        spoilt(chance, profile),
+        spoilt(chance, component),
     ]
 }

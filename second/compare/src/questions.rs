@@ -6,7 +6,6 @@ use std::path::Path;
 use chance::Chance;
 use second::inspect::{answer_questions, LONGEST_QUESTION};
 
-use crate::header_questions;
 use crate::judge::Judge;
 use crate::layout::Sample;
 use crate::lines::digits_of;
@@ -24,7 +23,7 @@ const AT_ONCE: usize = 400;
 const FIRST: u64 = 1 << 30;
 
 /// Words that are put into lines.
-const WORDS: [&str; 29] = [
+const WORDS: [&str; 24] = [
     "type",
     "Type",
     "types",
@@ -35,11 +34,6 @@ const WORDS: [&str; 29] = [
     "profile",
     "component",
     "components",
-    "header",
-    "headers",
-    "context",
-    "target",
-    "head",
     "big",
     "Big",
     "BIG",
@@ -56,7 +50,8 @@ const WORDS: [&str; 29] = [
     "é",
 ];
 
-/// Texts by hand: every way a line can end.
+/// Texts by hand: every way a line can end, and lines about headers, which are no
+/// questions to either program.
 const FIXED: [&str; 43] = [
     "",
     "\n",
@@ -117,13 +112,11 @@ pub fn judge(judge: &mut Judge, program: &Path) -> io::Result<()> {
     let about_values = shuffled(chance, value_questions::lines);
     let about_rewriting = shuffled(chance, value_questions::rewrite_lines);
     let about_profiles = shuffled(chance, profile_questions::lines);
-    let about_headers = shuffled(chance, header_questions::lines);
     let sections = [
         ("types", about_types),
         ("values", about_values),
         ("rewriting", about_rewriting),
         ("profiles", about_profiles),
-        ("headers", about_headers),
     ];
     for (name, all) in &sections {
         for lines in all.chunks(AT_ONCE) {
@@ -305,10 +298,6 @@ fn long_lines(chance: &mut Chance) -> Vec<Vec<Vec<u8>>> {
             "profile ",
             "component ",
             "component 000101 ",
-            "header ",
-            "context ",
-            "target 47494F500100000500000000 ",
-            "head ",
             "0",
             "",
         ];

@@ -1,0 +1,7 @@
+-- Where there is room, a word is stored.
+use Rattle.ask_header_text.proofs.PutsTogether.{puts_none}
+use Rattle.ask_header_text.proofs.put_word.Goals as goal
+
+pub returns-in_default : goal.returns-in_default
+returns-in_default c =
+    puts_none c.args.out.now c.args.at _ _ _ c.write_octets.ensures _ c.in_default.is

@@ -1,0 +1,10 @@
+-- The words, then the number.
+use mathlib.Core.List.{[], ◌∷◌}
+use native.Mathlib.Omega.{arith}
+use Rattle.decimals.proofs.CharactersPut.{put_then, put-stored}
+use Rattle.ask_text.specs.Replies.{space}
+use Rattle.ask_text.proofs.head.put_unsigned.Goals as goal
+
+pub returns : goal.returns
+returns c =
+    put_then (put-stored c.args.out.now 0 (111 ∷ 107 ∷ space ∷ 117 ∷ 110 ∷ 115 ∷ 105 ∷ 103 ∷ 110 ∷ 101 ∷ 100 ∷ space ∷ []) _ _ (omega (arith, c.requires)) c.write_octets.ensures) c.put_number.ensures

@@ -1,0 +1,2 @@
+-- Lines by what they ask about.
+pub mod LinesReplied

@@ -1,0 +1,8 @@
+-- The message that the answer shows stands at the start of the memory that it was joined into.
+use Rattle.std.proofs.Common.{sym, ◌∙◌}
+use Rattle.recording_text.proofs.EntryListed.{lists-shown}
+use Rattle.recording_text.proofs.line.list_octets.Goals as goal
+
+pub returns : goal.returns
+returns c =
+    lists-shown c.args.octets.now c.args.before c.args.places.now c.args.message.now c.join-outcome.result _ _ c.requires.1 c.join-outcome.ensures c.args.number _ c.args.out.now c.args.at _ _ c.number-2.ensures _ (sym c.output.ensures ∙ c.in-Message.is) c.put_shown-end.ensures

@@ -1,0 +1,44 @@
+-- By the parameters.
+use mathlib.Core.Path.{refl, sym, ◌∙◌}
+use Rattle.choices.specs.Lists.{any_of}
+use Rattle.type_unions.specs.Shapes.{shape_of}
+use Rattle.type_steps.specs.Steps.{steps_of}
+use Rattle.type_steps.proofs.TableFilled.{noted-leads, noted-no-leads, noted_one, noted-union}
+use Rattle.type_steps.proofs.steps_from.Goals as goal
+
+pub returns-in-Fault : goal.returns-in-Fault
+unfolding shape_of steps_of any_of
+returns-in-Fault c = noted-no-leads _ _ _ _ _ (sym c.parameters_of.ensures ∙ c.in-Fault.is) (λ z. refl)
+
+pub returns-in-Flat : goal.returns-in-Flat
+unfolding shape_of steps_of any_of
+returns-in-Flat c = noted-no-leads _ _ _ _ _ (sym c.parameters_of.ensures ∙ c.in-Flat.is) (λ z. refl)
+
+pub returns-in-Struct : goal.returns-in-Struct
+unfolding shape_of steps_of
+returns-in-Struct c =
+    noted-leads _ _ _ _ _ (sym c.parameters_of.ensures ∙ c.in-Struct.is) _ c.member_steps.ensures
+
+pub returns-in-Exception : goal.returns-in-Exception
+unfolding shape_of steps_of
+returns-in-Exception c =
+    noted-leads _ _ _ _ _ (sym c.parameters_of.ensures ∙ c.in-Exception.is) _ c.member_steps-in-Exception.ensures
+
+pub returns-in-Union : goal.returns-in-Union
+returns-in-Union c =
+    let is = sym c.parameters_of.ensures ∙ c.in-Union.is in
+    noted-union _ _ _ _ _ _ _ is _ c.place_in-place.ensures _ c.labels_for-labels.ensures _ _ c.note.ensures c.member_steps-in-Union.ensures
+
+pub returns-in-Sequence : goal.returns-in-Sequence
+unfolding shape_of steps_of any_of
+returns-in-Sequence c = noted-no-leads _ _ _ _ _ (sym c.parameters_of.ensures ∙ c.in-Sequence.is) (λ z. refl)
+
+pub returns-in-Array : goal.returns-in-Array
+unfolding shape_of steps_of
+returns-in-Array c =
+    noted_one _ _ _ _ _ (sym c.parameters_of.ensures ∙ c.in-Array.is) _ _ c.place_in.ensures refl _ c.note-in-Array.ensures
+
+pub returns-in-Alias : goal.returns-in-Alias
+unfolding shape_of steps_of
+returns-in-Alias c =
+    noted_one _ _ _ _ _ (sym c.parameters_of.ensures ∙ c.in-Alias.is) _ _ c.place_in-in-Alias.ensures refl _ c.note-in-Alias.ensures

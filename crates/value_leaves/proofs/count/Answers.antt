@@ -1,0 +1,55 @@
+-- A count.
+use Rattle.std.proofs.Common.{◌-◌, sym, ap, ◌∙◌, arith}
+use Rattle.cdr.specs.declared.Size.TheVariants.{Four}
+use Rattle.cdr.proofs.GapsBounded.{read-facts}
+use Rattle.value_meaning.specs.Sinks.{item, failed, done}
+use Rattle.value_meaning.specs.Visit.{count_done, count_at}
+use Rattle.value_meaning.proofs.ReadingCases as way
+use Rattle.value_cursor.specs.Walk.{sink_of, source_of, state_of}
+use Rattle.value_leaves.proofs.count.Goals as goal
+
+pub overflow_add-at : goal.overflow_add-at
+overflow_add-at c =
+    omega (
+      arith,
+      (read-facts c.args.value.now c.args.mode.start c.args.cursor.at Four c.args.mode.order _ _
+          (sym c.number_at.ensures ∙ c.in-Number.is)).fits,
+    )
+
+pub returns-then-over_bound : goal.returns-then-over_bound
+unfolding count_at
+returns-then-over_bound c =
+    let sink = sink_of c.args.mode in
+    let src = source_of c.args.mode c.args.value.now in
+    c.refused.ensures c.args.table.now
+    ∙ ap (failed 54) (c.took.ensures c.args.mode c.args.table.now _ _ 4)
+    ∙ sym
+    ((way.number-some sink src Four (count_done sink src c.args.bound) (state_of c.args.cursor c.args.table.now) _ _
+    (sym c.number_at.ensures ∙ c.in-Number.is))
+    ∙ way.count-over sink src c.args.bound _ _ _ (sym c.over_bound.ensures ∙ c.if-over_bound.true))
+
+pub overflow_add-at-in-Number : goal.overflow_add-at-in-Number
+overflow_add-at-in-Number c =
+    omega (arith, (read-facts c.args.value.now c.args.mode.start c.args.cursor.at Four c.args.mode.order _ _ (sym c.number_at.ensures ∙ c.in-Number.is)).fits)
+
+pub returns-else-over_bound : goal.returns-else-over_bound
+unfolding count_at
+returns-else-over_bound c =
+    let sink = sink_of c.args.mode in
+    let src = source_of c.args.mode c.args.value.now in
+    c.put.ensures
+    ∙ ap (done sink (item 19 _ _)) (c.took-in-Number.ensures c.args.mode c.args.table.now _ _ 4)
+    ∙ sym
+    ((way.number-some sink src Four (count_done sink src c.args.bound) (state_of c.args.cursor c.args.table.now) _ _
+    (sym c.number_at.ensures ∙ c.in-Number.is))
+    ∙ way.count_under sink src c.args.bound _ _ _ (sym c.over_bound.ensures ∙ c.if-over_bound.false))
+
+pub returns-in-Ends : goal.returns-in-Ends
+unfolding count_at
+returns-in-Ends c =
+    let sink = sink_of c.args.mode in
+    let src = source_of c.args.mode c.args.value.now in
+    c.refused-in-Ends.ensures c.args.table.now
+    ∙ sym
+    (way.number-none sink src Four (count_done sink src c.args.bound) (state_of c.args.cursor c.args.table.now)
+    (sym c.number_at.ensures ∙ c.in-Ends.is))
