@@ -1,4 +1,5 @@
 -- Questions about a value or a component: their words read, and the items of a value left in the table.
+use Rattle.std.specs.Prelude.{Option, Some, None, Result, Ok, Err}
 use mathlib.Core.Path.{◌≡◌, refl, sym, ap, ◌∙◌}
 use mathlib.Core.List.{List, [], ◌∷◌, ◌++◌, append_assoc}
 use Prim.Native.Nat.{ℕ, ◌+◌, ◌*◌, ◌/◌, ◌≤◌}
@@ -21,63 +22,54 @@ use Rattle.value_meaning.specs.Reading.{Log, room_for}
 use Rattle.value_meaning.specs.Visit.{checked}
 use Rattle.value_meaning.specs.Value.{reading_answer, overlong, on_type, value_answer, reading_of, item_rows, table_after}
 use Rattle.value_meaning.proofs.EnoughRoom.{room-kept}
-use Rattle.typecode.specs.declared.TypeAnswer.{TypeAnswer}
-use Rattle.typecode.specs.declared.TypeAnswer.TheVariants.{Accepted as ok, Refused as refused, Loop}
 use Rattle.typecode.specs.TypeCode.{checked_type}
-use Rattle.ask_words.specs.declared.SubjectFields.{SubjectFields}
-use Rattle.ask_words.specs.declared.SubjectFields.TheVariants.{Are, NotFields}
 use Rattle.ask_words.specs.declared.Asked.{Asked}
 use Rattle.ask_words.specs.declared.Subject.{Subject}
-use Rattle.ask_words.specs.declared.Rewrite.{Rewrite}
-use Rattle.ask_words.specs.declared.Rewrite.TheVariants.{Asks, NotRewrite}
 use Rattle.ask_words.specs.declared.Chosen.{Chosen}
-use Rattle.ask_words.specs.declared.Numbered.{Numbered}
-use Rattle.ask_words.specs.declared.Numbered.TheVariants.{Is as IsNumbered, NotNumbered}
 use Rattle.ask_words.specs.Words.{words}
 use Rattle.ask_words.specs.Fields.{value_fields, rewrite_fields_of, numbered_fields_of}
 use Rattle.ask_words.specs.Inner.{part, subject_words, WithinSubject, FieldsRead, RewriteRead, NumberedRead}
 use Rattle.rewrite_meaning.specs.Written.{target}
-use Rattle.ask_answers.specs.declared.octets.Octets.{Octets}
-use Rattle.ask_answers.specs.declared.octets.Octets.TheVariants.{Count, NotOctets}
 use Rattle.ask_answers.specs.declared.about.About.{About}
-use Rattle.ask_answers.specs.declared.about.About.TheVariants.{Is, NotAbout}
 use Rattle.ask_octets.specs.Octets.{octets_word}
 use Rattle.ask_answers.specs.Questions.{Question, value_asked, rewrite_asked, component_asked, no_question, octets_question, about_of, on_about, about_question, rewrite_question, component_question}
 use Rattle.ask_answers.specs.Replies.{room_of}
 use Rattle.ask_answers.specs.Answers.{table_for}
 use Rattle.ask_answers.specs.Inner.{OctetsRead, AboutRead, Replied}
+use Rattle.typecode.specs.declared.NoType.TheVariants.{Loop, Refused}
+use Rattle.typecode.specs.declared.NoType.{NoType}
 
 -- the words of a value are within the line,
-module _ (rest : List ℕ) (f : SubjectFields) (p : FieldsRead rest f) where
-  pub fields_within : (a : Asked) → f ≡ Are a → WithinSubject a.subject rest
+module _ (rest : List ℕ) (f : Option Asked) (p : FieldsRead rest f) where
+  pub fields_within : (a : Asked) → f ≡ Some a → WithinSubject a.subject rest
   fields_within a e = rw e at p.within
 
   -- and behind `value` or `item` they are the question
-  pub fields-none : (ask : Order → List ℕ → Source → ℕ → Question) → f ≡ NotFields → about_question ask (value_fields (words rest)) ≡ no_question
+  pub fields-none : (ask : Order → List ℕ → Source → ℕ → Question) → f ≡ None → about_question ask (value_fields (words rest)) ≡ no_question
   fields-none ask e = rw (← p.read, e)
 
-  pub fields-about : (ask : Order → List ℕ → Source → ℕ → Question) (a : Asked) → f ≡ Are a
+  pub fields-about : (ask : Order → List ℕ → Source → ℕ → Question) (a : Asked) → f ≡ Some a
       → about_question ask (value_fields (words rest)) ≡ on_about (about_of (subject_words a.subject rest)) (λ order t x. ask order t x a.number)
   fields-about ask a e = rw (← p.read, e)
 
 -- the same behind `rewrite`
-module _ (rest : List ℕ) (f : Rewrite) (p : RewriteRead rest f) where
-  pub rewrite-within : (c : Chosen) → f ≡ Asks c → WithinSubject c.subject rest
+module _ (rest : List ℕ) (f : Option Chosen) (p : RewriteRead rest f) where
+  pub rewrite-within : (c : Chosen) → f ≡ Some c → WithinSubject c.subject rest
   rewrite-within c e = rw e at p.within
 
-  pub rewrite-none : f ≡ NotRewrite → rewrite_question (rewrite_fields_of (words rest)) ≡ no_question
+  pub rewrite-none : f ≡ None → rewrite_question (rewrite_fields_of (words rest)) ≡ no_question
   rewrite-none e = rw (← p.read, e)
 
-  pub rewrite-about : (c : Chosen) → f ≡ Asks c → rewrite_question (rewrite_fields_of (words rest))
+  pub rewrite-about : (c : Chosen) → f ≡ Some c → rewrite_question (rewrite_fields_of (words rest))
       ≡ on_about (about_of (subject_words c.subject rest)) (λ order t x. rewrite_asked order t x (target c.order (index_of c.index)) c.room)
   rewrite-about c e = rw (← p.read, e)
 
 -- and behind `component`
-module _ (rest : List ℕ) (f : Numbered) (p : NumberedRead rest f) where
-  pub numbered-none : f ≡ NotNumbered → component_question (numbered_fields_of (words rest)) ≡ no_question
+module _ (rest : List ℕ) (f : Option (ℕ × ℕ)) (p : NumberedRead rest f) where
+  pub numbered-none : f ≡ None → component_question (numbered_fields_of (words rest)) ≡ no_question
   numbered-none e = rw (← p.read, e)
 
-  module _ (end number : ℕ) (e : f ≡ IsNumbered end number) where
+  module _ (end number : ℕ) (e : f ≡ Some (end, number)) where
     pub numbered_within : end ≤ length rest
     numbered_within = rw e at p.within
 
@@ -88,17 +80,17 @@ module _ (rest : List ℕ) (f : Numbered) (p : NumberedRead rest f) where
     numbered-about = rw (← p.read, e)
 
 -- the octets of two of the words
-module _ (rest : List ℕ) (a : Subject) (o : Octets) (t : List ℕ) (q : OctetsRead (octets_word (part rest a.typed.from a.typed.end)) o t) where
-  pub about-no-type : (v : List ℕ) → o ≡ NotOctets → AboutRead rest a NotAbout t v
+module _ (rest : List ℕ) (a : Subject) (o : Option ℕ) (t : List ℕ) (q : OctetsRead (octets_word (part rest a.typed.from a.typed.end)) o t) where
+  pub about-no-type : (v : List ℕ) → o ≡ None → AboutRead rest a None t v
   unfolding about_of
   about-no-type v g = record { stands = rw (← q.stands, g); typed = omega arith; valued = omega arith }
 
-  module _ (types : ℕ) (g : o ≡ Count types) (w : Octets) (v : List ℕ) (s : OctetsRead (octets_word (part rest a.value.from a.value.end)) w v) where
-    pub about-no-value : w ≡ NotOctets → AboutRead rest a NotAbout t v
+  module _ (types : ℕ) (g : o ≡ Some types) (w : Option ℕ) (v : List ℕ) (s : OctetsRead (octets_word (part rest a.value.from a.value.end)) w v) where
+    pub about-no-value : w ≡ None → AboutRead rest a None t v
     unfolding about_of
     about-no-value h = record { stands = rw (← q.stands, g, ← s.stands, h); typed = omega arith; valued = omega arith }
 
-    pub about-is : (values : ℕ) → w ≡ Count values → AboutRead rest a (Is a.typed.order types a.value.order values a.start) t v
+    pub about-is : (values : ℕ) → w ≡ Some values → AboutRead rest a (Some (record { typed = a.typed.order; type_count = types; order = a.value.order; value_count = values; start = a.start })) t v
     unfolding about_of
     about-is values h =
         record { stands = rw (← q.stands, g, ← s.stands, h); typed = rw g at q.within; valued = rw h at s.within }
@@ -108,19 +100,19 @@ pub part-most : (rest : List ℕ) (from end : ℕ) → length (part rest from en
 part-most rest from end = rw length-take (omega (arith, length-drop from rest))
 
 -- what is read of a value is within the memory, and is what is asked about
-module _ {rest : List ℕ} {a : Subject} {r : About} {t v : List ℕ} (p : AboutRead rest a r t v) where
-  pub about-nothing : (ask : Order → List ℕ → Source → Question) → r ≡ NotAbout → on_about (about_of (subject_words a rest)) ask ≡ no_question
+module _ {rest : List ℕ} {a : Subject} {r : Option About} {t v : List ℕ} (p : AboutRead rest a r t v) where
+  pub about-nothing : (ask : Order → List ℕ → Source → Question) → r ≡ None → on_about (about_of (subject_words a rest)) ask ≡ no_question
   about-nothing ask e = rw (← p.stands, e)
 
-  module _ (typed : Order) (types : ℕ) (order : Order) (values start : ℕ) (e : r ≡ Is typed types order values start) where
-    pub types-within : types ≤ length t
+  module _ (b : About) (e : r ≡ Some b) where
+    pub types-within : b.type_count ≤ length t
     types-within = rw e at p.typed
 
-    pub values-within : values ≤ length v
+    pub values-within : b.value_count ≤ length v
     values-within = rw e at p.valued
 
     pub about-asks : (ask : Order → List ℕ → Source → Question)
-        → ask typed (take types t) (source (take values v) order (index_of start)) ≡ on_about (about_of (subject_words a rest)) ask
+        → ask b.typed (take b.type_count t) (source (take b.value_count v) b.order (index_of b.start)) ≡ on_about (about_of (subject_words a rest)) ask
     about-asks ask = rw (← p.stands, e)
 
 -- an accepted value has as many items as it says
@@ -137,10 +129,10 @@ module _ (s : St Log) (used n visits : ℕ) where
       (λ z. let f : Accepted s.at (length s.kept.items) s.kept.visits ≡ Accepted used n visits = rw z at e in cc)
       (λ z. let f = rw z at e in clash cc)
 
-  type-count : (a : TypeAnswer) → on_type a (λ _. reading_answer s) (λ m. Refused m 0) ≡ Accepted used n visits → n ≡ length s.kept.items
-  type-count (ok u k) e = answer-count e
-  type-count (refused why) e = clash cc
-  type-count Loop e = clash cc
+  type-count : (a : Result (ℕ × ℕ) NoType) → on_type a (λ _. reading_answer s) (λ m. Refused m 0) ≡ Accepted used n visits → n ≡ length s.kept.items
+  type-count (Ok (u, k)) e = answer-count e
+  type-count (Err (Refused why)) e = clash cc
+  type-count (Err Loop) e = clash cc
 
 module _ (t : List ℕ) (order : Order) (x : Source) (room : ℕ) where
   abbrev items : List Item

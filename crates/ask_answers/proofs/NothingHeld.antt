@@ -1,27 +1,19 @@
 -- Which questions have answers without items, and which without octets.
+use Rattle.std.specs.Prelude.{Option, Some, None, Result, Ok, Err}
 use mathlib.Core.Path.{◌≡◌, refl}
 use mathlib.Core.List.{List, [], ◌∷◌}
 use Prim.Native.Nat.{ℕ}
 use native.Mathlib.Omega.{arith}
 use lib.ListN.{length}
 use Rattle.cdr.specs.declared.Order.{Order}
-use Rattle.cdr.specs.declared.Named.{Named}
-use Rattle.cdr.specs.declared.Named.TheVariants.{Is, NoOrder}
 use Rattle.cdr.specs.Align.{index_of}
+use Rattle.value_items.specs.declared.ItemValue.{ItemValue}
 use Rattle.value_items.specs.declared.ItemValue.TheVariants.{Signed, Unsigned, Single, Double}
-use Rattle.typecode.specs.declared.TypeAnswer.{TypeAnswer}
-use Rattle.typecode.specs.declared.TypeAnswer.TheVariants.{Accepted as ok, Refused as refused, Loop}
 use Rattle.typecode.specs.TypeCode.{checked_type}
-use Rattle.profile.specs.declared.ProfileAnswer.{ProfileAnswer}
-use Rattle.profile.specs.declared.ProfileAnswer.TheVariants.{Read as says, Refused as not_read}
-use Rattle.profile.specs.declared.ComponentAnswer.{ComponentAnswer}
-use Rattle.profile.specs.declared.ComponentAnswer.TheVariants.{Found, Refused as not_found}
 use Rattle.profile.specs.Profile.{profile_of, component_of}
 use Rattle.value_meaning.specs.declared.ValueAnswer.{ValueAnswer}
 use Rattle.value_meaning.specs.declared.ValueAnswer.TheVariants.{Accepted, Refused}
 use Rattle.value_meaning.specs.Value.{value_answer, item_rows}
-use Rattle.value.specs.declared.ItemAnswer.{ItemAnswer}
-use Rattle.value.specs.declared.ItemAnswer.TheVariants.{Given, Refused as NoItem}
 use Rattle.value.specs.Single.{item_answer}
 use Rattle.rewrite_meaning.specs.declared.RewriteAnswer.{RewriteAnswer}
 use Rattle.rewrite_meaning.specs.declared.RewriteAnswer.TheVariants.{Accepted as written_to, Refused as not_written}
@@ -37,6 +29,11 @@ use Rattle.ask_answers.specs.Questions.{Question, type_asked, value_asked, item_
 use Rattle.ask_answers.specs.Replies.{type_reply, value_reply, item_reply, rewrite_reply, profile_reply, component_reply, room_of, reply_to, items_in, answer_octets}
 use Rattle.ask_answers.specs.Answers.{table_for}
 use Rattle.ask_answers.specs.Inner.{reply_numbers, Replied, reply_octets, OctetsHeld}
+use Rattle.cdr_fields.specs.declared.Extent.{Extent}
+use Rattle.profile.specs.declared.Profile.{Profile}
+use Rattle.profile_parts.specs.declared.Refusal.{Refusal}
+use Rattle.typecode.specs.declared.NoType.TheVariants.{Loop, Refused}
+use Rattle.typecode.specs.declared.NoType.{NoType}
 
 -- by the question: only a value has items, and only a value that is rewritten and a profile body have octets
 abbrev pub NoItems : Question → Type 0
@@ -58,17 +55,17 @@ NoOctets (component_asked v number) = ⊥
 NoOctets no_question = Unit {0}
 
 -- none stand in the answer
-type-none : (a : TypeAnswer) → (reply_numbers (type_reply a) ≡ 0) × (reply_octets (type_reply a) ≡ 0)
-type-none (ok used kinds) = (refl, refl)
-type-none (refused why) = (refl, refl)
-type-none Loop = (refl, refl)
+type-none : (a : Result (ℕ × ℕ) NoType) → (reply_numbers (type_reply a) ≡ 0) × (reply_octets (type_reply a) ≡ 0)
+type-none (Ok (used, kinds)) = (refl, refl)
+type-none (Err (Refused why)) = (refl, refl)
+type-none (Err Loop) = (refl, refl)
 
-item-none : (a : ItemAnswer) → (reply_numbers (item_reply a) ≡ 0) × (reply_octets (item_reply a) ≡ 0)
-item-none (Given (Signed x)) = (refl, refl)
-item-none (Given (Unsigned x)) = (refl, refl)
-item-none (Given (Single bits x)) = (refl, refl)
-item-none (Given (Double bits x)) = (refl, refl)
-item-none (NoItem number) = (refl, refl)
+item-none : (a : Result ItemValue ℕ) → (reply_numbers (item_reply a) ≡ 0) × (reply_octets (item_reply a) ≡ 0)
+item-none (Ok (Signed x)) = (refl, refl)
+item-none (Ok (Unsigned x)) = (refl, refl)
+item-none (Ok (Single bits x)) = (refl, refl)
+item-none (Ok (Double bits x)) = (refl, refl)
+item-none (Err number) = (refl, refl)
 
 value_none : (a : ValueAnswer) → reply_octets (value_reply a) ≡ 0
 value_none (Accepted used items visits) = refl
@@ -78,13 +75,13 @@ rewrite-none : (a : RewriteAnswer) → reply_numbers (rewrite_reply a) ≡ 0
 rewrite-none (written_to count) = refl
 rewrite-none (not_written number) = refl
 
-profile-none : (a : ProfileAnswer) (n : ℕ) → reply_numbers (profile_reply a n) ≡ 0
-profile-none (says p) n = refl
-profile-none (not_read why) n = refl
+profile-none : (a : Result Profile Refusal) (n : ℕ) → reply_numbers (profile_reply a n) ≡ 0
+profile-none (Ok p) n = refl
+profile-none (Err why) n = refl
 
-component-none : (a : ComponentAnswer) (n : ℕ) → reply_numbers (component_reply a n) ≡ 0
-component-none (Found tag part) n = refl
-component-none (not_found why) n = refl
+component-none : (a : Result (ℕ × Extent) Refusal) (n : ℕ) → reply_numbers (component_reply a n) ≡ 0
+component-none (Ok (tag, part)) n = refl
+component-none (Err why) n = refl
 
 no_items : (q : Question) → NoItems q → (reply_numbers (reply_to q) ≡ 0) × (items_in q ≡ [])
 no_items (type_asked order v) n = ((type-none (checked_type v order).answer).0, refl)
@@ -125,9 +122,9 @@ octets-bare : (order : Order) (o : WordOctets) → NoItems (octets_question o (�
 octets-bare order (are_octets v) = (tt, tt)
 octets-bare order not_octets = (tt, tt)
 
-named-bare : (n : Named) (ws : List (List ℕ)) → NoItems (named_type n ws) × NoOctets (named_type n ws)
-named-bare (Is order) ws = octets-bare order (lone_octets ws)
-named-bare NoOrder ws = (tt, tt)
+named-bare : (n : Option Order) (ws : List (List ℕ)) → NoItems (named_type n ws) × NoOctets (named_type n ws)
+named-bare (Some order) ws = octets-bare order (lone_octets ws)
+named-bare None ws = (tt, tt)
 
 pub type-bare : (ws : List (List ℕ)) → NoItems (type_question ws) × NoOctets (type_question ws)
 type-bare [] = (tt, tt)

@@ -1,4 +1,5 @@
 -- A rewritten value has at most 16,391 octets, so that more room is no difference; and its octets stand at the start of the memory.
+use Rattle.std.specs.Prelude.{Result, Ok, Err}
 use mathlib.Core.Path.{◌≡◌, refl, sym, ap, ◌∙◌}
 use mathlib.Core.Bool.{Bool, true, false}
 use mathlib.Core.List.{List, ◌++◌}
@@ -13,8 +14,6 @@ use Rattle.choices.specs.Branch.{choose}
 use Rattle.cdr.specs.declared.Order.{Order}
 use Rattle.cdr.specs.Limit.{octets_limit}
 use Rattle.decimals.proofs.CharactersPut.{take-written}
-use Rattle.typecode.specs.declared.TypeAnswer.{TypeAnswer}
-use Rattle.typecode.specs.declared.TypeAnswer.TheVariants.{Accepted as ok, Refused as refused, Loop}
 use Rattle.typecode.specs.TypeCode.{checked_type}
 use Rattle.type_laws.proofs.Exactly39.{accepted-as}
 use Rattle.value_meaning.specs.Sinks.{Source, St}
@@ -31,6 +30,8 @@ use Rattle.ask_text.specs.declared.Reply.TheVariants.{Rewritten, Refused as NotR
 use Rattle.ask_answers.specs.Questions.{rewrite_asked}
 use Rattle.ask_answers.specs.Replies.{octets_given}
 use Rattle.ask_answers.specs.Inner.{rewritten_most, OctetsHeld}
+use Rattle.typecode.specs.declared.NoType.TheVariants.{Loop, Refused}
+use Rattle.typecode.specs.declared.NoType.{NoType}
 
 -- of octets that room is enough for, more room is no difference
 room-same : (s : St Log) (to : Target) (room : ℕ) → length (written to s) ≤ rewritten_most → rewrite_of s to (min room rewritten_most) ≡ rewrite_of s to room
@@ -61,7 +62,7 @@ module _ (t : List ℕ) (order : Order) (x : Source) (to : Target) where
   abbrev read : St Log
   read = reading_of any_room t order x
 
-  octets-most : (used kinds : ℕ) → (checked_type t order).answer ≡ ok used kinds → overlong t x ≡ false → length (written to read) ≤ rewritten_most
+  octets-most : (used kinds : ℕ) → (checked_type t order).answer ≡ Ok (used, kinds) → overlong t x ≡ false → length (written to read) ≤ rewritten_most
   unfolding reading_of
   octets-most used kinds q h =
       let l = ltb-false octets_limit (length x.octets) (neither (ltb octets_limit (length t)) (ltb octets_limit (length x.octets)) h).1 in
@@ -71,11 +72,11 @@ module _ (t : List ℕ) (order : Order) (x : Source) (to : Target) where
         used-bound any_room x t order kinds (checked_type t order).kinds (accepted-as t order used kinds q),
       )
 
-  type-same : (room : ℕ) → overlong t x ≡ false → (a : TypeAnswer) → (checked_type t order).answer ≡ a
+  type-same : (room : ℕ) → overlong t x ≡ false → (a : Result (ℕ × ℕ) NoType) → (checked_type t order).answer ≡ a
       → on_type a (λ _. rewrite_of read to (min room rewritten_most)) Refused ≡ on_type a (λ _. rewrite_of read to room) Refused
-  type-same room h (ok used kinds) q = room-same read to room (octets-most used kinds q h)
-  type-same room h (refused why) q = refl
-  type-same room h Loop q = refl
+  type-same room h (Ok (used, kinds)) q = room-same read to room (octets-most used kinds q h)
+  type-same room h (Err (Refused why)) q = refl
+  type-same room h (Err Loop) q = refl
 
   pub room-enough : (room : ℕ) → rewrite_answer t order x to (min room rewritten_most) ≡ rewrite_answer t order x to room
   unfolding rewrite_answer choose
@@ -84,10 +85,10 @@ module _ (t : List ℕ) (order : Order) (x : Source) (to : Target) where
       (λ o. rw o)
       (λ o. rw o (type-same room o (checked_type t order).answer refl))
 
-  type-fits : (room n : ℕ) (a : TypeAnswer) → on_type a (λ _. rewrite_of read to room) Refused ≡ Accepted n → Fits (written to read) room n
-  type-fits room n (ok used kinds) e = fits read to room n e
-  type-fits room n (refused why) e = clash cc
-  type-fits room n Loop e = clash cc
+  type-fits : (room n : ℕ) (a : Result (ℕ × ℕ) NoType) → on_type a (λ _. rewrite_of read to room) Refused ≡ Accepted n → Fits (written to read) room n
+  type-fits room n (Ok (used, kinds)) e = fits read to room n e
+  type-fits room n (Err (Refused why)) e = clash cc
+  type-fits room n (Err Loop) e = clash cc
 
   answer-fits : (room n : ℕ) → rewrite_answer t order x to room ≡ Accepted n → Fits (rewritten t order x to) room n
   unfolding rewrite_answer choose

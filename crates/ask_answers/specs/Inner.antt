@@ -11,7 +11,7 @@
 --   rewritten_most  the most octets of a rewritten value, seven more than a value or a profile body may have
 --   reply_octets    how many octets of the memory an answer has
 --   OctetsHeld     a question's answer was found, and its octets are in the memory
-use Rattle.std.specs.Prelude.{◌≡◌, List, ℕ, ◌+◌, ◌*◌, ◌≤◌, length, take}
+use Rattle.std.specs.Prelude.{◌≡◌, List, ℕ, ◌+◌, ◌*◌, ◌≤◌, length, take, Option, Some, None}
 use Rattle.cdr.specs.Align.{index_of}
 use Rattle.cdr.specs.Limit.{octets_limit}
 use Rattle.value_meaning.specs.Sinks.{source}
@@ -21,40 +21,37 @@ use Rattle.ask_text.specs.declared.Reply.{Reply}
 use Rattle.ask_text.specs.declared.Reply.TheVariants.{Typed, Read, Refused, Unread, Signed, Unsigned, Single, Double}
 use Rattle.ask_text.specs.declared.Reply.TheVariants.{Rewritten, Profiled, Component, NoQuestion}
 use Rattle.ask_text.specs.Items.{items_of}
-use Rattle.ask_answers.specs.declared.octets.Octets.{Octets}
-use Rattle.ask_answers.specs.declared.octets.Octets.TheVariants.{Count, NotOctets}
 use Rattle.ask_answers.specs.declared.about.About.{About}
-use Rattle.ask_answers.specs.declared.about.About.TheVariants.{Is, NotAbout}
 use Rattle.ask_octets.specs.Octets.{WordOctets, are_octets, not_octets}
 use Rattle.ask_answers.specs.Questions.{Question, About as AboutOf, about, not_about, about_of}
 use Rattle.ask_answers.specs.Replies.{reply_to, items_in, answer_octets}
 use Rattle.ask_answers.specs.Answers.{table_for}
 
-abbrev pub octets_read : Octets → List ℕ → WordOctets
-octets_read (Count n) memory = are_octets (take n memory)
-octets_read NotOctets memory = not_octets
+abbrev pub octets_read : Option ℕ → List ℕ → WordOctets
+octets_read (Some n) memory = are_octets (take n memory)
+octets_read None memory = not_octets
 
-abbrev pub count_of : Octets → ℕ
-count_of (Count n) = n
-count_of NotOctets = 0
+abbrev pub count_of : Option ℕ → ℕ
+count_of (Some n) = n
+count_of None = 0
 
-pub record OctetsRead (o : WordOctets) (r : Octets) (memory : List ℕ) : Type 0 where
+pub record OctetsRead (o : WordOctets) (r : Option ℕ) (memory : List ℕ) : Type 0 where
   pub stands : octets_read r memory ≡ o
   pub within : count_of r ≤ length memory
 
-abbrev pub about_read : About → List ℕ → List ℕ → AboutOf
-about_read (Is typed types order values start) t v = about typed (take types t) (source (take values v) order (index_of start))
-about_read NotAbout t v = not_about
+abbrev pub about_read : Option About → List ℕ → List ℕ → AboutOf
+about_read (Some a) t v = about a.typed (take a.type_count t) (source (take a.value_count v) a.order (index_of a.start))
+about_read None t v = not_about
 
-abbrev pub type_count : About → ℕ
-type_count (Is typed types order values start) = types
-type_count NotAbout = 0
+abbrev pub type_count : Option About → ℕ
+type_count (Some a) = a.type_count
+type_count None = 0
 
-abbrev pub value_count : About → ℕ
-value_count (Is typed types order values start) = values
-value_count NotAbout = 0
+abbrev pub value_count : Option About → ℕ
+value_count (Some a) = a.value_count
+value_count None = 0
 
-pub record AboutRead (rest : List ℕ) (s : Subject) (r : About) (t v : List ℕ) : Type 0 where
+pub record AboutRead (rest : List ℕ) (s : Subject) (r : Option About) (t v : List ℕ) : Type 0 where
   pub stands : about_read r t v ≡ about_of (subject_words s rest)
   pub typed : type_count r ≤ length t
   pub valued : value_count r ≤ length v

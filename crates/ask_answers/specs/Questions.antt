@@ -18,11 +18,9 @@
 --   word_question               by the first word of a line, which says what is asked, and those behind it
 --   question_from               by the words of a line
 --   question_of                 by a line; one of more characters than a line may have is no question
-use Rattle.std.specs.Prelude.{List, [], ◌∷◌, ℕ, ltb, length}
+use Rattle.std.specs.Prelude.{List, [], ◌∷◌, ℕ, ltb, length, Option, Some, None}
 use Rattle.choices.specs.Branch.{choose}
 use Rattle.cdr.specs.declared.Order.{Order}
-use Rattle.cdr.specs.declared.Named.{Named}
-use Rattle.cdr.specs.declared.Named.TheVariants.{Is, NoOrder}
 use Rattle.cdr.specs.Align.{index_of}
 use Rattle.value_meaning.specs.Sinks.{Source, source}
 use Rattle.ask_words.specs.Words.{words, same_word, order_word}
@@ -65,9 +63,9 @@ octets_question not_octets ask = no_question
 abbrev pub ordered_type : Order → List (List ℕ) → Question
 ordered_type order rest = octets_question (lone_octets rest) (λ v. type_asked order v)
 
-abbrev pub named_type : Named → List (List ℕ) → Question
-named_type (Is order) rest = ordered_type order rest
-named_type NoOrder rest = no_question
+abbrev pub named_type : Option Order → List (List ℕ) → Question
+named_type (Some order) rest = ordered_type order rest
+named_type None rest = no_question
 
 abbrev pub type_question : List (List ℕ) → Question
 type_question [] = no_question

@@ -16,39 +16,37 @@
 --   body_of        a body of which a component was found
 --   answer_octets  the octets that the answer is written from
 --   answer_line    the text that a line is answered, its LF included
-use Rattle.std.specs.Prelude.{List, [], ℕ, zero, suc, min, length}
+use Rattle.std.specs.Prelude.{List, [], ℕ, zero, suc, min, length, Result, Ok, Err}
 use Rattle.ask_room.specs.Room.{most_items}
 use Rattle.value_items.specs.Items.{item_case, bits_of}
 use Rattle.profile_parts.specs.Parts.{profile_refusal_number}
-use Rattle.profile.specs.declared.ProfileAnswer.{ProfileAnswer}
-use Rattle.profile.specs.declared.ProfileAnswer.TheVariants.{Read as says, Refused as not_read}
-use Rattle.profile.specs.declared.ComponentAnswer.{ComponentAnswer}
-use Rattle.profile.specs.declared.ComponentAnswer.TheVariants.{Found, Refused as not_found}
 use Rattle.profile.specs.Profile.{profile_of, component_of}
 use Rattle.value_meaning.specs.declared.ValueAnswer.{ValueAnswer}
 use Rattle.value_meaning.specs.declared.ValueAnswer.TheVariants.{Accepted as accepted, Refused as not_accepted}
 use Rattle.value_meaning.specs.Sinks.{Item}
 use Rattle.value_meaning.specs.Reading.{room_for}
 use Rattle.value_meaning.specs.Value.{value_answer, reading_of}
-use Rattle.typecode.specs.declared.TypeAnswer.{TypeAnswer}
-use Rattle.typecode.specs.declared.TypeAnswer.TheVariants.{Accepted as ok, Refused as refused, Loop}
 use Rattle.typecode.specs.TypeCode.{type_answer_number, checked_type}
 use Rattle.ask_text.specs.declared.Reply.{Reply}
 use Rattle.ask_text.specs.declared.Reply.TheVariants.{Typed, Read, Refused, Unread, Signed, Unsigned, Single, Double}
 use Rattle.ask_text.specs.declared.Reply.TheVariants.{Rewritten, Profiled, Component, NoQuestion}
 use Rattle.ask_text.specs.Replies.{reply_text}
-use Rattle.value.specs.declared.ItemAnswer.{ItemAnswer}
-use Rattle.value.specs.declared.ItemAnswer.TheVariants.{Given, Refused as no_item}
+use Rattle.value_items.specs.declared.ItemValue.{ItemValue}
 use Rattle.value.specs.Single.{item_answer}
 use Rattle.rewrite_meaning.specs.declared.RewriteAnswer.{RewriteAnswer}
 use Rattle.rewrite_meaning.specs.declared.RewriteAnswer.TheVariants.{Accepted as written_to, Refused as not_written}
 use Rattle.rewrite_meaning.specs.Rewriting.{rewrite_answer, rewritten}
 use Rattle.ask_answers.specs.Questions.{Question, type_asked, value_asked, item_asked, rewrite_asked, profile_asked, component_asked, no_question, question_of}
+use Rattle.cdr_fields.specs.declared.Extent.{Extent}
+use Rattle.profile.specs.declared.Profile.{Profile}
+use Rattle.profile_parts.specs.declared.Refusal.{Refusal}
+use Rattle.typecode.specs.declared.NoType.TheVariants.{Loop, Refused}
+use Rattle.typecode.specs.declared.NoType.{NoType}
 
-abbrev pub type_reply : TypeAnswer → Reply
-type_reply (ok used kinds) = Typed used kinds
-type_reply (refused why) = Refused (type_answer_number (refused why))
-type_reply Loop = Refused (type_answer_number Loop)
+abbrev pub type_reply : Result (ℕ × ℕ) NoType → Reply
+type_reply (Ok (used, kinds)) = Typed used kinds
+type_reply (Err (Refused why)) = Refused (type_answer_number (Err (Refused why)))
+type_reply (Err Loop) = Refused (type_answer_number (Err Loop))
 
 abbrev pub value_reply : ValueAnswer → Reply
 value_reply (accepted used items visits) = Read used visits items
@@ -60,21 +58,21 @@ item_shown (suc zero) bits = Unsigned bits
 item_shown (suc (suc zero)) bits = Single bits
 item_shown (suc (suc (suc n))) bits = Double bits
 
-abbrev pub item_reply : ItemAnswer → Reply
-item_reply (Given i) = item_shown (item_case i) (bits_of i)
-item_reply (no_item number) = Refused number
+abbrev pub item_reply : Result ItemValue ℕ → Reply
+item_reply (Ok i) = item_shown (item_case i) (bits_of i)
+item_reply (Err number) = Refused number
 
 abbrev pub rewrite_reply : RewriteAnswer → Reply
 rewrite_reply (written_to count) = Rewritten count
 rewrite_reply (not_written number) = Refused number
 
-abbrev pub profile_reply : ProfileAnswer → (n : ℕ) → Reply
-profile_reply (says p) n = Profiled p n
-profile_reply (not_read why) n = Refused (profile_refusal_number why)
+abbrev pub profile_reply : Result Profile Refusal → (n : ℕ) → Reply
+profile_reply (Ok p) n = Profiled p n
+profile_reply (Err why) n = Refused (profile_refusal_number why)
 
-abbrev pub component_reply : ComponentAnswer → (n : ℕ) → Reply
-component_reply (Found tag part) n = Component tag part n
-component_reply (not_found why) n = Refused (profile_refusal_number why)
+abbrev pub component_reply : Result (ℕ × Extent) Refusal → (n : ℕ) → Reply
+component_reply (Ok (tag, part)) n = Component tag part n
+component_reply (Err why) n = Refused (profile_refusal_number why)
 
 abbrev pub room_of : ℕ → ℕ
 room_of room = min room most_items
@@ -106,13 +104,13 @@ abbrev pub octets_given : RewriteAnswer → List ℕ → List ℕ
 octets_given (written_to count) xs = xs
 octets_given (not_written number) xs = []
 
-abbrev pub body_read : ProfileAnswer → List ℕ → List ℕ
-body_read (says p) v = v
-body_read (not_read why) v = []
+abbrev pub body_read : Result Profile Refusal → List ℕ → List ℕ
+body_read (Ok p) v = v
+body_read (Err why) v = []
 
-abbrev pub body_of : ComponentAnswer → List ℕ → List ℕ
-body_of (Found tag part) v = v
-body_of (not_found why) v = []
+abbrev pub body_of : Result (ℕ × Extent) Refusal → List ℕ → List ℕ
+body_of (Ok (tag, part)) v = v
+body_of (Err why) v = []
 
 abbrev pub answer_octets : Question → List ℕ
 answer_octets (type_asked order v) = []

@@ -2,7 +2,7 @@
 // a value rewritten, the reading of a profile body, and one of its components.
 #![tactic(auto)]
 
-ghost use Rattle.std.specs.Prelude.{◌≡◌, ◌^◌, ◌<◌, ◌≤◌, min, length};
+ghost use Rattle.std.specs.Prelude.{◌≡◌, ◌^◌, ◌<◌, ◌≤◌, length};
 ghost use Rattle.cdr_write.specs.Write.{Stored};
 ghost use Rattle.ask_room.specs.Room.{table_room};
 ghost use Rattle.ask_words.specs.Words.{words};
@@ -13,31 +13,29 @@ ghost use Rattle.ask_answers.specs.Answers.{table_for, LineAnswered};
 ghost use Rattle.ask_answers.specs.Inner.{reply_numbers, Replied, rewritten_most, reply_octets, OctetsHeld};
 
 use ask_text::Reply;
-use cdr_write::Written;
 
 mod about;
-mod octets;
 mod profiles;
 mod rewrites;
 mod types;
 mod values;
 
 // The most characters of a line.
-pub const LINE_LIMIT: usize = 131072;
+pub const LINE_LIMIT: usize = ask_octets::LINE_LIMIT;
 
 // Writes the answer of a line's characters, and its LF, from `at` on, and leaves its items in `table`; nothing where there is no room for the
 // longest answer.
-pub fn answer_line(line: &[u8], out: &mut [u8], table: &mut [u64], at: usize) -> Written
+pub fn answer_line(line: &[u8], out: &mut [u8], table: &mut [u64], at: usize) -> Option<usize>
     ensures { LineAnswered line.now out.old table.old at result out.new table.new }
 {
     if ask_room::has_room(table.len(), out.len(), at) {
         return answer_with(line, out, table, at);
     }
-    Written::NoRoom
+    None
 }
 
 // Writes the answer of a line, where the table has room for its items.
-fn answer_with(line: &[u8], out: &mut [u8], table: &mut [u64], at: usize) -> Written
+fn answer_with(line: &[u8], out: &mut [u8], table: &mut [u64], at: usize) -> Option<usize>
     requires { table_room ≤ length table.old }
     ensures { (Stored out.old at (answer_line line.now) result out.new)
         × (table.new ≡ table_for (question_of line.now) table.old) }
@@ -55,25 +53,8 @@ fn numbers_of(reply: Reply) -> usize
     ensures { result ≡ reply_numbers reply }
 {
     match reply {
-        Reply::Read {
-            used: _,
-            visits: _,
-            count,
-        } => count * 3,
-        Reply::Typed { used: _, kinds: _ }
-        | Reply::Refused(_)
-        | Reply::Unread {
-            number: _,
-            visits: _,
-        }
-        | Reply::Signed(_)
-        | Reply::Unsigned(_)
-        | Reply::Single(_)
-        | Reply::Double(_)
-        | Reply::Rewritten(_)
-        | Reply::Profiled(_, _)
-        | Reply::Component(_, _, _)
-        | Reply::NoQuestion => 0,
+        Reply::Read { count, .. } => count * 3,
+        _ => 0,
     }
 }
 
@@ -82,25 +63,9 @@ fn octets_of(reply: Reply) -> usize
     ensures { result ≡ reply_octets reply }
 {
     match reply {
-        Reply::Rewritten(count) => count,
-        Reply::Profiled(_, count) => count,
-        Reply::Component(_, _, count) => count,
-        Reply::Typed { used: _, kinds: _ }
-        | Reply::Read {
-            used: _,
-            visits: _,
-            count: _,
-        }
-        | Reply::Refused(_)
-        | Reply::Unread {
-            number: _,
-            visits: _,
-        }
-        | Reply::Signed(_)
-        | Reply::Unsigned(_)
-        | Reply::Single(_)
-        | Reply::Double(_)
-        | Reply::NoQuestion => 0,
+        Reply::Rewritten(count) | Reply::Profiled(_, count) | Reply::Component(_, _, count) =>
+            count,
+        _ => 0,
     }
 }
 
@@ -145,11 +110,4 @@ fn reply_words(word: &[u8], rest: &[u8], table: &mut [u64], memory: &mut [u8]) -
         return profiles::reply_component(rest, memory);
     }
     Reply::NoQuestion
-}
-
-// The lesser of two numbers.
-fn least(a: usize, b: usize) -> usize
-    ensures { result ≡ min a b }
-{
-    if a < b { a } else { b }
 }

@@ -9,10 +9,8 @@ ghost use Rattle.ask_octets.specs.Octets.{line_most};
 ghost use Rattle.ask_answers.specs.Questions.{rewrite_asked, rewrite_question};
 ghost use Rattle.ask_answers.specs.Inner.{rewritten_most, OctetsHeld};
 
-use crate::{about, octets};
-use about::About;
+use crate::about;
 use ask_text::Reply;
-use ask_words::Rewrite;
 use cdr::{Index, OCTETS_LIMIT, Order};
 use rewrite_meaning::RewriteAnswer;
 
@@ -24,30 +22,21 @@ pub(crate) fn reply_rewrite(rest: &[u8], memory: &mut [u8]) -> Reply
     requires { (length rest.now ≤ line_most) × (rewritten_most ≤ length memory.old) }
     ensures { OctetsHeld (rewrite_question (rewrite_fields_of (words rest.now))) result memory.new }
 {
-    let Rewrite::Asks(asked) = ask_words::read_rewrite(rest) else {
+    let Some(asked) = ask_words::read_rewrite(rest) else {
         return Reply::NoQuestion;
     };
-    let subject = asked.subject;
-    let chosen = asked.order;
-    let mut types = [0u8; octets::MOST];
-    let mut value = [0u8; octets::MOST];
-    let About::Is {
-        typed,
-        type_count,
-        order,
-        value_count,
-        start,
-    } = about::read(rest, subject, &mut types, &mut value)
-    else {
+    let mut types = [0u8; ask_octets::MOST];
+    let mut value = [0u8; ask_octets::MOST];
+    let Some(about) = about::read(rest, asked.subject, &mut types, &mut value) else {
         return Reply::NoQuestion;
     };
     rewrite(
-        &types[..type_count],
-        typed,
-        &value[..value_count],
-        order,
-        start,
-        chosen,
+        &types[..about.type_count],
+        about.typed,
+        &value[..about.value_count],
+        about.order,
+        about.start,
+        asked.order,
         asked.index,
         asked.room,
         memory,
@@ -70,7 +59,7 @@ fn rewrite(
     ensures { OctetsHeld (rewrite_asked typed types.now (source value.now order (index_of start)) (target chosen (index_of index)) room)
         result memory.new }
 {
-    let n = crate::least(room as usize, MOST);
+    let n = (room as usize).min(MOST);
     let first = Index(start as usize);
     let to = Index(index as usize);
     let answer = rewrite::rewrite(

@@ -6,11 +6,9 @@ ghost use Rattle.ask_octets.specs.Octets.{line_most};
 ghost use Rattle.ask_answers.specs.Questions.{ordered_type, type_question};
 ghost use Rattle.ask_answers.specs.Replies.{reply_to, type_reply};
 
-use crate::octets;
+use ask_octets::MOST;
 use ask_text::Reply;
-use cdr::{Named, Order};
-use octets::Octets;
-use typecode::TypeAnswer;
+use cdr::Order;
 
 // Answers the words `ORDER TYPE`.
 pub(crate) fn reply_type(rest: &[u8]) -> Reply
@@ -21,7 +19,7 @@ pub(crate) fn reply_type(rest: &[u8]) -> Reply
     if end == rest.len() {
         return Reply::NoQuestion;
     }
-    let Named::Is(order) = ask_words::read_order(&rest[..end]) else {
+    let Some(order) = ask_words::read_order(&rest[..end]) else {
         return Reply::NoQuestion;
     };
     reply_ordered(order, &rest[end + 1..])
@@ -32,8 +30,8 @@ fn reply_ordered(order: Order, rest: &[u8]) -> Reply
     requires { length rest.now ≤ line_most }
     ensures { result ≡ reply_to (ordered_type order (words rest.now)) }
 {
-    let mut memory = [0u8; octets::MOST];
-    let Octets::Count(n) = octets::read_lone(rest, &mut memory) else {
+    let mut memory = [0u8; MOST];
+    let Some(n) = ask_octets::read_lone(rest, &mut memory) else {
         return Reply::NoQuestion;
     };
     check(&memory[..n], order)
@@ -46,7 +44,7 @@ fn check(types: &[u8], order: Order) -> Reply
     let checked = typecode::check_type(types, order);
     let answer = checked.answer;
     match answer {
-        TypeAnswer::Accepted { used, kinds } => Reply::Typed { used, kinds },
-        TypeAnswer::Refused(_) | TypeAnswer::Loop => Reply::Refused(answer.number()),
+        Ok((used, kinds)) => Reply::Typed { used, kinds },
+        Err(_) => Reply::Refused(typecode::type_answer_number(answer)),
     }
 }

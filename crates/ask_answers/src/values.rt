@@ -10,12 +10,10 @@ ghost use Rattle.ask_answers.specs.Questions.{value_asked, item_asked, about_que
 ghost use Rattle.ask_answers.specs.Replies.{item_shown, room_of, reply_to};
 ghost use Rattle.ask_answers.specs.Inner.{Replied};
 
-use crate::{about, octets};
-use about::About;
+use crate::about;
+use ask_octets::MOST;
 use ask_text::Reply;
-use ask_words::SubjectFields;
 use cdr::{Index, Order};
-use value::ItemAnswer;
 use value_meaning::ValueAnswer;
 
 // The most items of an answer.
@@ -25,11 +23,7 @@ const ITEMS: u64 = cdr::OCTETS_LIMIT as u64;
 fn room_of(room: u64) -> usize
     ensures { result ≡ room_of room }
 {
-    if room < ITEMS {
-        room as usize
-    } else {
-        ITEMS as usize
-    }
+    room.min(ITEMS) as usize
 }
 
 // Answers the words behind `value`, and leaves the items in `table`, three numbers each.
@@ -37,28 +31,20 @@ pub(crate) fn reply_value(rest: &[u8], table: &mut [u64]) -> Reply
     requires { (length rest.now ≤ line_most) × (table_room ≤ length table.old) }
     ensures { Replied (about_question value_asked (value_fields (words rest.now))) table.old result table.new }
 {
-    let SubjectFields::Are(asked) = ask_words::read_fields(rest) else {
+    let Some(asked) = ask_words::read_fields(rest) else {
         return Reply::NoQuestion;
     };
-    let subject = asked.subject;
-    let mut types = [0u8; octets::MOST];
-    let mut value = [0u8; octets::MOST];
-    let About::Is {
-        typed,
-        type_count,
-        order,
-        value_count,
-        start,
-    } = about::read(rest, subject, &mut types, &mut value)
-    else {
+    let mut types = [0u8; MOST];
+    let mut value = [0u8; MOST];
+    let Some(about) = about::read(rest, asked.subject, &mut types, &mut value) else {
         return Reply::NoQuestion;
     };
     read_value(
-        &types[..type_count],
-        typed,
-        &value[..value_count],
-        order,
-        start,
+        &types[..about.type_count],
+        about.typed,
+        &value[..about.value_count],
+        about.order,
+        about.start,
         asked.number,
         table,
     )
@@ -106,28 +92,20 @@ pub(crate) fn reply_item(rest: &[u8]) -> Reply
     requires { length rest.now ≤ line_most }
     ensures { result ≡ reply_to (about_question item_asked (value_fields (words rest.now))) }
 {
-    let SubjectFields::Are(asked) = ask_words::read_fields(rest) else {
+    let Some(asked) = ask_words::read_fields(rest) else {
         return Reply::NoQuestion;
     };
-    let subject = asked.subject;
-    let mut types = [0u8; octets::MOST];
-    let mut value = [0u8; octets::MOST];
-    let About::Is {
-        typed,
-        type_count,
-        order,
-        value_count,
-        start,
-    } = about::read(rest, subject, &mut types, &mut value)
-    else {
+    let mut types = [0u8; MOST];
+    let mut value = [0u8; MOST];
+    let Some(about) = about::read(rest, asked.subject, &mut types, &mut value) else {
         return Reply::NoQuestion;
     };
     read_item(
-        &types[..type_count],
-        typed,
-        &value[..value_count],
-        order,
-        start,
+        &types[..about.type_count],
+        about.typed,
+        &value[..about.value_count],
+        about.order,
+        about.start,
         asked.number,
     )
 }
@@ -145,8 +123,8 @@ fn read_item(
 {
     let answer = value::read_item(types, typed, value, order, Index(start as usize), number);
     match answer {
-        ItemAnswer::Given(item) => shown(item.case(), item.bits()),
-        ItemAnswer::Refused(number) => Reply::Refused(number),
+        Ok(item) => shown(item.case(), item.bits()),
+        Err(number) => Reply::Refused(number),
     }
 }
 

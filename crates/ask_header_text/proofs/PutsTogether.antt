@@ -1,23 +1,21 @@
 -- Characters put one behind the other, where there is room for them.
-use mathlib.Core.Path.{◌≡◌, ap, ◌∙◌}
+use Rattle.std.specs.Prelude.{Option, Some, None}
+use Rattle.std.specs.Option.{unwrap_or}
+use mathlib.Core.Path.{◌≡◌, refl, sym, ap, ◌∙◌}
 use mathlib.Core.List.{List, ◌++◌}
 use Prim.Native.Nat.{ℕ, ◌+◌}
 use native.Mathlib.Omega.{arith}
 use lib.ListN.{length, length-append}
 use lib.Seq.{length-sets}
 use Rattle.decimals.proofs.CharactersPut.{put_then, put-upto, put-always}
-use Rattle.cdr_write.specs.declared.Written.{Written}
-use Rattle.cdr_write.specs.declared.Written.TheVariants.{Upto, NoRoom}
 use Rattle.cdr_write.specs.Write.{Stored}
 use Rattle.ask_header_text.specs.Inner.{Puts}
 
 -- what was stored, or had no room
-module _ (out : List ℕ) (at : ℕ) (xs : List ℕ) (w : Written) (last : List ℕ) (s : Stored out at xs w last) where
-  pub puts-upto : (e : ℕ) → w ≡ Upto e → Puts out at xs e last
-  puts-upto e t = record { put = λ h. put-upto out at xs w last h s e t }
-
-  pub puts_none : (e : ℕ) → w ≡ NoRoom → Puts out at xs e last
-  puts_none e t = record { put = λ h. put-always out at xs w last h s t }
+pub puts_or : (out : List ℕ) (at : ℕ) (xs : List ℕ) (w : Option ℕ) (last : List ℕ) → Stored out at xs w last → (e r : ℕ) → r ≡ unwrap_or w e
+    → Puts out at xs r last
+puts_or out at xs (Some n) last s e r t = record { put = λ h. put-upto out at xs (Some n) last h s r (ap Some (sym t)) }
+puts_or out at xs None last s e r t = record { put = λ h. put-always out at xs None last h s refl }
 
 -- one behind the other
 pub puts_then : {out : List ℕ} {at : ℕ} {xs : List ℕ} {e : ℕ} {m ys : List ℕ} {f : ℕ} {last : List ℕ}

@@ -1,4 +1,5 @@
 -- How long the text of a header is: a message of at most 16,384 octets has fewer in each part.
+use Rattle.std.specs.Prelude.{Result, Ok, Err}
 use mathlib.Core.Path.{◌≡◌}
 use mathlib.Core.List.{List, [], ◌∷◌, ◌++◌}
 use Prim.Native.Nat.{ℕ, ◌+◌, ◌*◌, ◌≤◌}
@@ -19,8 +20,6 @@ use Rattle.header_parts.specs.declared.TargetAddress.TheVariants.{Key, Profile, 
 use Rattle.header_parts.specs.Parts.{header_refusal_number}
 use Rattle.header.specs.declared.RequestHeader.{RequestHeader}
 use Rattle.header.specs.declared.ReplyHeader.{ReplyHeader}
-use Rattle.header.specs.declared.HeaderAnswer.{HeaderAnswer}
-use Rattle.header.specs.declared.HeaderAnswer.TheVariants.{Called, Answered, Refused}
 use Rattle.header.specs.Header.{header_answer}
 use Rattle.ask_text.specs.Items.{colon, lf}
 use Rattle.ask_text.specs.Replies.{space}
@@ -28,6 +27,8 @@ use Rattle.ask_text.proofs.OctetsPut.{octets-most}
 use Rattle.ask_text.proofs.TextsFit.{part-most}
 use Rattle.ask_header_text.specs.Inner.{Puts}
 use Rattle.ask_header_text.specs.Texts.{number_text, part_text, target_text, request_text, reply_header_text, refusal_text, header_answer_text}
+use Rattle.header.specs.declared.MessageHeader.TheVariants.{Answered, Called}
+use Rattle.header.specs.declared.MessageHeader.{MessageHeader}
 
 abbrev pub header_most : ℕ
 header_most = octets_limit * 6 + 174
@@ -79,10 +80,10 @@ refusal-few : (why : Refusal) → length (refusal_text why) ≤ 24
 unfolding refusal_text
 refusal-few why = omega (arith, (number-few (header_refusal_number why) lf).most)
 
-answer-few : (a : HeaderAnswer) (v : List ℕ) → length v ≤ octets_limit → length (header_answer_text a v) ≤ header_most
-answer-few (Called q) v h = omega (arith, request-few q v)
-answer-few (Answered a) v h = omega (arith, reply-few a)
-answer-few (Refused why) v h = omega (arith, refusal-few why)
+answer-few : (a : Result MessageHeader Refusal) (v : List ℕ) → length v ≤ octets_limit → length (header_answer_text a v) ≤ header_most
+answer-few (Ok (Called q)) v h = omega (arith, request-few q v)
+answer-few (Ok (Answered a)) v h = omega (arith, reply-few a)
+answer-few (Err why) v h = omega (arith, refusal-few why)
 
 -- a message of more octets is refused
 pub header-few : (v : List ℕ) → length (header_answer_text (header_answer v) v) ≤ header_most

@@ -11,7 +11,7 @@
 --   refusal_text      `no N`
 --   header_answer_text
 --                    the text of an answer
-use Rattle.std.specs.Prelude.{List, [], ◌∷◌, ◌++◌, ℕ}
+use Rattle.std.specs.Prelude.{List, [], ◌∷◌, ◌++◌, ℕ, Result, Ok, Err}
 use Rattle.cdr_fields.specs.declared.Extent.{Extent}
 use Rattle.cdr_fields.specs.Extents.{extent_octets}
 use Rattle.decimals.specs.Decimal.{decimal}
@@ -21,10 +21,10 @@ use Rattle.header_parts.specs.declared.TargetAddress.TheVariants.{Key, Profile, 
 use Rattle.header_parts.specs.Parts.{header_refusal_number}
 use Rattle.header.specs.declared.RequestHeader.{RequestHeader}
 use Rattle.header.specs.declared.ReplyHeader.{ReplyHeader}
-use Rattle.header.specs.declared.HeaderAnswer.{HeaderAnswer}
-use Rattle.header.specs.declared.HeaderAnswer.TheVariants.{Called, Answered, Refused}
 use Rattle.ask_text.specs.Items.{colon, lf}
 use Rattle.ask_text.specs.Replies.{space, ok_text, no_text, octets_text}
+use Rattle.header.specs.declared.MessageHeader.TheVariants.{Answered, Called}
+use Rattle.header.specs.declared.MessageHeader.{MessageHeader}
 
 abbrev pub number_text : ℕ → (behind : ℕ) → List ℕ
 number_text x behind = decimal x ++ (behind ∷ [])
@@ -77,7 +77,7 @@ reply_header_text a =
 unfoldable pub refusal_text : Refusal → List ℕ
 refusal_text why = no_text (number_text (header_refusal_number why) lf)
 
-abbrev pub header_answer_text : HeaderAnswer → List ℕ → List ℕ
-header_answer_text (Called q) v = request_text q v
-header_answer_text (Answered a) v = reply_header_text a
-header_answer_text (Refused why) v = refusal_text why
+abbrev pub header_answer_text : Result MessageHeader Refusal → List ℕ → List ℕ
+header_answer_text (Ok (Called q)) v = request_text q v
+header_answer_text (Ok (Answered a)) v = reply_header_text a
+header_answer_text (Err why) v = refusal_text why

@@ -7,8 +7,7 @@ ghost use Rattle.ask_header_text.specs.Texts.{number_text, part_text, target_tex
 ghost use Rattle.ask_header_text.specs.Inner.{Puts};
 
 use cdr_fields::Extent;
-use cdr_write::Written;
-use header::{HeaderAnswer, ReplyHeader, RequestHeader};
+use header::{MessageHeader, ReplyHeader, RequestHeader};
 use header_parts::{Refusal, TargetAddress};
 
 // The characters of the longest text, a request's: seven numbers of at most 20 digits and a character behind each, three parts of the message,
@@ -22,7 +21,7 @@ const COLON: u8 = b':';
 const LF: u8 = b'\n';
 
 // Writes the text of what a message's header says from `at` on, or of its refusal; or nothing where it does not fit.
-pub fn write_header(out: &mut [u8], at: usize, message: &[u8]) -> Written
+pub fn write_header(out: &mut [u8], at: usize, message: &[u8]) -> Option<usize>
     ensures { Stored out.old at (header_answer_text (header_answer message.now) message.now) result out.new }
 {
     let mut text = [0u8; LONGEST];
@@ -35,9 +34,9 @@ fn put_answer(out: &mut [u8], message: &[u8]) -> usize
     ensures { Puts out.old 0 (header_answer_text (header_answer message.now) message.now) result out.new }
 {
     match header::read(message) {
-        HeaderAnswer::Called(request) => put_request(out, request, message),
-        HeaderAnswer::Answered(reply) => put_reply(out, reply),
-        HeaderAnswer::Refused(refusal) => put_refusal(out, refusal),
+        Ok(MessageHeader::Called(request)) => put_request(out, request, message),
+        Ok(MessageHeader::Answered(reply)) => put_reply(out, reply),
+        Err(refusal) => put_refusal(out, refusal),
     }
 }
 
@@ -46,11 +45,10 @@ fn put_request(out: &mut [u8], request: RequestHeader, message: &[u8]) -> usize
     ensures { Puts out.old 0 (request_text request message.now) result out.new }
 {
     let first = put_word(out, 0, b"ok request ");
-    let versed = put_number(out, first, request.minor as u64, SPACE);
+    let versed = put_number(out, first, u64::from(request.minor), SPACE);
     let identified = put_number(out, versed, request.id, SPACE);
     let responded = put_number(out, identified, request.response, SPACE);
-    let target = request.target;
-    let addressed = put_target(out, responded, target, message);
+    let addressed = put_target(out, responded, request.target, message);
     let named = put_part(out, addressed, request.operation, message, SPACE);
     let last = put_part(out, named, request.principal, message, SPACE);
     let counted = put_number(out, last, request.contexts.count, SPACE);
@@ -62,7 +60,7 @@ fn put_reply(out: &mut [u8], reply: ReplyHeader) -> usize
     ensures { Puts out.old 0 (reply_header_text reply) result out.new }
 {
     let first = put_word(out, 0, b"ok reply ");
-    let versed = put_number(out, first, reply.minor as u64, SPACE);
+    let versed = put_number(out, first, u64::from(reply.minor), SPACE);
     let identified = put_number(out, versed, reply.id, SPACE);
     let last = put_number(out, identified, reply.status, SPACE);
     let counted = put_number(out, last, reply.contexts.count, SPACE);
@@ -74,7 +72,7 @@ fn put_refusal(out: &mut [u8], refusal: Refusal) -> usize
     ensures { Puts out.old 0 (refusal_text refusal) result out.new }
 {
     let first = put_word(out, 0, b"no ");
-    put_number(out, first, refusal.number() as u64, LF)
+    put_number(out, first, u64::from(refusal.number()), LF)
 }
 
 // Puts a target, a space behind it.
@@ -108,20 +106,14 @@ fn put_target(out: &mut [u8], at: usize, target: TargetAddress, message: &[u8]) 
 fn put_word(out: &mut [u8], at: usize, word: &[u8]) -> usize
     ensures { Puts out.old at word.now result out.new }
 {
-    let Written::Upto(end) = cdr_write::write_octets(out, at, word) else {
-        return at;
-    };
-    end
+    cdr_write::write_octets(out, at, word).unwrap_or(at)
 }
 
 // Puts a number and the character behind it.
 fn put_number(out: &mut [u8], at: usize, x: u64, behind: u8) -> usize
     ensures { Puts out.old at (number_text x behind) result out.new }
 {
-    let Written::Upto(end) = decimals::write_decimal(out, at, x, behind) else {
-        return at;
-    };
-    end
+    decimals::write_decimal(out, at, x, behind).unwrap_or(at)
 }
 
 // Puts octets of the message, and the character behind them.
@@ -129,8 +121,5 @@ fn put_part(out: &mut [u8], at: usize, part: Extent, message: &[u8], behind: u8)
     ensures { Puts out.old at (part_text part behind message.now) result out.new }
 {
     let octets = cdr_fields::octets_in(message, part);
-    let Written::Upto(end) = ask_text::write_octets(out, at, b"", octets, behind) else {
-        return at;
-    };
-    end
+    ask_text::write_octets(out, at, b"", octets, behind).unwrap_or(at)
 }

@@ -1,4 +1,5 @@
 -- How long an answer about a header is, and that characters beyond the most of a line are not seen.
+use Rattle.std.specs.Prelude.{Result, Ok, Err}
 use mathlib.Core.Path.{◌≡◌, refl}
 use mathlib.Core.Bool.{true}
 use mathlib.Core.List.{List, []}
@@ -14,9 +15,6 @@ use Rattle.cdr.specs.Limit.{octets_limit}
 use Rattle.cdr_fields.specs.Extents.{extent_octets}
 use Rattle.header_parts.specs.declared.Refusal.TheVariants.{TooLong}
 use Rattle.header_parts.specs.Parts.{header_refusal_number}
-use Rattle.header.specs.declared.HeaderAnswer.TheVariants.{Refused as no_header}
-use Rattle.header.specs.declared.NumberedAnswer.{NumberedAnswer}
-use Rattle.header.specs.declared.NumberedAnswer.TheVariants.{Found, Refused as not_found}
 use Rattle.header.specs.Header.{header_answer}
 use Rattle.header.specs.Numbered.{context_of, profile_of_target}
 use Rattle.header_head.specs.Head.{head_answer}
@@ -31,17 +29,19 @@ use Rattle.ask_octets.specs.Octets.{line_most}
 use Rattle.ask_headers.specs.HeaderQuestions.{HeaderQuestion, header_asked, context_asked, target_asked, head_asked, no_header_question, header_question_of, asks_header}
 use Rattle.ask_headers.specs.HeaderReplies.{numbered_reply, header_reply_text, header_line}
 use Rattle.ask_headers.proofs.HeadsGiven.{head_few}
+use Rattle.cdr_fields.specs.declared.Extent.{Extent}
+use Rattle.header_parts.specs.declared.Refusal.{Refusal}
 
 -- a message of more octets than a message may have is refused
-too_long : (v : List ℕ) → ltb octets_limit (length v) ≡ true → header_answer v ≡ no_header TooLong
+too_long : (v : List ℕ) → ltb octets_limit (length v) ≡ true → header_answer v ≡ Err TooLong
 unfolding header_answer choose
 too_long v e = rw e
 
 -- what is found is in a message of no more
 module _ (v : List ℕ) where
-  numbered-few : (a : NumberedAnswer) → (ltb octets_limit (length v) ≡ true → a ≡ not_found TooLong) → length (reply_text (numbered_reply a (length v)) [] v) ≤ answer_most
+  numbered-few : (a : Result (ℕ × Extent) Refusal) → (ltb octets_limit (length v) ≡ true → a ≡ Err TooLong) → length (reply_text (numbered_reply a (length v)) [] v) ≤ answer_most
   unfolding reply_text
-  numbered-few (Found tag part) over =
+  numbered-few (Ok (tag, part)) over =
       by-test (ltb octets_limit (length v))
       (λ e. let c = over e in clash cc)
       (λ e.
@@ -53,7 +53,7 @@ module _ (v : List ℕ) where
         octets-most (extent_octets v part) lf,
         part-most v part,
       ))
-  numbered-few (not_found why) over =
+  numbered-few (Err why) over =
       omega (
         arith,
         length-append (head_text (Refused (header_refusal_number why))) [],

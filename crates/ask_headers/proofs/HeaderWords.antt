@@ -1,4 +1,5 @@
 -- What the steps of answering a line about a header amount to.
+use Rattle.std.specs.Prelude.{Option, Some, None}
 use mathlib.Core.Path.{◌≡◌, ap, ◌∙◌}
 use mathlib.Core.Bool.{true, false}
 use mathlib.Core.List.{List, []}
@@ -10,18 +11,12 @@ use lib.Dec.{ltb}
 use borrow.Author.Tests.{lt-ltb, le-ltb, ltb-true, ltb-false}
 use Rattle.choices.proofs.Choices.{by-test}
 use Rattle.choices.specs.Branch.{choose}
-use Rattle.ask_words.specs.declared.Numbered.{Numbered}
-use Rattle.ask_words.specs.declared.Numbered.TheVariants.{Is as IsNumbered, NotNumbered}
 use Rattle.ask_words.specs.Words.{words, same_word}
 use Rattle.ask_words.specs.Found.{FirstWord}
 use Rattle.ask_words.specs.Fields.{numbered_fields_of}
 use Rattle.ask_words.specs.Inner.{NumberedRead}
-use Rattle.ask_octets.specs.declared.WordAnswer.{WordAnswer}
-use Rattle.ask_octets.specs.declared.WordAnswer.TheVariants.{Count, NotOctets}
 use Rattle.ask_octets.specs.Octets.{line_most, octets_word, WordRead}
 use Rattle.ask_octets.proofs.OctetsStand.{Stands, word_read, octets-not, octets-are, octets-within}
-use Rattle.ask_headers.specs.declared.NumberedOctets.{NumberedOctets}
-use Rattle.ask_headers.specs.declared.NumberedOctets.TheVariants.{Is, NotNumberedOctets}
 use Rattle.ask_headers.specs.HeaderQuestions.{header_word, context_word, target_word, head_word, HeaderQuestion, context_asked, target_asked, head_asked, no_header_question, header_question, numbered_question, header_word_question, header_question_of, is_header_word, asks_header}
 use Rattle.ask_headers.specs.HeaderReplies.{header_reply_text, header_line}
 use Rattle.ask_headers.specs.Inner.{NumberedOctetsRead}
@@ -119,31 +114,31 @@ module _ (word : List ℕ) where
       head-asks c = rw (← a, ← b, ← c)
 
 -- OCTETS and NUMBER
-module _ (rest : List ℕ) (f : Numbered) (p : NumberedRead rest f) where
-  pub subject-none : f ≡ NotNumbered → (memory : List ℕ) → NumberedOctetsRead (numbered_fields_of (words rest)) NotNumberedOctets memory
+module _ (rest : List ℕ) (f : Option (ℕ × ℕ)) (p : NumberedRead rest f) where
+  pub subject-none : f ≡ None → (memory : List ℕ) → NumberedOctetsRead (numbered_fields_of (words rest)) None memory
   subject-none e memory = record { asked = λ ask. rw (← p.read, e); within = omega arith }
 
-  module _ (end number : ℕ) (e : f ≡ IsNumbered end number) where
+  module _ (end number : ℕ) (e : f ≡ Some (end, number)) where
     pub numbered_within : end ≤ length rest
     numbered_within = rw e at p.within
 
-    module _ (before : List ℕ) (h : length rest ≤ length before * 2) (r : WordAnswer) (after : List ℕ) (o : WordRead (octets_word (take end rest)) before r after) where
+    module _ (before : List ℕ) (h : length rest ≤ length before * 2) (r : Option ℕ) (after : List ℕ) (o : WordRead (octets_word (take end rest)) before r after) where
       octets : Stands (octets_word (take end rest)) r after
       octets = let k = numbered_within in word_read (take end rest) o (omega (arith, h, length-take-le end rest k))
 
-      pub subject-not : r ≡ NotOctets → NumberedOctetsRead (numbered_fields_of (words rest)) NotNumberedOctets after
+      pub subject-not : r ≡ None → NumberedOctetsRead (numbered_fields_of (words rest)) None after
       subject-not g = record { asked = λ ask. rw (← p.read, e) (octets-not octets g no_header_question (λ v. ask v number)); within = omega arith }
 
-      pub subject-is : (n : ℕ) → r ≡ Count n → NumberedOctetsRead (numbered_fields_of (words rest)) (Is n number) after
+      pub subject-is : (n : ℕ) → r ≡ Some n → NumberedOctetsRead (numbered_fields_of (words rest)) (Some (n, number)) after
       subject-is n g = record { asked = λ ask. rw (← p.read, e) (octets-are octets n g no_header_question (λ v. ask v number)); within = octets-within octets n g }
 
 -- a question by what was read
-module _ (rest : List ℕ) (r : NumberedOctets) (memory : List ℕ) (s : NumberedOctetsRead (numbered_fields_of (words rest)) r memory) (ask : List ℕ → ℕ → HeaderQuestion) where
-  pub asked-not : r ≡ NotNumberedOctets → numbered_question ask (numbered_fields_of (words rest)) ≡ no_header_question
+module _ (rest : List ℕ) (r : Option (ℕ × ℕ)) (memory : List ℕ) (s : NumberedOctetsRead (numbered_fields_of (words rest)) r memory) (ask : List ℕ → ℕ → HeaderQuestion) where
+  pub asked-not : r ≡ None → numbered_question ask (numbered_fields_of (words rest)) ≡ no_header_question
   asked-not e = s.asked ask ∙ rw e
 
-  pub asked_is : (count number : ℕ) → r ≡ Is count number → numbered_question ask (numbered_fields_of (words rest)) ≡ ask (take count memory) number
+  pub asked_is : (count number : ℕ) → r ≡ Some (count, number) → numbered_question ask (numbered_fields_of (words rest)) ≡ ask (take count memory) number
   asked_is count number e = s.asked ask ∙ rw e
 
-  pub asked-within : (count number : ℕ) → r ≡ Is count number → count ≤ length memory
+  pub asked-within : (count number : ℕ) → r ≡ Some (count, number) → count ≤ length memory
   asked-within count number e = rw e at s.within

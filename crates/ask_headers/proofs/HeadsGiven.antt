@@ -1,5 +1,6 @@
 -- What stands before a message's body has at most as many octets as the message, so that more room than 16,384 is no difference; and its octets
 -- stand at the start of the memory.
+use Rattle.std.specs.Prelude.{Result, Ok, Err}
 use mathlib.Core.Path.{◌≡◌, refl, sym, ap, ◌∙◌}
 use mathlib.Core.List.{List, [], ◌∷◌, ◌++◌}
 use Prim.Native.Nat.{ℕ, suc, ◌+◌, ◌*◌, ◌-◌, ◌≤◌, min}
@@ -16,12 +17,8 @@ use Rattle.decimals.proofs.CharactersPut.{take-written}
 use Rattle.header_parts.specs.declared.Refusal.{Refusal}
 use Rattle.header_parts.specs.declared.Refusal.TheVariants.{NoRoom}
 use Rattle.header_parts.specs.Parts.{header_refusal_number}
-use Rattle.header.specs.declared.HeaderAnswer.{HeaderAnswer}
-use Rattle.header.specs.declared.HeaderAnswer.TheVariants.{Called, Answered, Refused}
 use Rattle.header.specs.Header.{header_answer}
 use Rattle.header.proofs.HeadersWithin.{calls-within, answers-within}
-use Rattle.header_head.specs.declared.HeadAnswer.{HeadAnswer}
-use Rattle.header_head.specs.declared.HeadAnswer.TheVariants.{Written, Refused as not_written}
 use Rattle.header_head.specs.Head.{header_octets, padded, head_octets, head_written, head_in, head_answer, head_after}
 use Rattle.ask_text.specs.declared.Reply.TheVariants.{Rewritten, Refused as NotGiven}
 use Rattle.ask_text.specs.Items.{lf}
@@ -30,6 +27,8 @@ use Rattle.ask_text.proofs.OctetsPut.{octets-most}
 use Rattle.ask_text.proofs.TextsFit.{head-most}
 use Rattle.ask_headers.specs.HeaderQuestions.{head_asked}
 use Rattle.ask_headers.specs.HeaderReplies.{head_reply, head_given, header_reply_text}
+use Rattle.header.specs.declared.MessageHeader.TheVariants.{Answered, Called}
+use Rattle.header.specs.declared.MessageHeader.{MessageHeader}
 
 -- what stands before a body, by the place of the body
 record Fits (xs : List ℕ) (room n : ℕ) : Type 0 where
@@ -47,40 +46,40 @@ room-same room body h =
 padded-more : (l : List ℕ) (n : ℕ) → n ≤ length (padded l n)
 padded-more l n = omega (arith, length-append l (replicate (n - length l) 0), length-replicate {A = ℕ} (n - length l) 0)
 
-written-fits : (l : List ℕ) (room body n : ℕ) → body ≤ octets_limit → head_written room body ≡ Written n → Fits (padded l body) room n
+written-fits : (l : List ℕ) (room body n : ℕ) → body ≤ octets_limit → head_written room body ≡ Ok n → Fits (padded l body) room n
 unfolding head_written choose
 written-fits l room body n h e =
     by-test (ltb room body)
-    (λ t. let f : not_written NoRoom ≡ Written n = rw t at e in clash cc)
+    (λ t. let f : (Err NoRoom) ≡ Ok n = rw t at e in clash cc)
     (λ t.
-    let f : Written body ≡ Written n = rw t at e in
+    let f : (Ok body) ≡ Ok n = rw t at e in
     let k : body ≡ n = cc in
     record { roomed = omega (arith, ltb-false room body t); there = omega (arith, padded-more l body); few = omega arith })
 
 module _ (v : List ℕ) (room : ℕ) where
-  answer-same : (a : HeaderAnswer) → header_answer v ≡ a → head_in (min room octets_limit) a ≡ head_in room a
-  answer-same (Called q) e = let p = (calls-within v q e).parts in room-same room q.body (omega (arith, p.within, p.limit))
-  answer-same (Answered a) e = let p = (answers-within v a e).parts in room-same room a.body (omega (arith, p.within, p.limit))
-  answer-same (Refused why) e = refl
+  answer-same : (a : Result MessageHeader Refusal) → header_answer v ≡ a → head_in (min room octets_limit) a ≡ head_in room a
+  answer-same (Ok (Called q)) e = let p = (calls-within v q e).parts in room-same room q.body (omega (arith, p.within, p.limit))
+  answer-same (Ok (Answered a)) e = let p = (answers-within v a e).parts in room-same room a.body (omega (arith, p.within, p.limit))
+  answer-same (Err why) e = refl
 
   enough-room : head_answer v (min room octets_limit) ≡ head_answer v room
   unfolding head_answer
   enough-room = answer-same (header_answer v) refl
 
-  fits_by : (a : HeaderAnswer) → header_answer v ≡ a → (n : ℕ) → head_in room a ≡ Written n → Fits (head_octets v a) room n
-  fits_by (Called q) e n f = let p = (calls-within v q e).parts in written-fits (header_octets v 0 q.order q.minor) room q.body n (omega (arith, p.within, p.limit)) f
-  fits_by (Answered a) e n f = let p = (answers-within v a e).parts in written-fits (header_octets v 1 a.order a.minor) room a.body n (omega (arith, p.within, p.limit)) f
-  fits_by (Refused why) e n f = clash cc
+  fits_by : (a : Result MessageHeader Refusal) → header_answer v ≡ a → (n : ℕ) → head_in room a ≡ Ok n → Fits (head_octets v a) room n
+  fits_by (Ok (Called q)) e n f = let p = (calls-within v q e).parts in written-fits (header_octets v 0 q.order q.minor) room q.body n (omega (arith, p.within, p.limit)) f
+  fits_by (Ok (Answered a)) e n f = let p = (answers-within v a e).parts in written-fits (header_octets v 1 a.order a.minor) room a.body n (omega (arith, p.within, p.limit)) f
+  fits_by (Err why) e n f = clash cc
 
-  head-fits : (n : ℕ) → head_answer v room ≡ Written n → Fits (head_octets v (header_answer v)) room n
+  head-fits : (n : ℕ) → head_answer v room ≡ Ok n → Fits (head_octets v (header_answer v)) room n
   unfolding head_answer
   head-fits n e = fits_by (header_answer v) refl n e
 
   -- how long the text is
-  pub head_few : (a : HeadAnswer) → head_answer v room ≡ a
+  pub head_few : (a : Result ℕ Refusal) → head_answer v room ≡ a
       → length (reply_text (head_reply a) [] (head_given a (head_octets v (header_answer v)))) ≤ octets_limit * 2 + 68
   unfolding reply_text
-  head_few (Written n) e =
+  head_few (Ok n) e =
       let xs = take n (head_octets v (header_answer v)) in
       omega (
         arith,
@@ -90,7 +89,7 @@ module _ (v : List ℕ) (room : ℕ) where
         octets-most xs lf,
         length-take n (head_octets v (header_answer v)),
       )
-  head_few (not_written why) e =
+  head_few (Err why) e =
       omega (arith, length-append (head_text (NotGiven (header_refusal_number why))) [], head-most (NotGiven (header_refusal_number why)))
 
 -- the first octets of what is stored
@@ -114,16 +113,16 @@ module _ (v : List ℕ) (room : ℕ) (memory : List ℕ) (m : ℕ) (k : m ≡ mi
   lent_length : length lent ≡ m
   lent_length = length-take-le m memory (omega arith)
 
-  module _ (a : HeadAnswer) (e : a ≡ head_answer v (length lent)) where
+  module _ (a : Result ℕ Refusal) (e : a ≡ head_answer v (length lent)) where
     answered : head_answer v room ≡ a
     answered = sym (e ∙ ap (head_answer v) (lent_length ∙ k) ∙ enough-room v room)
 
-    pub head-refused : (why : Refusal) → a ≡ not_written why → (number : ℕ) → number ≡ header_refusal_number why → (xs : List ℕ)
+    pub head-refused : (why : Refusal) → a ≡ Err why → (number : ℕ) → number ≡ header_refusal_number why → (xs : List ℕ)
         → header_reply_text (head_asked v room) ≡ reply_text (NotGiven number) [] xs
     unfolding reply_text
     head-refused why g number n xs = rw (answered, g, n)
 
-    module _ (n : ℕ) (g : a ≡ Written n) (last : List ℕ) (f : last ≡ head_after v lent) where
+    module _ (n : ℕ) (g : a ≡ Ok n) (last : List ℕ) (f : last ≡ head_after v lent) where
       fit : Fits (head_octets v (header_answer v)) (length lent) n
       fit = head-fits v (length lent) n (sym e ∙ g)
 

@@ -2,7 +2,7 @@
 // and all before the body written back.
 #![tactic(auto)]
 
-ghost use Rattle.std.specs.Prelude.{◌≡◌, [], ◌*◌, ◌≤◌, min, length};
+ghost use Rattle.std.specs.Prelude.{◌≡◌, [], ◌*◌, ◌≤◌, length};
 ghost use Rattle.cdr.specs.Limit.{octets_limit};
 ghost use Rattle.cdr_write.specs.Write.{Stored};
 ghost use Rattle.ask_words.specs.Words.{words};
@@ -14,20 +14,11 @@ ghost use Rattle.ask_headers.specs.HeaderQuestions.{header_word_question, is_hea
 ghost use Rattle.ask_headers.specs.HeaderReplies.{numbered_reply, header_reply_text, header_line};
 ghost use Rattle.ask_headers.specs.Inner.{NumberedOctetsRead};
 
-use ask_octets::{LINE_LIMIT, MOST, WordAnswer};
+use ask_octets::{LINE_LIMIT, MOST};
 use ask_text::Reply;
-use ask_words::Numbered;
 use cdr::OCTETS_LIMIT;
-use cdr_write::Written;
-use header::NumberedAnswer;
-use header_head::HeadAnswer;
-
-// The number of the octets that a question is about, and NUMBER or ROOM.
-#[derive(Clone, Copy)]
-enum NumberedOctets {
-    Is { count: usize, number: u64 },
-    NotNumberedOctets,
-}
+use cdr_fields::Extent;
+use header_parts::Refusal;
 
 // Whether a line asks about a header.
 pub fn asks(line: &[u8]) -> bool
@@ -57,7 +48,7 @@ fn is_header_word(word: &[u8]) -> bool
 }
 
 // Writes the answer of a line's characters, and its LF, from `at` on; or nothing where it does not fit.
-pub fn answer(line: &[u8], out: &mut [u8], at: usize) -> Written
+pub fn answer(line: &[u8], out: &mut [u8], at: usize) -> Option<usize>
     ensures { Stored out.old at (header_line line.now) result out.new }
 {
     if LINE_LIMIT < line.len() {
@@ -71,7 +62,7 @@ pub fn answer(line: &[u8], out: &mut [u8], at: usize) -> Written
 }
 
 // Writes the answer of the first word of a line and those behind it.
-fn answer_words(word: &[u8], rest: &[u8], out: &mut [u8], at: usize) -> Written
+fn answer_words(word: &[u8], rest: &[u8], out: &mut [u8], at: usize) -> Option<usize>
     requires { length rest.now ≤ line_most }
     ensures { Stored out.old at (header_reply_text (header_word_question word.now (words rest.now))) result out.new }
 {
@@ -91,25 +82,25 @@ fn answer_words(word: &[u8], rest: &[u8], out: &mut [u8], at: usize) -> Written
 }
 
 // Writes the answer of the word behind `header`.
-fn answer_header(rest: &[u8], out: &mut [u8], at: usize) -> Written
+fn answer_header(rest: &[u8], out: &mut [u8], at: usize) -> Option<usize>
     requires { length rest.now ≤ line_most }
     ensures { Stored out.old at (header_reply_text (header_question (words rest.now))) result out.new }
 {
     let mut message = [0u8; MOST];
-    let WordAnswer::Count(n) = ask_octets::read_lone(rest, &mut message) else {
+    let Some(n) = ask_octets::read_lone(rest, &mut message) else {
         return no_question(out, at);
     };
     ask_header_text::write_header(out, at, &message[..n])
 }
 
 // Writes the answer of the words behind `context`.
-fn answer_context(rest: &[u8], out: &mut [u8], at: usize) -> Written
+fn answer_context(rest: &[u8], out: &mut [u8], at: usize) -> Option<usize>
     requires { length rest.now ≤ line_most }
     ensures { Stored out.old at (header_reply_text (numbered_question context_asked (numbered_fields_of (words rest.now))))
         result out.new }
 {
     let mut message = [0u8; MOST];
-    let NumberedOctets::Is { count, number } = read_octets(rest, &mut message) else {
+    let Some((count, number)) = read_octets(rest, &mut message) else {
         return no_question(out, at);
     };
     let found = header::context(&message[..count], number);
@@ -117,13 +108,13 @@ fn answer_context(rest: &[u8], out: &mut [u8], at: usize) -> Written
 }
 
 // Writes the answer of the words behind `target`.
-fn answer_target(rest: &[u8], out: &mut [u8], at: usize) -> Written
+fn answer_target(rest: &[u8], out: &mut [u8], at: usize) -> Option<usize>
     requires { length rest.now ≤ line_most }
     ensures { Stored out.old at (header_reply_text (numbered_question target_asked (numbered_fields_of (words rest.now))))
         result out.new }
 {
     let mut message = [0u8; MOST];
-    let NumberedOctets::Is { count, number } = read_octets(rest, &mut message) else {
+    let Some((count, number)) = read_octets(rest, &mut message) else {
         return no_question(out, at);
     };
     let found = header::target_profile(&message[..count], number);
@@ -131,13 +122,13 @@ fn answer_target(rest: &[u8], out: &mut [u8], at: usize) -> Written
 }
 
 // Writes the answer of the words behind `head`.
-fn answer_head(rest: &[u8], out: &mut [u8], at: usize) -> Written
+fn answer_head(rest: &[u8], out: &mut [u8], at: usize) -> Option<usize>
     requires { length rest.now ≤ line_most }
     ensures { Stored out.old at (header_reply_text (numbered_question head_asked (numbered_fields_of (words rest.now))))
         result out.new }
 {
     let mut message = [0u8; MOST];
-    let NumberedOctets::Is { count, number } = read_octets(rest, &mut message) else {
+    let Some((count, number)) = read_octets(rest, &mut message) else {
         return no_question(out, at);
     };
     let mut memory = [0u8; OCTETS_LIMIT];
@@ -145,44 +136,44 @@ fn answer_head(rest: &[u8], out: &mut [u8], at: usize) -> Written
 }
 
 // Writes the text of what stands before a message's body, or of its refusal. No body begins behind OCTETS_LIMIT, so that more room is no difference.
-fn write_head(out: &mut [u8], at: usize, message: &[u8], room: u64, memory: &mut [u8]) -> Written
+fn write_head(
+    out: &mut [u8],
+    at: usize,
+    message: &[u8],
+    room: u64,
+    memory: &mut [u8],
+) -> Option<usize>
     requires { octets_limit ≤ length memory.old }
     ensures { Stored out.old at (header_reply_text (head_asked message.now room)) result out.new }
 {
-    let n = least(room as usize, OCTETS_LIMIT);
+    let n = (room as usize).min(OCTETS_LIMIT);
     match header_head::head(message, &mut memory[..n]) {
-        HeadAnswer::Written(count) => write(out, at, Reply::Rewritten(count), &memory[..count]),
-        HeadAnswer::Refused(refusal) => write(out, at, Reply::Refused(refusal.number()), message),
+        Ok(count) => write(out, at, Reply::Rewritten(count), &memory[..count]),
+        Err(refusal) => write(out, at, Reply::Refused(refusal.number()), message),
     }
 }
 
-// The lesser of two numbers.
-fn least(a: usize, b: usize) -> usize
-    ensures { result ≡ min a b }
-{
-    if a < b { a } else { b }
-}
-
 // The octets that OCTETS stands for, written from the start of `message`, and NUMBER or ROOM.
-fn read_octets(rest: &[u8], message: &mut [u8]) -> NumberedOctets
+fn read_octets(rest: &[u8], message: &mut [u8]) -> Option<(usize, u64)>
     requires { length rest.now ≤ length message.old * 2 }
     ensures { NumberedOctetsRead (numbered_fields_of (words rest.now)) result message.new }
 {
-    let Numbered::Is { end, number } = ask_words::read_numbered(rest) else {
-        return NumberedOctets::NotNumberedOctets;
-    };
-    let WordAnswer::Count(count) = ask_octets::read(&rest[..end], message) else {
-        return NumberedOctets::NotNumberedOctets;
-    };
-    NumberedOctets::Is { count, number }
+    let (end, number) = ask_words::read_numbered(rest)?;
+    let count = ask_octets::read(&rest[..end], message)?;
+    Some((count, number))
 }
 
 // Writes the text of a context or a profile of the message, or of its refusal.
-fn write_numbered(out: &mut [u8], at: usize, found: NumberedAnswer, message: &[u8]) -> Written
+fn write_numbered(
+    out: &mut [u8],
+    at: usize,
+    found: Result<(u64, Extent), Refusal>,
+    message: &[u8],
+) -> Option<usize>
     ensures { Stored out.old at (reply_text (numbered_reply found (length message.now)) [] message.now) result out.new }
 {
     match found {
-        NumberedAnswer::Found { tag, octets } => {
+        Ok((tag, octets)) => {
             write(
                 out,
                 at,
@@ -190,14 +181,12 @@ fn write_numbered(out: &mut [u8], at: usize, found: NumberedAnswer, message: &[u
                 message,
             )
         }
-        NumberedAnswer::Refused(refusal) => {
-            write(out, at, Reply::Refused(refusal.number()), message)
-        }
+        Err(refusal) => { write(out, at, Reply::Refused(refusal.number()), message) }
     }
 }
 
 // Writes the text of an answer without items.
-fn write(out: &mut [u8], at: usize, reply: Reply, octets: &[u8]) -> Written
+fn write(out: &mut [u8], at: usize, reply: Reply, octets: &[u8]) -> Option<usize>
     ensures { Stored out.old at (reply_text reply [] octets.now) result out.new }
 {
     let items = [0u64; 1];
@@ -205,7 +194,7 @@ fn write(out: &mut [u8], at: usize, reply: Reply, octets: &[u8]) -> Written
 }
 
 // Writes `?`.
-fn no_question(out: &mut [u8], at: usize) -> Written
+fn no_question(out: &mut [u8], at: usize) -> Option<usize>
     ensures { Stored out.old at (header_reply_text no_header_question) result out.new }
 {
     cdr_write::write_octets(out, at, b"?\n")

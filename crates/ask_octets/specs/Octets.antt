@@ -9,14 +9,12 @@
 --   octets_answer  what reading them answers, by the room for them
 --   octets_into    what the memory then holds: they are stored from its start on where they fit, and the rest is as it was
 --   WordRead    both, as the contract says them
-use Rattle.std.specs.Prelude.{◌≡◌, List, [], ◌∷◌, Bool, cond, not, ◌&&◌, ℕ, ◌%◌, eqb, ltb, length}
+use Rattle.std.specs.Prelude.{◌≡◌, List, [], ◌∷◌, Bool, cond, not, ◌&&◌, ℕ, ◌%◌, eqb, ltb, length, Option, Some, None}
 use Rattle.std.proofs.lemmas.List.Edits.{sets}
 use Rattle.choices.specs.Branch.{choose}
 use Rattle.hexline.specs.Decoding.{all_digits, line_octets}
 use Rattle.lines.specs.Lines.{hyphen}
 use Rattle.ask_words.specs.Words.{same_word}
-use Rattle.ask_octets.specs.declared.WordAnswer.{WordAnswer}
-use Rattle.ask_octets.specs.declared.WordAnswer.TheVariants.{Count, NotOctets}
 
 abbrev pub line_most : ℕ
 line_most = 131072
@@ -46,14 +44,14 @@ abbrev pub on_octets : {A : Type 0} → WordOctets → A → (List ℕ → A) �
 on_octets (are_octets v) a f = f v
 on_octets not_octets a f = a
 
-abbrev pub octets_answer : WordOctets → (room : ℕ) → WordAnswer
-octets_answer (are_octets v) room = cond (ltb room (length v)) NotOctets (Count (length v))
-octets_answer not_octets room = NotOctets
+abbrev pub octets_answer : WordOctets → (room : ℕ) → Option ℕ
+octets_answer (are_octets v) room = cond (ltb room (length v)) None (Some (length v))
+octets_answer not_octets room = None
 
 abbrev pub octets_into : WordOctets → List ℕ → List ℕ
 octets_into (are_octets v) memory = cond (ltb (length memory) (length v)) memory (sets memory 0 v)
 octets_into not_octets memory = memory
 
-pub record WordRead (o : WordOctets) (before : List ℕ) (r : WordAnswer) (after : List ℕ) : Type 0 where
+pub record WordRead (o : WordOctets) (before : List ℕ) (r : Option ℕ) (after : List ℕ) : Type 0 where
   pub answer : r ≡ octets_answer o (length before)
   pub output : after ≡ octets_into o before

@@ -16,14 +16,5 @@ pub const LONGEST: usize = 66 + cdr::OCTETS_LIMIT * 63;
 pub fn has_room(table: usize, out: usize, at: usize) -> bool
     ensures { result ≡ answer_room table out at }
 {
-    if table < TABLE_ROOM {
-        return false;
-    }
-    if out < LONGEST {
-        return false;
-    }
-    if out - LONGEST < at {
-        return false;
-    }
-    true
+    TABLE_ROOM <= table && LONGEST <= out && at <= out - LONGEST
 }

@@ -1,4 +1,5 @@
 -- The digits of a number's octets, and how long the texts are.
+use Rattle.std.specs.Prelude.{Option}
 use mathlib.Core.Path.{◌≡◌, refl, sym, ap, subst, ◌∙◌}
 use mathlib.Core.List.{List, [], ◌∷◌, ◌++◌, append_assoc}
 use Prim.Native.Nat.{ℕ, ◌+◌, ◌-◌, ◌*◌, ◌^◌, ◌≤◌}
@@ -22,7 +23,6 @@ use Rattle.decimals.specs.Decimal.{decimal}
 use Rattle.decimals.specs.Puts.{Put}
 use Rattle.decimals.proofs.CharactersPut.{take-written, put-taken, number-most}
 use Rattle.decimals.proofs.DecimalIs.{decimal-most}
-use Rattle.hexline.specs.declared.Encoded.{Encoded}
 use Rattle.hexline.specs.Encoding.{octet_digits, encoded_into, Encodes}
 use Rattle.hexline.proofs.Answers.{digits-fit}
 use Rattle.hexline.proofs.OctetsOfDigits.{digits-length}
@@ -30,7 +30,6 @@ use Rattle.cdr_fields.specs.declared.Extent.{Extent}
 use Rattle.profile.specs.declared.Profile.{Profile}
 use Rattle.cdr_fields.specs.Extents.{extent_octets}
 use Rattle.value_items.specs.Rows.{Item}
-use Rattle.cdr_write.specs.declared.Written.{Written}
 use Rattle.cdr_write.specs.Write.{Stored}
 use Rattle.cdr_write.proofs.BufferHolds.{stored-fits}
 use Rattle.ask_text.specs.declared.Reply.{Reply}
@@ -58,7 +57,7 @@ ended xs h =
     (take-append-add xs (drop (length xs) (replicate 17 lf)) 1
     ∙ rw (drop-cons (replicate 17 lf) (length xs) 0 (omega arith), get_or-replicate 17 (length xs) lf 0 (omega arith)))
 
-module _ (size : Size) (x n : ℕ) (e : n ≡ octets size) (w : Written) (m : List ℕ) (s : Stored (replicate 8 0) 0 (octets_of Big (octets size) x) w m) where
+module _ (size : Size) (x n : ℕ) (e : n ≡ octets size) (w : Option ℕ) (m : List ℕ) (s : Stored (replicate 8 0) 0 (octets_of Big (octets size) x) w m) where
   bits-octets : take n m ≡ octets_of Big (octets size) x
   bits-octets =
       let l = octets-length Big (octets size) x in
@@ -66,7 +65,7 @@ module _ (size : Size) (x n : ℕ) (e : n ≡ octets size) (w : Written) (m : Li
       rw (stored-fits (replicate 8 0) 0 (octets_of Big (octets size) x) w m (omega arith) s)
       (take-written (replicate 8 0) (octets_of Big (octets size) x) n (e ∙ sym l) (omega arith))
 
-  pub bits-digits : (r : Encoded) (d : List ℕ) → Encodes (take n m) (replicate 17 lf) r d → take (n * 2 + 1) d ≡ bits_text (octets size) x ++ (lf ∷ [])
+  pub bits-digits : (r : Option ℕ) (d : List ℕ) → Encodes (take n m) (replicate 17 lf) r d → take (n * 2 + 1) d ≡ bits_text (octets size) x ++ (lf ∷ [])
   bits-digits r d t =
       let l = octets-length Big (octets size) x in
       let b = bits-length (octets size) x in
@@ -74,7 +73,7 @@ module _ (size : Size) (x n : ℕ) (e : n ≡ octets size) (w : Written) (m : Li
       let c : n * 2 + 1 ≡ length (bits_text (octets size) x) + 1 = omega arith in
       let q : length (take n m) * 2 ≤ 17 = rw bits-octets (omega arith) in
       let p : r ≡ _ = t.answer ∙ digits-fit (take n m) 17 q in
-      ap (take (n * 2 + 1)) (t.output ∙ ap (λ (a : Encoded). encoded_into a (take n m) (replicate 17 lf)) p ∙ ap (λ (v : List ℕ). sets (replicate 17 lf) 0 (octet_digits v)) bits-octets)
+      ap (take (n * 2 + 1)) (t.output ∙ ap (λ (a : Option ℕ). encoded_into a (take n m) (replicate 17 lf)) p ∙ ap (λ (v : List ℕ). sets (replicate 17 lf) 0 (octet_digits v)) bits-octets)
       ∙ ap (λ (j : ℕ). take j (sets (replicate 17 lf) 0 (bits_text (octets size) x))) c
       ∙ ended (bits_text (octets size) x) (omega arith)
 
@@ -82,7 +81,7 @@ pub bits-end : (size : Size) (x n : ℕ) → n ≡ octets size → length (bits_
 bits-end size x n e = rw length-append (omega (arith, bits-length (octets size) x))
 
 -- characters of a known number, stored where they fit
-pub put-counted : (out : List ℕ) (at : ℕ) (xs ys : List ℕ) (k : ℕ) (w : Written) (last : List ℕ) → xs ≡ ys → length ys ≡ k → at + k ≤ length out
+pub put-counted : (out : List ℕ) (at : ℕ) (xs ys : List ℕ) (k : ℕ) (w : Option ℕ) (last : List ℕ) → xs ≡ ys → length ys ≡ k → at + k ≤ length out
     → Stored out at xs w last → Put out at ys (at + k) last
 put-counted out at xs ys k w last e n h s =
     let t : Stored out at ys w last = subst (λ (zs : List ℕ). Stored out at zs w last) e s in

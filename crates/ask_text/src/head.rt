@@ -1,5 +1,7 @@
 // The text of the answers before a value's items, a rewritten value's octets, a profile's host or a component's octets, in memory that has
 // room for it.
+#![tactic(auto, using(crate::proofs::OctetsPut::number_room))]
+
 ghost use Rattle.std.specs.Prelude.{[], ◌∷◌, ◌++◌, ◌+◌, ◌≤◌, length};
 ghost use Rattle.cdr.specs.Align.{octets};
 ghost use Rattle.decimals.specs.Decimal.{decimal};
@@ -10,7 +12,6 @@ ghost use Rattle.ask_text.specs.Replies.{signed_text, bits_text, order_text, ver
 
 use crate::Reply;
 use cdr::{Order, Size};
-use cdr_write::Written;
 use profile::Head;
 
 const SPACE: u8 = b' ';
@@ -19,13 +20,10 @@ const LF: u8 = b'\n';
 
 // Puts a number and the character behind it.
 pub(crate) fn put_number(out: &mut [u8], at: usize, x: u64, behind: u8) -> usize
-    requires { at + 21 ≤ length out.old }
+    requires { at + length (decimal x ++ (behind ∷ [])) ≤ length out.old }
     ensures { Put out.old at (decimal x ++ (behind ∷ [])) result out.new }
 {
-    let Written::Upto(end) = decimals::write_decimal(out, at, x, behind) else {
-        return at;
-    };
-    end
+    decimals::write_decimal(out, at, x, behind).unwrap_or(at)
 }
 
 // Puts two numbers, the second with the character behind it.

@@ -1,12 +1,11 @@
 // The text of a value's items, `KIND:PLACE:CONTENT` joined by commas.
 ghost use Rattle.std.specs.Prelude.{◌≡◌, [], ◌∷◌, ◌++◌, ◌+◌, ◌<◌, ◌≤◌, leb, length};
-ghost use Rattle.decimals.specs.Decimal.{decimal};
 ghost use Rattle.decimals.specs.Puts.{Put};
 ghost use Rattle.cdr_write.specs.Write.{Stored};
 ghost use Rattle.ask_text.specs.Items.{hyphen, item_from, item_text, items_of, joined, items_text};
 ghost use Rattle.ask_text.specs.Inner.{behind_at};
 
-use cdr_write::Written;
+use crate::head::put_number;
 
 const COLON: u8 = b':';
 
@@ -38,29 +37,15 @@ fn item_length(items: &[u64], j: usize) -> usize
 fn fit_joined(items: &[u64], room: usize) -> bool
     ensures { result ≡ leb (length (joined (items_of items.now))) room }
 {
-    let count = items.len() / 3;
     let mut left = room;
-    let mut k = 0;
-    while k < count {
+    for k in 0..items.len() / 3 {
         let n = item_length(items, k * 3);
         if left < n {
             return false;
         }
         left -= n;
-        k += 1;
     }
     true
-}
-
-// Puts a number and the character behind it.
-fn put_number(out: &mut [u8], at: usize, x: u64, behind: u8) -> usize
-    requires { at + length (decimal x ++ (behind ∷ [])) ≤ length out.old }
-    ensures { Put out.old at (decimal x ++ (behind ∷ [])) result out.new }
-{
-    let Written::Upto(end) = decimals::write_decimal(out, at, x, behind) else {
-        return at;
-    };
-    end
 }
 
 // Puts an item and the character behind it.
@@ -80,10 +65,8 @@ fn put_joined(out: &mut [u8], at: usize, items: &[u64]) -> usize
 {
     let count = items.len() / 3;
     let mut end = at;
-    let mut k = 0;
-    while k < count {
+    for k in 0..count {
         end = put_item(out, end, items, k * 3, behind(k + 1, count));
-        k += 1;
     }
     end
 }
@@ -120,16 +103,16 @@ fn put(out: &mut [u8], at: usize, items: &[u64]) -> usize
 }
 
 // Writes what stands before the items, and their text.
-pub(crate) fn write(out: &mut [u8], at: usize, head: &[u8], items: &[u64]) -> Written
+pub(crate) fn write(out: &mut [u8], at: usize, head: &[u8], items: &[u64]) -> Option<usize>
     ensures { Stored out.old at (head.now ++ items_text (items_of items.now)) result out.new }
 {
     if !cdr::fits(out.len(), at, head.len()) {
-        return Written::NoRoom;
+        return None;
     }
     let end = at + head.len();
     if !fit(items, out.len() - end) {
-        return Written::NoRoom;
+        return None;
     }
     cdr_write::write_octets(out, at, head);
-    Written::Upto(put(out, end, items))
+    Some(put(out, end, items))
 }

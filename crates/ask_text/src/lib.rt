@@ -7,7 +7,6 @@ ghost use Rattle.ask_text.specs.Items.{items_of};
 ghost use Rattle.ask_text.specs.Replies.{octets_text, reply_text};
 
 use cdr_fields::Extent;
-use cdr_write::Written;
 use profile::Profile;
 
 mod head;
@@ -57,7 +56,13 @@ pub enum Reply {
 }
 
 // Writes what stands before octets, their text and the character behind it from `at` on, or nothing where it does not fit.
-pub fn write_octets(out: &mut [u8], at: usize, head: &[u8], octets: &[u8], behind: u8) -> Written
+pub fn write_octets(
+    out: &mut [u8],
+    at: usize,
+    head: &[u8],
+    octets: &[u8],
+    behind: u8,
+) -> Option<usize>
     ensures { Stored out.old at (head.now ++ octets_text octets.now behind) result out.new }
 {
     octets::write(out, at, head, octets, behind)
@@ -65,17 +70,19 @@ pub fn write_octets(out: &mut [u8], at: usize, head: &[u8], octets: &[u8], behin
 
 // Writes the text of an answer from `at` on, with the items of a value, three numbers each, or the octets of a rewritten one or of a profile
 // body; or nothing where it does not fit.
-pub fn write_reply(out: &mut [u8], at: usize, reply: Reply, items: &[u64], octets: &[u8]) -> Written
+pub fn write_reply(
+    out: &mut [u8],
+    at: usize,
+    reply: Reply,
+    items: &[u64],
+    octets: &[u8],
+) -> Option<usize>
     ensures { Stored out.old at (reply_text reply (items_of items.now) octets.now) result out.new }
 {
     let mut head = [0u8; HEAD];
     let end = head::put(&mut head, reply);
     match reply {
-        Reply::Read {
-            used: _,
-            visits: _,
-            count: _,
-        } => items::write(out, at, &head[..end], items),
+        Reply::Read { .. } => items::write(out, at, &head[..end], items),
         Reply::Rewritten(_) => octets::write(out, at, &head[..end], octets, LF),
         Reply::Profiled(said, _) => profiles::write(out, at, &head[..end], said, octets),
         Reply::Component(_, part, _) => {
@@ -87,12 +94,9 @@ pub fn write_reply(out: &mut [u8], at: usize, reply: Reply, items: &[u64], octet
                 LF,
             )
         }
-        Reply::Typed { used: _, kinds: _ }
+        Reply::Typed { .. }
         | Reply::Refused(_)
-        | Reply::Unread {
-            number: _,
-            visits: _,
-        }
+        | Reply::Unread { .. }
         | Reply::Signed(_)
         | Reply::Unsigned(_)
         | Reply::Single(_)

@@ -4,7 +4,6 @@ ghost use Rattle.cdr_write.specs.Write.{Stored};
 ghost use Rattle.ask_text.specs.Replies.{space, octets_text, said_text};
 
 use crate::{head, octets};
-use cdr_write::Written;
 use profile::Profile;
 
 const SPACE: u8 = b' ';
@@ -12,7 +11,13 @@ const SPACE: u8 = b' ';
 const LF: u8 = b'\n';
 
 // Writes what stands before the host, and what a body says from there on.
-pub(crate) fn write(out: &mut [u8], at: usize, head: &[u8], said: Profile, body: &[u8]) -> Written
+pub(crate) fn write(
+    out: &mut [u8],
+    at: usize,
+    head: &[u8],
+    said: Profile,
+    body: &[u8],
+) -> Option<usize>
     ensures { Stored out.old at (head.now ++ said_text said body.now) result out.new }
 {
     let mut port = [0u8; 21];
@@ -33,22 +38,22 @@ fn write_parts(
     port: &[u8],
     key: &[u8],
     counts: &[u8],
-) -> Written
+) -> Option<usize>
     ensures { Stored out.old at
         ((head.now ++ octets_text host.now space)
         ++ ((port.now ++ octets_text key.now space) ++ counts.now))
         result out.new }
 {
     if !octets::has_room(out.len(), at, head, host) {
-        return Written::NoRoom;
+        return None;
     }
     let next = at + head.len() + octets::text_length(host);
     if !octets::has_room(out.len(), next, port, key) {
-        return Written::NoRoom;
+        return None;
     }
     let last = next + port.len() + octets::text_length(key);
     if !cdr::fits(out.len(), last, counts.len()) {
-        return Written::NoRoom;
+        return None;
     }
     octets::write(out, at, head, host, SPACE);
     octets::write(out, next, port, key, SPACE);

@@ -1,4 +1,5 @@
 -- Where the words of a question stand in the line, and that the answers are those that their words and places give.
+use Rattle.std.specs.Prelude.{Some, None}
 use mathlib.Core.Path.{◌≡◌, sym, ap, ◌∙◌}
 use mathlib.Core.List.{List}
 use Prim.Native.Nat.{ℕ, suc, ◌+◌, ◌-◌, ◌≤◌}
@@ -8,9 +9,6 @@ use lib.Seq.{length-take-le}
 use Rattle.cdr.specs.declared.Order.{Order}
 use Rattle.ask_words.specs.declared.Coded.{Coded}
 use Rattle.ask_words.specs.declared.Subject.{Subject}
-use Rattle.ask_words.specs.declared.SubjectFields.TheVariants.{Are, NotFields}
-use Rattle.ask_words.specs.declared.Rewrite.TheVariants.{Asks, NotRewrite}
-use Rattle.ask_words.specs.declared.Numbered.TheVariants.{Is as IsNumbered, NotNumbered}
 use Rattle.ask_words.specs.Words.{words}
 use Rattle.ask_words.specs.Fields.{are, not_fields, value_fields, rewrites, not_rewrite, rewrite_fields_of, numbered, not_numbered, numbered_fields_of}
 use Rattle.ask_words.specs.Places.{word_place, coded_in, subject_in, fields_in, rewrite_fields_in, numbered_in}
@@ -66,37 +64,37 @@ module _ (line : List ℕ) (s : Subject) (p : Placed line s) (w : WithinSubject 
       (coded-is line 3 s.value p.value w.1)
 
   pub fields_read : (number : ℕ) → are (subject_words s line) number ≡ value_fields (words line)
-      → FieldsRead line (Are (record { subject = s; number = number }))
+      → FieldsRead line (Some (record { subject = s; number = number }))
   unfolding fields_in
   fields_read number e =
-      record { read = e; within = w; decided = rw (← e) (ap (λ (x : Subject). Are (record { subject = x; number = number })) subject-is) }
+      record { read = e; within = w; decided = rw (← e) (ap (λ (x : Subject). (Some (record { subject = x; number = number }))) subject-is) }
 
   pub rewrite-read : (order : Order) (index room : ℕ) → rewrites (subject_words s line) order index room ≡ rewrite_fields_of (words line)
-      → RewriteRead line (Asks (record { subject = s; order = order; index = index; room = room }))
+      → RewriteRead line (Some (record { subject = s; order = order; index = index; room = room }))
   unfolding rewrite_fields_in
   rewrite-read order index room e =
       record {
         read = e;
         within = w;
-        decided = rw (← e) (ap (λ (x : Subject). Asks (record { subject = x; order = order; index = index; room = room })) subject-is);
+        decided = rw (← e) (ap (λ (x : Subject). (Some (record { subject = x; order = order; index = index; room = room }))) subject-is);
       }
 
 module _ (line : List ℕ) where
   pub numbered-read : (end number : ℕ) → end ≤ length line → numbered (take end line) number ≡ numbered_fields_of (words line)
-      → NumberedRead line (IsNumbered end number)
+      → NumberedRead line (Some (end, number))
   unfolding numbered_in
   numbered-read end number h e =
-      record { read = e; within = h; decided = rw (← e) (ap (λ (n : ℕ). IsNumbered n number) (sym (length-take-le end line h))) }
+      record { read = e; within = h; decided = rw (← e) (ap (λ (n : ℕ). (Some (n, number))) (sym (length-take-le end line h))) }
 
   -- words that are others have one answer
-  pub fields-not : not_fields ≡ value_fields (words line) → FieldsRead line NotFields
+  pub fields-not : not_fields ≡ value_fields (words line) → FieldsRead line None
   unfolding fields_in
   fields-not e = record { read = e; within = tt; decided = rw (← e) }
 
-  pub rewrite-not : not_rewrite ≡ rewrite_fields_of (words line) → RewriteRead line NotRewrite
+  pub rewrite-not : not_rewrite ≡ rewrite_fields_of (words line) → RewriteRead line None
   unfolding rewrite_fields_in
   rewrite-not e = record { read = e; within = tt; decided = rw (← e) }
 
-  pub numbered-not : not_numbered ≡ numbered_fields_of (words line) → NumberedRead line NotNumbered
+  pub numbered-not : not_numbered ≡ numbered_fields_of (words line) → NumberedRead line None
   unfolding numbered_in
   numbered-not e = record { read = e; within = tt; decided = rw (← e) }

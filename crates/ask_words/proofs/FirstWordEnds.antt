@@ -1,68 +1,85 @@
--- Words found from the start of a line on, words compared, and octets read.
+-- Where the first word of a line ends, and words compared.
 use mathlib.Core.Path.{◌≡◌, refl, sym, ap, ◌∙◌}
-use mathlib.Core.Bool.{Bool, true, false, ◌&&◌}
-use mathlib.Core.List.{List, [], ◌∷◌}
+use mathlib.Core.Bool.{Bool, not, cond, ◌&&◌}
+use mathlib.Core.List.{List, [], ◌∷◌, ◌++◌, append_assoc, append-nil}
 use Prim.Native.Nat.{ℕ, suc, ◌+◌, ◌<◌, ◌≤◌}
-use native.Mathlib.Numerals.{add-one}
 use native.Mathlib.Omega.{arith}
-use lib.Dec.{eqb}
-use lib.ListN.{get_or, length, take, drop, drop_of_length-le}
-use lib.Seq.{drop-cons, take-suc, take_all, length-take-le}
-use borrow.Author.Tests.{eq-eqb, ne_eqb}
+use lib.Dec.{eqb, ltb}
+use lib.ListN.{length, take, drop}
+use lib.Pointwise.{pointwise}
+use lib.Seq.{length-take-le}
+use borrow.Author.Tests.{ltb-true, ltb-false}
+use Rattle.std.specs.Prelude.{Option, Some, None}
+use Rattle.std.specs.List.{position_or_len}
+use Rattle.std.specs.Option.{unwrap_or}
+use Rattle.std.proofs.lemmas.List.Sums.{prefix_len-le-length}
+use Rattle.choices.proofs.Choices.{by-test}
 use Rattle.choices.specs.Branch.{choose}
 use Rattle.ask_words.specs.Words.{space, words_from, words, same_word}
-use Rattle.ask_words.specs.Found.{first_end}
+use Rattle.ask_words.specs.Found.{FirstWord}
 
--- the search for the end of the first word, by the words that the characters before and behind make
-module _ (line : List ℕ) (i : ℕ) (e : words_from (take i line) (drop i line) ≡ words line) where
-  -- a space ends it
-  pub word-ended : i < length line → get_or line i 0 ≡ space → words line ≡ take i line ∷ words (drop (i + 1) line)
-  unfolding words_from choose
-  word-ended h s = sym e ∙ rw (drop-cons line i 0 h, eq-eqb (get_or line i 0) space s, add-one i)
+-- the characters before the first space, which are the first word's
+abbrev pub before : List ℕ → ℕ
+before line = position_or_len (λ c. eqb c space) line
 
-  -- another character is the word's
-  pub word-onward : i < length line → (get_or line i 0 ≡ space → ⊥) → words_from (take (i + 1) line) (drop (i + 1) line) ≡ words line
-  unfolding words_from choose
-  word-onward h s =
-      rw (add-one i, take-suc line i 0 h)
-      (sym (rw (drop-cons line i 0 h, ne_eqb (get_or line i 0) space s)) ∙ e)
+only-word : (begun s : List ℕ) → length s ≤ before s → words_from begun s ≡ (begun ++ s) ∷ []
+unfolding words_from choose
+only-word begun [] h = rw append-nil
+only-word begun (c ∷ s) h =
+    by-test (eqb c space)
+    (λ e. absurd (omega (arith, rw e at h)))
+    (λ e. rw e (only-word (begun ++ (c ∷ [])) s (omega (arith, rw e at h)) ∙ rw append_assoc))
 
-  -- the end of the line ends it
-  pub word-last : length line ≤ i → words line ≡ line ∷ []
-  unfolding words_from
-  word-last h = sym e ∙ rw (drop_of_length-le line h, take_all i line h)
+more-words : (begun s : List ℕ) → before s < length s → words_from begun s ≡ (begun ++ take (before s) s) ∷ words (drop (before s + 1) s)
+unfolding words_from choose
+more-words begun [] h = absurd (omega arith)
+more-words begun (c ∷ s) h =
+    by-test (eqb c space)
+    (λ e. rw (e, append-nil))
+    (λ e.
+    let n : 1 + before s ≡ suc (before s) = omega arith in
+    let m : suc (before s) + 1 ≡ suc (before s + 1) = omega arith in
+    rw (e, n, m) (more-words (begun ++ (c ∷ [])) s (omega (arith, rw e at h)) ∙ rw append_assoc))
 
--- a first word of so many characters ends behind them, and an only one with the line
-pub ends_at : (line : List ℕ) (i : ℕ) (rest : List (List ℕ)) → i ≤ length line → words line ≡ take i line ∷ rest → i ≡ first_end (words line)
-ends_at line i rest h e = rw e (sym (length-take-le i line h))
+before-within : (line : List ℕ) → before line ≤ length line
+before-within line = prefix_len-le-length (λ c. not (eqb c space)) line
 
-pub ends_last : (line : List ℕ) (i : ℕ) → i ≤ length line → length line ≤ i → words line ≡ line ∷ [] → i ≡ first_end (words line)
-ends_last line i h k e = rw e (omega arith)
+pub first-word : (line : List ℕ) → FirstWord line (before line)
+first-word line =
+    let w = before-within line in
+    record {
+      within = w;
+      only = only-word [] line;
+      more = more-words [] line;
+      decided =
+          by-test (ltb (before line) (length line))
+          (λ t. rw (more-words [] line (ltb-true _ _ t)) (sym (length-take-le (before line) line w)))
+          (λ t.
+          let k : length line ≤ before line = ltb-false _ _ t in
+          rw (only-word [] line k) (omega arith));
+    }
 
--- words compared, by what is left of both
-pub same-unlike : (a b : List ℕ) → (length a ≡ length b → ⊥) → same_word a b ≡ false
+-- the place that the search found, or the end of the line
+pub first-found : (line : List ℕ) {r : Option ℕ} {n : ℕ} → r ≡ cond (ltb (before line) (length line)) (Some (before line)) None
+    → n ≡ unwrap_or r (length line) → FirstWord line n
+first-found line {r} {n} e f =
+    let w = before-within line in
+    by-test (ltb (before line) (length line))
+    (λ t.
+    let g : n ≡ before line = rw (f, e, t) in
+    rw g (first-word line))
+    (λ t.
+    let k : length line ≤ before line = ltb-false _ _ t in
+    let g : n ≡ length line = rw (f, e, t) in
+    let m : n ≡ before line = omega arith in
+    rw m (first-word line))
+
+-- words compared character by character
+pub same-characters : (a b : List ℕ) → pointwise eqb a b ≡ same_word a b
 unfolding same_word
-same-unlike [] [] h = absurd (h refl)
-same-unlike [] (d ∷ b) h = refl
-same-unlike (c ∷ a) [] h = refl
-same-unlike (c ∷ a) (d ∷ b) h = rw (same-unlike a b (λ e. h (ap suc e))) (and_none (eqb c d))
-  where
-    and_none : (t : Bool) → (t && false) ≡ false
-    and_none true = refl
-    and_none false = refl
+same-characters [] [] = refl
+same-characters [] (d ∷ b) = refl
+same-characters (c ∷ a) [] = refl
+same-characters (c ∷ a) (d ∷ b) = ap (λ (t : Bool). eqb c d && t) (same-characters a b)
 
-module _ (a b : List ℕ) (i : ℕ) (n : length a ≡ length b) (e : same_word (drop i a) (drop i b) ≡ same_word a b) where
-  pub same-other : i < length a → (get_or a i 0 ≡ get_or b i 0 → ⊥) → false ≡ same_word a b
-  unfolding same_word
-  same-other h d =
-      sym (rw (drop-cons a i 0 h, drop-cons b i 0 (omega arith), ne_eqb (get_or a i 0) (get_or b i 0) d)) ∙ e
-
-  pub same-onward : i < length a → get_or a i 0 ≡ get_or b i 0 → same_word (drop (i + 1) a) (drop (i + 1) b) ≡ same_word a b
-  unfolding same_word
-  same-onward h d =
-      rw (add-one i)
-      (sym (rw (drop-cons a i 0 h, drop-cons b i 0 (omega arith), eq-eqb (get_or a i 0) (get_or b i 0) d)) ∙ e)
-
-  pub same-last : length a ≤ i → true ≡ same_word a b
-  unfolding same_word
-  same-last h = sym (rw (drop_of_length-le a h, drop_of_length-le b {i = i} (omega arith))) ∙ e
+pub ruleset compared = same-characters

@@ -1,21 +1,21 @@
 -- Lines whose words are easily mistaken for others, computed over the definitions.
 --   same-words       `big 00 big 00 0 5`: TYPE and VALUE are the same word, at 4 and at 11
 --   no-characters    `big  big  0 5`: TYPE and VALUE have no characters, and stand at 4 and at 9 all the same
+use Rattle.std.specs.Prelude.{Option, Some}
 use mathlib.Core.Path.{◌≡◌, refl}
 use mathlib.Core.List.{[], ◌∷◌}
 use Prim.Native.Nat.{ℕ}
 use Rattle.choices.specs.Branch.{choose}
 use Rattle.cdr.specs.declared.Order.TheVariants.{Big}
 use Rattle.decimals.specs.Numerals.{all_numerals, number_upto, number_from, number_word}
-use Rattle.ask_words.specs.declared.SubjectFields.{SubjectFields}
-use Rattle.ask_words.specs.declared.SubjectFields.TheVariants.{Are}
 use Rattle.ask_words.specs.Words.{words_from, same_word, order_word}
 use Rattle.ask_words.specs.Fields.{coded_first, subject_first, value_fields}
 use Rattle.ask_words.specs.Places.{word_place, fields_in}
+use Rattle.ask_words.specs.declared.Asked.{Asked}
 
-abbrev standing : (typed typed_end value value_end : ℕ) → SubjectFields
+abbrev standing : (typed typed_end value value_end : ℕ) → Option Asked
 standing typed typed_end value value_end =
-    Are (record {
+    Some (record {
       subject = record {
         typed = record { order = Big; from = typed; end = typed_end };
         value = record { order = Big; from = value; end = value_end };

@@ -1,4 +1,5 @@
 -- Words by their places in a line.
+use Rattle.std.specs.Prelude.{Option, Some, None}
 use mathlib.Core.Path.{◌≡◌, refl, sym, ap, ◌∙◌}
 use mathlib.Core.List.{List, [], ◌∷◌, ◌++◌}
 use Prim.Native.Nat.{ℕ, ◌+◌, ◌-◌, ◌<◌, ◌≤◌}
@@ -10,16 +11,8 @@ use borrow.Author.Tests.{ltb-true, ltb-false, lt-ltb, le-ltb}
 use Rattle.choices.proofs.Choices.{by-test}
 use Rattle.choices.specs.Branch.{choose}
 use Rattle.cdr.specs.declared.Order.{Order}
-use Rattle.cdr.specs.declared.Named.TheVariants.{Is, NoOrder}
-use Rattle.decimals.specs.declared.Number.TheVariants.{Is as IsNumber, NotNumber}
 use Rattle.decimals.specs.Numerals.{number_word}
 use Rattle.ask_words.specs.declared.Coded.{Coded}
-use Rattle.ask_words.specs.declared.places.Word.{Word}
-use Rattle.ask_words.specs.declared.places.Word.TheVariants.{Upto, NoWord}
-use Rattle.ask_words.specs.declared.places.Ordered.{Ordered}
-use Rattle.ask_words.specs.declared.places.Ordered.TheVariants.{Is as IsOrder, NotOrder}
-use Rattle.ask_words.specs.declared.places.Pair.{Pair}
-use Rattle.ask_words.specs.declared.places.Pair.TheVariants.{Is as IsPair, NotCoded}
 use Rattle.ask_words.specs.Words.{space, words_from, words, order_word}
 use Rattle.ask_words.specs.Found.{FirstWord}
 use Rattle.ask_words.specs.Fields.{first_is, none, number_first, coded_first, no_more}
@@ -42,14 +35,14 @@ pub all_left : (line : List ℕ) → left line 0 ≡ words line
 all_left line = some_left line 0 (omega arith)
 
 module _ (line : List ℕ) (from : ℕ) where
-  pub word_none : length line < from → WordAt line from NoWord
+  pub word_none : length line < from → WordAt line from None
   word_none h = record { found = none_left line from h; within = tt }
 
   module _ (h : from ≤ length line) (e : ℕ) (f : FirstWord (take (length line - from) (drop from line)) e) where
     first-there : FirstWord (drop from line) e
     first-there = rw (part-all line from) at f
 
-    pub word-there : WordAt line from (Upto (from + e))
+    pub word-there : WordAt line from (Some (from + e))
     word-there =
         let g = first-there in
         let w = g.within in
@@ -72,59 +65,59 @@ module _ (line : List ℕ) (from : ℕ) where
         }
 
 -- a word that was found is within the line
-pub word-within : {line : List ℕ} {from : ℕ} {r : Word} → WordAt line from r → (end : ℕ) → r ≡ Upto end → InLine line from end
+pub word-within : {line : List ℕ} {from : ℕ} {r : (Option ℕ)} → WordAt line from r → (end : ℕ) → r ≡ Some end → InLine line from end
 word-within a end e = rw e at a.within
 
 -- and one more is passed
-pub word-passed : {line : List ℕ} {from : ℕ} {r : Word} → WordAt line from r → (end : ℕ) → r ≡ Upto end → Passed line from (end + 1)
+pub word-passed : {line : List ℕ} {from : ℕ} {r : (Option ℕ)} → WordAt line from r → (end : ℕ) → r ≡ Some end → Passed line from (end + 1)
 word-passed {line} {from} a end e =
     let w = word-within a end e in
     let z : end + 1 - 1 ≡ end = omega arith in
     record { on = omega (arith, w.forward); inside = omega (arith, w.inside); found = rw (a.found, e, z) }
 
 -- an order, a number
-module _ (line : List ℕ) (from : ℕ) (w : Word) (a : WordAt line from w) where
-  pub order-none : w ≡ NoWord → OrderRead line from NotOrder
+module _ (line : List ℕ) (from : ℕ) (w : Option ℕ) (a : WordAt line from w) where
+  pub order-none : w ≡ None → OrderRead line from None
   order-none e = record { read = rw (a.found, e); passed = tt }
 
-  pub number-none : w ≡ NoWord → none ≡ number_first (left line from)
+  pub number-none : w ≡ None → none ≡ number_first (left line from)
   number-none e = rw (a.found, e)
 
-  module _ (end : ℕ) (e : w ≡ Upto end) where
-    pub order_other : NoOrder ≡ order_word (part line from end) → OrderRead line from NotOrder
+  module _ (end : ℕ) (e : w ≡ Some end) where
+    pub order_other : None ≡ order_word (part line from end) → OrderRead line from None
     order_other n = record { read = rw (a.found, e, ← n); passed = tt }
 
-    pub order_is : (order : Order) → Is order ≡ order_word (part line from end) → OrderRead line from (IsOrder order (end + 1))
+    pub order_is : (order : Order) → Some order ≡ order_word (part line from end) → OrderRead line from (Some (order, end + 1))
     order_is order n = record { read = rw (a.found, e, ← n); passed = word-passed a end e }
 
-    pub number-other : NotNumber ≡ number_word (part line from end) → none ≡ number_first (left line from)
+    pub number-other : None ≡ number_word (part line from end) → none ≡ number_first (left line from)
     number-other n = rw (a.found, e, ← n)
 
-    pub number_is : (x : ℕ) → IsNumber x ≡ number_word (part line from end) → first_is x (left line (end + 1)) ≡ number_first (left line from)
+    pub number_is : (x : ℕ) → Some x ≡ number_word (part line from end) → first_is x (left line (end + 1)) ≡ number_first (left line from)
     number_is x n = rw (a.found, e, ← n)
 
 -- ORDER and the word behind it
-module _ (line : List ℕ) (from : ℕ) (o : Ordered) (a : OrderRead line from o) where
-  pub coded_none : o ≡ NotOrder → CodedRead line from NotCoded
+module _ (line : List ℕ) (from : ℕ) (o : Option (Order × ℕ)) (a : OrderRead line from o) where
+  pub coded_none : o ≡ None → CodedRead line from None
   unfolding coded_first
   coded_none e = record { read = rw (← a.read, e); within = tt; passed = tt }
 
-  module _ (order : Order) (next : ℕ) (e : o ≡ IsOrder order next) (w : Word) (b : WordAt line next w) where
-    pub coded-alone : w ≡ NoWord → CodedRead line from NotCoded
+  module _ (order : Order) (next : ℕ) (e : o ≡ Some (order, next)) (w : Option ℕ) (b : WordAt line next w) where
+    pub coded-alone : w ≡ None → CodedRead line from None
     unfolding coded_first
     coded-alone f = record { read = rw (← a.read, e, b.found, f); within = tt; passed = tt }
 
-    pub coded-is : (end : ℕ) → w ≡ Upto end → CodedRead line from (IsPair (record { order = order; from = next; end = end }))
+    pub coded-is : (end : ℕ) → w ≡ Some end → CodedRead line from (Some (record { order = order; from = next; end = end }))
     unfolding coded_first
     coded-is end f =
         let p : Passed line from next = rw e at a.passed in
         record { read = rw (← a.read, e, b.found, f); within = word-within b end f; passed = (p, word-passed b end f) }
 
-pub coded-within : {line : List ℕ} {from : ℕ} {r : Pair} → CodedRead line from r → (c : Coded) → r ≡ IsPair c → InLine line c.from c.end
+pub coded-within : {line : List ℕ} {from : ℕ} {r : (Option Coded)} → CodedRead line from r → (c : Coded) → r ≡ Some c → InLine line c.from c.end
 coded-within a c e = rw e at a.within
 
 -- and it was passed, with ORDER before it
-pub coded-passed : {line : List ℕ} {from : ℕ} {r : Pair} → CodedRead line from r → (c : Coded) → r ≡ IsPair c
+pub coded-passed : {line : List ℕ} {from : ℕ} {r : (Option Coded)} → CodedRead line from r → (c : Coded) → r ≡ Some c
     → Passed line from c.from × Passed line c.from (c.end + 1)
 coded-passed a c e = rw e at a.passed
 

@@ -20,12 +20,8 @@
 --   rewrite_fields_of   by the words behind `rewrite`
 --   NumberedFields    a word, and NUMBER; or that the words are others
 --   numbered_fields_of  by the words behind `component`
-use Rattle.std.specs.Prelude.{List, [], ◌∷◌, ℕ}
+use Rattle.std.specs.Prelude.{List, [], ◌∷◌, ℕ, Option, Some, None}
 use Rattle.cdr.specs.declared.Order.{Order}
-use Rattle.cdr.specs.declared.Named.{Named}
-use Rattle.cdr.specs.declared.Named.TheVariants.{Is, NoOrder}
-use Rattle.decimals.specs.declared.Number.{Number}
-use Rattle.decimals.specs.declared.Number.TheVariants.{Is as IsNumber, NotNumber}
 use Rattle.decimals.specs.Numerals.{number_word}
 use Rattle.ask_words.specs.Words.{order_word}
 
@@ -41,16 +37,16 @@ abbrev pub word_first : List (List ℕ) → First (List ℕ)
 word_first [] = none
 word_first (word ∷ rest) = first_is word rest
 
-abbrev pub order_in_word : Named → List (List ℕ) → First Order
-order_in_word (Is order) rest = first_is order rest
-order_in_word NoOrder rest = none
+abbrev pub order_in_word : Option Order → List (List ℕ) → First Order
+order_in_word (Some order) rest = first_is order rest
+order_in_word None rest = none
 
 abbrev pub order_first : List (List ℕ) → First Order
 order_first ws = on_first (word_first ws) none (λ word rest. order_in_word (order_word word) rest)
 
-abbrev pub number_is : Number → List (List ℕ) → First ℕ
-number_is (IsNumber x) rest = first_is x rest
-number_is NotNumber rest = none
+abbrev pub number_is : Option ℕ → List (List ℕ) → First ℕ
+number_is (Some x) rest = first_is x rest
+number_is None rest = none
 
 abbrev pub number_first : List (List ℕ) → First ℕ
 number_first ws = on_first (word_first ws) none (λ word rest. number_is (number_word word) rest)

@@ -8,18 +8,14 @@
 --   rewrite_fields_in  the answer, by the line
 --   numbered_from     by what the words behind `component` are: the end of OCTETS, which stands first, and NUMBER
 --   numbered_in       the answer, by the line
-use Rattle.std.specs.Prelude.{List, [], ◌∷◌, ℕ, zero, suc, ◌+◌, length}
+use Rattle.std.specs.Prelude.{List, [], ◌∷◌, ℕ, zero, suc, ◌+◌, length, Option, Some, None}
 use Rattle.ask_words.specs.declared.Coded.{Coded}
 use Rattle.ask_words.specs.declared.Subject.{Subject}
-use Rattle.ask_words.specs.declared.SubjectFields.{SubjectFields}
-use Rattle.ask_words.specs.declared.SubjectFields.TheVariants.{Are, NotFields}
-use Rattle.ask_words.specs.declared.Rewrite.{Rewrite}
-use Rattle.ask_words.specs.declared.Rewrite.TheVariants.{Asks, NotRewrite}
-use Rattle.ask_words.specs.declared.Numbered.{Numbered}
-use Rattle.ask_words.specs.declared.Numbered.TheVariants.{Is, NotNumbered}
 use Rattle.ask_words.specs.Words.{words}
 use Rattle.ask_words.specs.Fields.{WordIn, SubjectOf, FieldsOf, are, not_fields, value_fields, RewriteFields, rewrites, not_rewrite}
 use Rattle.ask_words.specs.Fields.{rewrite_fields_of, NumberedFields, numbered, not_numbered, numbered_fields_of}
+use Rattle.ask_words.specs.declared.Asked.{Asked}
+use Rattle.ask_words.specs.declared.Chosen.{Chosen}
 
 unfoldable pub word_place : ℕ → List (List ℕ) → ℕ
 word_place zero ws = 0
@@ -32,24 +28,24 @@ coded_in k ws w = record { order = w.order; from = word_place k ws; end = word_p
 abbrev pub subject_in : List (List ℕ) → SubjectOf → Subject
 subject_in ws s = record { typed = coded_in 1 ws s.typed; value = coded_in 3 ws s.value; start = s.start }
 
-abbrev pub fields_from : List (List ℕ) → FieldsOf → SubjectFields
-fields_from ws (are subject number) = Are (record { subject = subject_in ws subject; number = number })
-fields_from ws not_fields = NotFields
+abbrev pub fields_from : List (List ℕ) → FieldsOf → Option Asked
+fields_from ws (are subject number) = Some (record { subject = subject_in ws subject; number = number })
+fields_from ws not_fields = None
 
-unfoldable pub fields_in : List ℕ → SubjectFields
+unfoldable pub fields_in : List ℕ → Option Asked
 fields_in line = fields_from (words line) (value_fields (words line))
 
-abbrev pub rewrite_from : List (List ℕ) → RewriteFields → Rewrite
+abbrev pub rewrite_from : List (List ℕ) → RewriteFields → Option Chosen
 rewrite_from ws (rewrites subject order index room) =
-    Asks (record { subject = subject_in ws subject; order = order; index = index; room = room })
-rewrite_from ws not_rewrite = NotRewrite
+    Some (record { subject = subject_in ws subject; order = order; index = index; room = room })
+rewrite_from ws not_rewrite = None
 
-unfoldable pub rewrite_fields_in : List ℕ → Rewrite
+unfoldable pub rewrite_fields_in : List ℕ → Option Chosen
 rewrite_fields_in line = rewrite_from (words line) (rewrite_fields_of (words line))
 
-abbrev pub numbered_from : NumberedFields → Numbered
-numbered_from (numbered word number) = Is (length word) number
-numbered_from not_numbered = NotNumbered
+abbrev pub numbered_from : NumberedFields → Option (ℕ × ℕ)
+numbered_from (numbered word number) = Some (length word, number)
+numbered_from not_numbered = None
 
-unfoldable pub numbered_in : List ℕ → Numbered
+unfoldable pub numbered_in : List ℕ → Option (ℕ × ℕ)
 numbered_in line = numbered_from (numbered_fields_of (words line))

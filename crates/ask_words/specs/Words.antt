@@ -4,11 +4,10 @@
 --   same_word               whether two words have the same characters
 --   big_word, little_word    the words `big` and `little`
 --   order_word              "ORDER is `big` or `little`"
-use Rattle.std.specs.Prelude.{List, [], ◌∷◌, ◌++◌, Bool, true, false, ◌&&◌, ℕ, eqb}
+use Rattle.std.specs.Prelude.{List, [], ◌∷◌, ◌++◌, Bool, true, false, ◌&&◌, ℕ, eqb, Option, Some, None}
 use Rattle.choices.specs.Branch.{choose}
 use Rattle.cdr.specs.declared.Order.TheVariants.{Big, Little}
-use Rattle.cdr.specs.declared.Named.{Named}
-use Rattle.cdr.specs.declared.Named.TheVariants.{Is, NoOrder}
+use Rattle.cdr.specs.declared.Order.{Order}
 pub use Rattle.lines.specs.Lines.{space}
 
 unfoldable pub words_from : List ℕ → List ℕ → List (List ℕ)
@@ -30,8 +29,8 @@ big_word = 98 ∷ 105 ∷ 103 ∷ []
 abbrev pub little_word : List ℕ
 little_word = 108 ∷ 105 ∷ 116 ∷ 116 ∷ 108 ∷ 101 ∷ []
 
-unfoldable pub order_word : List ℕ → Named
+unfoldable pub order_word : List ℕ → Option Order
 order_word word =
-    choose (same_word word big_word) (λ _. Is Big)
-    (λ _. choose (same_word word little_word) (λ _. Is Little)
-    (λ _. NoOrder))
+    choose (same_word word big_word) (λ _. (Some Big))
+    (λ _. choose (same_word word little_word) (λ _. (Some Little))
+    (λ _. None))

@@ -7,8 +7,7 @@ ghost use Rattle.ask_words.specs.Words.{same_word, order_word};
 ghost use Rattle.ask_words.specs.Found.{FirstWord};
 ghost use Rattle.ask_words.specs.Inner.{FieldsRead, RewriteRead, NumberedRead};
 
-use cdr::{Named, Order};
-use places::{About, Count, Ordered, Word};
+use cdr::Order;
 
 mod places;
 
@@ -37,13 +36,6 @@ pub struct Asked {
     pub number: u64,
 }
 
-// What a line's words are as those behind `value` or `item`.
-#[derive(Clone, Copy)]
-pub enum SubjectFields {
-    Are(Asked),
-    NotFields,
-}
-
 // The words behind `rewrite`: those of a value, and ORDER START ROOM.
 #[derive(Clone, Copy)]
 pub struct Chosen {
@@ -53,112 +45,58 @@ pub struct Chosen {
     pub room: u64,
 }
 
-// What a line's words are as those behind `rewrite`.
-#[derive(Clone, Copy)]
-pub enum Rewrite {
-    Asks(Chosen),
-    NotRewrite,
-}
-
-// What a line's words are as those behind `component`: the end of the first, and NUMBER.
-#[derive(Clone, Copy)]
-pub enum Numbered {
-    Is { end: usize, number: u64 },
-    NotNumbered,
-}
-
 // Where the first word ends: at the first space, or the end.
 pub fn first_end(line: &[u8]) -> usize
     ensures { FirstWord line.now result }
 {
-    let mut i = 0;
-    while i < line.len() {
-        if line[i] == SPACE {
-            return i;
-        }
-        i += 1;
-    }
-    i
+    line.iter().position(|&c| c == SPACE).unwrap_or(line.len())
 }
 
 // Whether two words have the same characters.
+#[tactic(auto, using(crate::proofs::FirstWordEnds::compared))]
 pub fn same(a: &[u8], b: &[u8]) -> bool
     ensures { result ≡ same_word a.now b.now }
 {
-    if a.len() != b.len() {
-        return false;
-    }
-    let mut i = 0;
-    while i < a.len() {
-        if a[i] != b[i] {
-            return false;
-        }
-        i += 1;
-    }
-    true
+    a == b
 }
 
 // The order that a word names.
-pub fn read_order(word: &[u8]) -> Named
+pub fn read_order(word: &[u8]) -> Option<Order>
     ensures { result ≡ order_word word.now }
 {
     if same(word, b"big") {
-        return Named::Is(Order::Big);
+        return Some(Order::Big);
     }
     if same(word, b"little") {
-        return Named::Is(Order::Little);
+        return Some(Order::Little);
     }
-    Named::NoOrder
+    None
 }
 
 // The words behind `value` or `item`, where a line has these and no more.
-pub fn read_fields(line: &[u8]) -> SubjectFields
+pub fn read_fields(line: &[u8]) -> Option<Asked>
     ensures { FieldsRead line.now result }
 {
-    let About::Is { subject, next } = places::subject_first(line) else {
-        return SubjectFields::NotFields;
-    };
-    let Count::Is { number, next: last } = places::number_at(line, next) else {
-        return SubjectFields::NotFields;
-    };
+    let (subject, next) = places::subject_first(line)?;
+    let (number, last) = places::number_at(line, next)?;
     if last <= line.len() {
-        return SubjectFields::NotFields;
+        return None;
     }
-    SubjectFields::Are(Asked { subject, number })
+    Some(Asked { subject, number })
 }
 
 // The words behind `rewrite`, where a line has these and no more.
-pub fn read_rewrite(line: &[u8]) -> Rewrite
+pub fn read_rewrite(line: &[u8]) -> Option<Chosen>
     ensures { RewriteRead line.now result }
 {
-    let About::Is { subject, next } = places::subject_first(line) else {
-        return Rewrite::NotRewrite;
-    };
-    let Ordered::Is {
-        order,
-        next: behind,
-    } = places::order_at(line, next)
-    else {
-        return Rewrite::NotRewrite;
-    };
-    let Count::Is {
-        number: index,
-        next: later,
-    } = places::number_at(line, behind)
-    else {
-        return Rewrite::NotRewrite;
-    };
-    let Count::Is {
-        number: room,
-        next: end,
-    } = places::number_at(line, later)
-    else {
-        return Rewrite::NotRewrite;
-    };
+    let (subject, next) = places::subject_first(line)?;
+    let (order, behind) = places::order_at(line, next)?;
+    let (index, later) = places::number_at(line, behind)?;
+    let (room, end) = places::number_at(line, later)?;
     if end <= line.len() {
-        return Rewrite::NotRewrite;
+        return None;
     }
-    Rewrite::Asks(Chosen {
+    Some(Chosen {
         subject,
         order,
         index,
@@ -167,17 +105,13 @@ pub fn read_rewrite(line: &[u8]) -> Rewrite
 }
 
 // The words behind `component`, where a line has these and no more.
-pub fn read_numbered(line: &[u8]) -> Numbered
+pub fn read_numbered(line: &[u8]) -> Option<(usize, u64)>
     ensures { NumberedRead line.now result }
 {
-    let Word::Upto(end) = places::word_at(line, 0) else {
-        return Numbered::NotNumbered;
-    };
-    let Count::Is { number, next } = places::number_at(line, end + 1) else {
-        return Numbered::NotNumbered;
-    };
+    let end = places::word_at(line, 0)?;
+    let (number, next) = places::number_at(line, end + 1)?;
     if next <= line.len() {
-        return Numbered::NotNumbered;
+        return None;
     }
-    Numbered::Is { end, number }
+    Some((end, number))
 }

@@ -3,19 +3,18 @@
 --   head_number    the papers' number of an answer, 0 for a header that was written
 --   count_after    the count: how many octets were written
 --   WritesHeadC   what a call ensures
-use Rattle.std.specs.Prelude.{◌≡◌, List, ℕ, length}
+use Rattle.std.specs.Prelude.{◌≡◌, List, ℕ, length, Result, Ok, Err}
 use Rattle.header_parts.specs.Parts.{header_refusal_number}
-use Rattle.header_head.specs.declared.HeadAnswer.{HeadAnswer}
-use Rattle.header_head.specs.declared.HeadAnswer.TheVariants.{Written, Refused}
 use Rattle.header_head.specs.Head.{head_answer, head_after}
+use Rattle.header_parts.specs.declared.Refusal.{Refusal}
 
-abbrev pub head_number : HeadAnswer → ℕ
-head_number (Written n) = 0
-head_number (Refused r) = header_refusal_number r
+abbrev pub head_number : Result ℕ Refusal → ℕ
+head_number (Ok n) = 0
+head_number (Err r) = header_refusal_number r
 
-abbrev pub count_after : HeadAnswer → ℕ → ℕ
-count_after (Written n) before = n
-count_after (Refused r) before = before
+abbrev pub count_after : Result ℕ Refusal → ℕ → ℕ
+count_after (Ok n) before = n
+count_after (Err r) before = before
 
 pub record WritesHeadC (v out : List ℕ) (count r : ℕ) (out_last : List ℕ) (count_last : ℕ) : Type 0 where
   pub number : r ≡ head_number (head_answer v (length out))

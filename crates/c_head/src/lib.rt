@@ -4,18 +4,16 @@
 
 ghost use Rattle.c_head.specs.Heads.{WritesHeadC};
 
-use header_head::HeadAnswer;
-
 // All octets of a message before its body, gaps and reserved octets zero: 0, 42, 12 to 21, 75, 70 to 74, or 76. `out` gets them from its start
 // on, and `count` their number.
 pub fn haulspar_head(octets: &[u8], out: &mut [u8], count: &mut u64) -> u32
     ensures { WritesHeadC octets.now out.old count.old result out.new count.new }
 {
     match header_head::head(octets, out) {
-        HeadAnswer::Written(n) => {
+        Ok(n) => {
             *count = n as u64;
             0
         }
-        HeadAnswer::Refused(refusal) => refusal.number(),
+        Err(refusal) => refusal.number(),
     }
 }

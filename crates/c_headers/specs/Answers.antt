@@ -9,20 +9,19 @@
 --   ReadsHeaderC     what a call of each function ensures, the number that it returns and all that was lent after it: of a header,
 --   FindsContextC    of a context,
 --   FindsTargetC     and of a profile of the reference that a request is addressed to
-use Rattle.std.specs.Prelude.{◌≡◌, List, [], ◌∷◌, ◌++◌, ℕ}
+use Rattle.std.specs.Prelude.{◌≡◌, List, [], ◌∷◌, ◌++◌, ℕ, Result, Ok, Err}
 use Rattle.cdr.specs.Orders.{order_octet}
 use Rattle.cdr_fields.specs.declared.Extent.{Extent}
 use Rattle.header_parts.specs.declared.TargetAddress.{TargetAddress}
 use Rattle.header_parts.specs.declared.TargetAddress.TheVariants.{Key, Profile, Reference}
 use Rattle.header.specs.declared.RequestHeader.{RequestHeader}
-use Rattle.header.specs.declared.HeaderAnswer.{HeaderAnswer}
-use Rattle.header.specs.declared.HeaderAnswer.TheVariants.{Called, Answered, Refused}
-use Rattle.header.specs.declared.NumberedAnswer.{NumberedAnswer}
-use Rattle.header.specs.declared.NumberedAnswer.TheVariants.{Found, Refused as not_found}
 use Rattle.header.specs.Header.{header_answer}
 use Rattle.header.specs.Numbered.{context_of, profile_of_target}
 use Rattle.header.specs.Rows.{header_number, request_row, reply_row, numbered_number, numbered_row}
 use Rattle.c_headers.specs.declared.TargetCells.{TargetCells}
+use Rattle.header.specs.declared.MessageHeader.TheVariants.{Answered, Called}
+use Rattle.header.specs.declared.MessageHeader.{MessageHeader}
+use Rattle.header_parts.specs.declared.Refusal.{Refusal}
 
 abbrev cells : ℕ → ℕ → Extent → ℕ → TargetCells
 cells kind number octets profiles = record { kind = kind; number = number; octets = octets; profiles = profiles }
@@ -41,14 +40,14 @@ request_with q target =
 abbrev pub request_cells : RequestHeader → TargetCells → List ℕ
 request_cells q t = request_with q (t.kind ∷ t.number ∷ t.octets.from.0 ∷ t.octets.length ∷ t.profiles ∷ [])
 
-abbrev pub header_row_after : HeaderAnswer → List ℕ → List ℕ
-header_row_after (Called q) before = request_row q
-header_row_after (Answered a) before = reply_row a
-header_row_after (Refused r) before = before
+abbrev pub header_row_after : Result MessageHeader Refusal → List ℕ → List ℕ
+header_row_after (Ok (Called q)) before = request_row q
+header_row_after (Ok (Answered a)) before = reply_row a
+header_row_after (Err r) before = before
 
-abbrev pub numbered_after : NumberedAnswer → List ℕ → List ℕ
-numbered_after (Found tag octets) before = numbered_row tag octets
-numbered_after (not_found r) before = before
+abbrev pub numbered_after : Result (ℕ × Extent) Refusal → List ℕ → List ℕ
+numbered_after (Ok (tag, octets)) before = numbered_row tag octets
+numbered_after (Err r) before = before
 
 pub record ReadsHeaderC (v before : List ℕ) (r : ℕ) (after : List ℕ) : Type 0 where
   pub answer : r ≡ header_number (header_answer v)

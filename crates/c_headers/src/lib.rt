@@ -2,12 +2,12 @@
 #![tactic(auto)]
 
 ghost use Rattle.std.specs.Prelude.{◌≡◌};
-ghost use Rattle.header.specs.Rows.{request_row, reply_row, numbered_row};
-ghost use Rattle.c_headers.specs.Answers.{target_cells, request_cells, ReadsHeaderC, FindsContextC, FindsTargetC};
+ghost use Rattle.header.specs.Rows.{request_row, reply_row, numbered_number, numbered_row};
+ghost use Rattle.c_headers.specs.Answers.{target_cells, request_cells, numbered_after, ReadsHeaderC, FindsContextC, FindsTargetC};
 
 use cdr_fields::Extent;
-use header::{HeaderAnswer, NumberedAnswer, ReplyHeader, RequestHeader};
-use header_parts::TargetAddress;
+use header::{MessageHeader, ReplyHeader, RequestHeader};
+use header_parts::{Refusal, TargetAddress};
 
 // What a target says as numbers: its kind, the profile's tag or the reference's index, its octets, and the number of the reference's profiles.
 #[derive(Clone, Copy)]
@@ -25,15 +25,15 @@ pub fn haulspar_header(octets: &[u8], numbers: &mut [u64; 17]) -> u32
     ensures { ReadsHeaderC octets.now numbers.old result numbers.new }
 {
     match header::read(octets) {
-        HeaderAnswer::Called(request) => {
+        Ok(MessageHeader::Called(request)) => {
             *numbers = request_row(request);
             0
         }
-        HeaderAnswer::Answered(reply) => {
+        Ok(MessageHeader::Answered(reply)) => {
             *numbers = reply_row(reply);
             0
         }
-        HeaderAnswer::Refused(refusal) => refusal.number(),
+        Err(refusal) => refusal.number(),
     }
 }
 
@@ -41,8 +41,7 @@ pub fn haulspar_header(octets: &[u8], numbers: &mut [u64; 17]) -> u32
 fn request_row(q: RequestHeader) -> [u64; 17]
     ensures { result ≡ request_row q }
 {
-    let target = q.target;
-    request_cells(q, target_cells(target))
+    request_cells(q, target_cells(q.target))
 }
 
 // A target's numbers.
@@ -79,29 +78,23 @@ fn target_cells(target: TargetAddress) -> TargetCells
 fn request_cells(q: RequestHeader, target: TargetCells) -> [u64; 17]
     ensures { result ≡ request_cells q target }
 {
-    let order = q.order;
-    let octets = target.octets;
-    let operation = q.operation;
-    let principal = q.principal;
-    let contexts = q.contexts;
-    let named = order.octet() as u64;
     [
         0,
-        q.minor as u64,
-        named,
+        u64::from(q.minor),
+        u64::from(q.order.octet()),
         q.id,
         q.response,
         0,
         target.kind,
         target.number,
-        octets.from.0 as u64,
-        octets.length as u64,
+        target.octets.from.0 as u64,
+        target.octets.length as u64,
         target.profiles,
-        operation.from.0 as u64,
-        operation.length as u64,
-        principal.from.0 as u64,
-        principal.length as u64,
-        contexts.count,
+        q.operation.from.0 as u64,
+        q.operation.length as u64,
+        q.principal.from.0 as u64,
+        q.principal.length as u64,
+        q.contexts.count,
         q.body as u64,
     ]
 }
@@ -110,13 +103,10 @@ fn request_cells(q: RequestHeader, target: TargetCells) -> [u64; 17]
 fn reply_row(a: ReplyHeader) -> [u64; 17]
     ensures { result ≡ reply_row a }
 {
-    let order = a.order;
-    let contexts = a.contexts;
-    let named = order.octet() as u64;
     [
         1,
-        a.minor as u64,
-        named,
+        u64::from(a.minor),
+        u64::from(a.order.octet()),
         a.id,
         0,
         a.status,
@@ -129,7 +119,7 @@ fn reply_row(a: ReplyHeader) -> [u64; 17]
         0,
         0,
         0,
-        contexts.count,
+        a.contexts.count,
         a.body as u64,
     ]
 }
@@ -139,25 +129,26 @@ fn reply_row(a: ReplyHeader) -> [u64; 17]
 pub fn haulspar_context(octets: &[u8], number: u64, found: &mut [u64; 3]) -> u32
     ensures { FindsContextC octets.now number found.old result found.new }
 {
-    match header::context(octets, number) {
-        NumberedAnswer::Found { tag, octets: part } => {
-            *found = numbered_row(tag, part);
-            0
-        }
-        NumberedAnswer::Refused(refusal) => refusal.number(),
-    }
+    leave_numbered(header::context(octets, number), found)
 }
 
 // A profile, by its number, the first one 0, of the reference that a request is addressed to: as a context, with its tag.
 pub fn haulspar_target(octets: &[u8], number: u64, found: &mut [u64; 3]) -> u32
     ensures { FindsTargetC octets.now number found.old result found.new }
 {
-    match header::target_profile(octets, number) {
-        NumberedAnswer::Found { tag, octets: part } => {
+    leave_numbered(header::target_profile(octets, number), found)
+}
+
+// An answer about a context or a profile: its number, and what `found` gets.
+fn leave_numbered(answer: Result<(u64, Extent), Refusal>, found: &mut [u64; 3]) -> u32
+    ensures { (result ≡ numbered_number answer) × (found.new ≡ numbered_after answer found.old) }
+{
+    match answer {
+        Ok((tag, part)) => {
             *found = numbered_row(tag, part);
             0
         }
-        NumberedAnswer::Refused(refusal) => refusal.number(),
+        Err(refusal) => refusal.number(),
     }
 }
 
@@ -165,6 +156,5 @@ pub fn haulspar_target(octets: &[u8], number: u64, found: &mut [u64; 3]) -> u32
 fn numbered_row(tag: u64, octets: Extent) -> [u64; 3]
     ensures { result ≡ numbered_row tag octets }
 {
-    let from = octets.from;
-    [tag, from.0 as u64, octets.length as u64]
+    [tag, octets.from.0 as u64, octets.length as u64]
 }

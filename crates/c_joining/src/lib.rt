@@ -1,12 +1,10 @@
 // The C interface's function that joins: it answers 01's number, and a refusal leaves all that was lent as it was.
 #![tactic(auto)]
 
-ghost use Rattle.std.specs.Prelude.{◌≡◌};
-ghost use Rattle.join_answers.specs.Answers.{output_in};
-ghost use Rattle.c_joining.specs.Joining.{joined_count, JoinsC};
+ghost use Rattle.c_joining.specs.Joining.{JoinsC};
 
-use join_answers::{Answer, Output};
 use join_places::Record;
+use joining::Outcome;
 
 // A line's octets joined by the lent record and the octets of its places: 0 to 3, 10, or 12 to 28. Where a message is written,
 // `count` gets the number of its octets. The record is C's `struct { uint32_t ids[4]; size_t lengths[4]; bool opened[4]; }`, each
@@ -45,22 +43,12 @@ fn joined(
     ensures { JoinsC octets.now before places.old out.old count.old
         result places.new out.new count.new }
 {
-    let r = joining::join(octets, before, places, out);
-    let answer = r.answer;
-    let after = r.after;
-    *count = joined_count(answer, *count);
-    Numbered {
-        number: answer.number(),
-        after,
+    let Outcome { answer, after } = joining::join(octets, before, places, out);
+    if let Some(n) = join_answers::output_in(answer) {
+        *count = n as u64;
     }
-}
-
-// The number of octets written, or what was there where none are.
-fn joined_count(answer: Answer, before: u64) -> u64
-    ensures { result ≡ joined_count (output_in answer) before }
-{
-    match answer.output() {
-        Output::Message(n) => n as u64,
-        Output::Nothing => before,
+    Numbered {
+        number: join_answers::answer_number(answer),
+        after,
     }
 }

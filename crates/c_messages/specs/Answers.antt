@@ -5,30 +5,28 @@
 --   DecodesC         what a call of each function ensures, the number that it returns and all that was lent after it: of a decoding,
 --   EncodesC         of an encoding,
 --   JudgesC          and of a header
-use Rattle.std.specs.Prelude.{◌≡◌, List, ℕ, length}
-use Rattle.hexline.specs.declared.Decoded.{Decoded}
-use Rattle.hexline.specs.declared.Decoded.TheVariants.{Octets, TooLong, NotDigits, NoRoom}
-use Rattle.hexline.specs.declared.Encoded.{Encoded}
-use Rattle.hexline.specs.declared.Encoded.TheVariants.{Digits, NoRoom as NoRoomForDigits}
+use Rattle.std.specs.Prelude.{◌≡◌, List, ℕ, length, Option, Some, None, Result, Ok, Err}
 use Rattle.hexline.specs.Decoding.{decoded_of, decoded_into, decoded_number}
 use Rattle.hexline.specs.Encoding.{encoded_of, encoded_into, encoded_number}
-use Rattle.frame.specs.declared.Frame.{Frame}
-use Rattle.frame.specs.declared.Frame.TheVariants.{Accepted, Refused as Unaccepted}
 use Rattle.frame.specs.Frames.{frame_of, frame_number, header_numbers}
+use Rattle.frame.specs.declared.Header.{Header}
+use Rattle.frame.specs.declared.Refusal.{Refusal}
+use Rattle.hexline.specs.declared.Undecoded.TheVariants.{NoRoom, NotDigits, TooLong}
+use Rattle.hexline.specs.declared.Undecoded.{Undecoded}
 
-abbrev pub decoded_count : Decoded → ℕ → ℕ
-decoded_count (Octets n) before = n
-decoded_count TooLong before = before
-decoded_count NotDigits before = before
-decoded_count NoRoom before = before
+abbrev pub decoded_count : Result ℕ Undecoded → ℕ → ℕ
+decoded_count (Ok n) before = n
+decoded_count (Err TooLong) before = before
+decoded_count (Err NotDigits) before = before
+decoded_count (Err NoRoom) before = before
 
-abbrev pub encoded_count : Encoded → ℕ → ℕ
-encoded_count (Digits n) before = n
-encoded_count NoRoomForDigits before = before
+abbrev pub encoded_count : Option ℕ → ℕ → ℕ
+encoded_count (Some n) before = n
+encoded_count None before = before
 
-abbrev pub header_after : Frame → List ℕ → List ℕ
-header_after (Accepted h) before = header_numbers h
-header_after (Unaccepted r) before = before
+abbrev pub header_after : Result Header Refusal → List ℕ → List ℕ
+header_after (Ok h) before = header_numbers h
+header_after (Err r) before = before
 
 pub record DecodesC (line out : List ℕ) (count r : ℕ) (out_after : List ℕ) (count_after : ℕ) : Type 0 where
   pub number : r ≡ decoded_number (decoded_of line (length out))

@@ -4,20 +4,19 @@
 --   found_after        the three numbers of a component
 --   ReadsProfileC     what a call of each function ensures, the number that it returns and all that was lent after it: of a body,
 --   FindsComponentC   and of a component
-use Rattle.std.specs.Prelude.{◌≡◌, List, ℕ}
-use Rattle.profile.specs.declared.ProfileAnswer.{ProfileAnswer}
-use Rattle.profile.specs.declared.ProfileAnswer.TheVariants.{Read, Refused}
-use Rattle.profile.specs.declared.ComponentAnswer.{ComponentAnswer}
-use Rattle.profile.specs.declared.ComponentAnswer.TheVariants.{Found, Refused as not_found}
+use Rattle.std.specs.Prelude.{◌≡◌, List, ℕ, Result, Ok, Err}
 use Rattle.profile.specs.Profile.{profile_number, profile_row, profile_of, component_number, component_row, component_of}
+use Rattle.cdr_fields.specs.declared.Extent.{Extent}
+use Rattle.profile.specs.declared.Profile.{Profile}
+use Rattle.profile_parts.specs.declared.Refusal.{Refusal}
 
-abbrev pub row_after : ProfileAnswer → List ℕ → List ℕ
-row_after (Read p) before = profile_row p
-row_after (Refused r) before = before
+abbrev pub row_after : Result Profile Refusal → List ℕ → List ℕ
+row_after (Ok p) before = profile_row p
+row_after (Err r) before = before
 
-abbrev pub found_after : ComponentAnswer → List ℕ → List ℕ
-found_after (Found tag octets) before = component_row tag octets
-found_after (not_found r) before = before
+abbrev pub found_after : Result (ℕ × Extent) Refusal → List ℕ → List ℕ
+found_after (Ok (tag, octets)) before = component_row tag octets
+found_after (Err r) before = before
 
 pub record ReadsProfileC (v before : List ℕ) (r : ℕ) (after : List ℕ) : Type 0 where
   pub answer : r ≡ profile_number (profile_of v)

@@ -6,7 +6,7 @@ ghost use Rattle.profile.specs.Profile.{profile_row, component_row};
 ghost use Rattle.c_profiles.specs.Answers.{ReadsProfileC, FindsComponentC};
 
 use cdr_fields::Extent;
-use profile::{ComponentAnswer, Profile, ProfileAnswer};
+use profile::Profile;
 
 // A profile body read: 0, or 42, or 60 to 64. `numbers` gets order octet, major, minor, the index of the host's first octet and its
 // length without its zero, port, the index of the key's first octet and its length, number of components, octets after them.
@@ -14,11 +14,11 @@ pub fn haulspar_profile(octets: &[u8], numbers: &mut [u64; 10]) -> u32
     ensures { ReadsProfileC octets.now numbers.old result numbers.new }
 {
     match profile::read(octets) {
-        ProfileAnswer::Read(p) => {
+        Ok(p) => {
             *numbers = profile_row(p);
             0
         }
-        ProfileAnswer::Refused(refusal) => refusal.number(),
+        Err(refusal) => refusal.number(),
     }
 }
 
@@ -26,22 +26,26 @@ pub fn haulspar_profile(octets: &[u8], numbers: &mut [u64; 10]) -> u32
 fn profile_row(p: Profile) -> [u64; 10]
     ensures { result ≡ profile_row p }
 {
-    let head = p.head;
-    let order = head.order;
-    let host = p.host;
-    let key = p.key;
-    let named = order.octet() as u64;
+    let Profile {
+        head,
+        host,
+        port,
+        key,
+        components,
+        extra,
+        ..
+    } = p;
     [
-        named,
+        head.order.octet() as u64,
         head.major as u64,
         head.minor as u64,
         host.from.0 as u64,
         host.length as u64,
-        p.port,
+        port,
         key.from.0 as u64,
         key.length as u64,
-        p.components,
-        p.extra as u64,
+        components,
+        extra as u64,
     ]
 }
 
@@ -51,11 +55,11 @@ pub fn haulspar_component(octets: &[u8], number: u64, found: &mut [u64; 3]) -> u
     ensures { FindsComponentC octets.now number found.old result found.new }
 {
     match profile::component(octets, number) {
-        ComponentAnswer::Found { tag, octets: part } => {
+        Ok((tag, part)) => {
             *found = component_row(tag, part);
             0
         }
-        ComponentAnswer::Refused(refusal) => refusal.number(),
+        Err(refusal) => refusal.number(),
     }
 }
 
@@ -63,6 +67,5 @@ pub fn haulspar_component(octets: &[u8], number: u64, found: &mut [u64; 3]) -> u
 fn component_row(tag: u64, octets: Extent) -> [u64; 3]
     ensures { result ≡ component_row tag octets }
 {
-    let from = octets.from;
-    [tag, from.0 as u64, octets.length as u64]
+    [tag, octets.from.0 as u64, octets.length as u64]
 }

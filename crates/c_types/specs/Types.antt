@@ -5,15 +5,15 @@
 --   met_after     what is met in an accepted type
 --   used_after    the octets used and the kinds written of an accepted type
 --   ChecksC      what a call ensures: the number that it returns, and all that was lent after it
-use Rattle.std.specs.Prelude.{◌≡◌, List, [], ◌∷◌, map, Bool, ℕ, replicate}
+use Rattle.std.specs.Prelude.{◌≡◌, List, [], ◌∷◌, map, Bool, ℕ, replicate, Result, Ok, Err}
 use Rattle.std.proofs.lemmas.List.Edits.{sets}
-use Rattle.typecode.specs.declared.TypeAnswer.{TypeAnswer}
-use Rattle.typecode.specs.declared.TypeAnswer.TheVariants.{Accepted as TypeAccepted, Refused as TypeRefused, Loop}
 use Rattle.cdr.specs.Orders.{order_octet, order_of_flag}
 use Rattle.type_numbers.specs.Kinds.{kinds_limit}
 use Rattle.type_kinds.specs.declared.Kind.{Kind}
 use Rattle.type_list.specs.declared.Met.{Met}
 use Rattle.typecode.specs.TypeCode.{checked_type, type_answer_number as type_number}
+use Rattle.typecode.specs.declared.NoType.TheVariants.{Loop, Refused}
+use Rattle.typecode.specs.declared.NoType.{NoType}
 
 abbrev pub entries_of : (Kind → ℕ) → List Kind → List ℕ
 entries_of f ks = sets (replicate kinds_limit 0) 0 (map f ks)
@@ -32,15 +32,15 @@ pub record Entries (ks : List Kind) (m : Met) : Type 0 where
   pub starts : m.starts ≡ entries_of start_number ks
   pub orders : m.orders ≡ entries_of order_number ks
 
-abbrev pub met_after : TypeAnswer → List ℕ → List ℕ → List ℕ
-met_after (TypeAccepted used kinds) met before = met
-met_after (TypeRefused r) met before = before
-met_after Loop met before = before
+abbrev pub met_after : Result (ℕ × ℕ) NoType → List ℕ → List ℕ → List ℕ
+met_after (Ok (used, kinds)) met before = met
+met_after (Err (Refused r)) met before = before
+met_after (Err Loop) met before = before
 
-abbrev pub used_after : TypeAnswer → List ℕ → List ℕ
-used_after (TypeAccepted used kinds) before = used ∷ kinds ∷ []
-used_after (TypeRefused r) before = before
-used_after Loop before = before
+abbrev pub used_after : Result (ℕ × ℕ) NoType → List ℕ → List ℕ
+used_after (Ok (used, kinds)) before = used ∷ kinds ∷ []
+used_after (Err (Refused r)) before = before
+used_after (Err Loop) before = before
 
 pub record ChecksC (v : List ℕ) (little : Bool) (places starts orders numbers : List ℕ) (r : ℕ)
     (places_last starts_last orders_last numbers_last : List ℕ) : Type 0 where

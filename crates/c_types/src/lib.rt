@@ -8,27 +8,23 @@ ghost use Rattle.c_types.specs.Types.{Entries, ChecksC};
 
 use cdr::Order;
 use type_list::Met;
-use typecode::TypeAnswer;
 
 // The order octet of an entry: what is not 1 is big.
 fn octet_of(order: u8) -> u8
     ensures { result ≡ order_octet (order_in order) }
 {
-    if order == 1 { 1 } else { 0 }
+    u8::from(order == 1)
 }
 
 // The arrays of the kinds met, with 0 past the last, filled in place: `Met::add` would copy them for each kind.
 fn gather(met: Met) -> Met
     ensures { Entries (kinds_met met) result }
 {
-    let n = type_list::held_in(met.count);
     let mut all = Met::none();
-    let mut i: usize = 0;
-    while i < n {
+    for i in 0..type_list::held_in(met.count) {
         all.places[i] = met.places[i];
         all.starts[i] = met.starts[i];
         all.orders[i] = octet_of(met.orders[i]);
-        i += 1;
     }
     all
 }
@@ -46,21 +42,16 @@ pub fn haulspar_type(
     ensures { ChecksC octets.now little places.old starts.old orders.old numbers.old result
         places.new starts.new orders.new numbers.new }
 {
-    let c = typecode::check_type(octets, Order::flagged(little));
-    let answer = c.answer;
-    match answer {
-        TypeAnswer::Accepted { used, kinds } => {
-            let met = gather(c.met);
-            let at = met.places;
-            let from = met.starts;
-            let in_order = met.orders;
-            *places = at;
-            *starts = from;
-            *orders = in_order;
-            *numbers = [used as u64, kinds as u64];
-            0
-        }
-        TypeAnswer::Refused(refusal) => refusal.number(),
-        TypeAnswer::Loop => refusals::LOOP,
+    let checked = typecode::check_type(octets, Order::flagged(little));
+    if let Ok((used, kinds)) = checked.answer {
+        let met = gather(checked.met);
+        let at = met.places;
+        let from = met.starts;
+        let in_order = met.orders;
+        *places = at;
+        *starts = from;
+        *orders = in_order;
+        *numbers = [used as u64, kinds as u64];
     }
+    typecode::type_answer_number(checked.answer)
 }

@@ -1,4 +1,5 @@
 -- What the calls for a value and an item leave, by the answer's case.
+use Rattle.std.specs.Prelude.{Result, Ok, Err}
 use mathlib.Core.Path.{◌≡◌, sym, ap, subst, ◌∙◌}
 use mathlib.Core.List.{List, [], ◌∷◌}
 use mathlib.Core.Bool.{Bool}
@@ -11,8 +12,6 @@ use Rattle.value_items.specs.Items.{item_case, bits_of}
 use Rattle.value_meaning.specs.declared.ValueAnswer.{ValueAnswer}
 use Rattle.value_meaning.specs.Sinks.{source}
 use Rattle.value_meaning.specs.Value.{room_in, value_number, visits_in, used_in, value_answer, table_after}
-use Rattle.value.specs.declared.ItemAnswer.{ItemAnswer}
-use Rattle.value.specs.declared.ItemAnswer.TheVariants.{Given, Refused as Ungiven}
 use Rattle.value.specs.Single.{item_number, given_in, item_answer}
 use Rattle.c_values.specs.Values.{value_at, ReadsValueC, PicksC}
 
@@ -38,21 +37,21 @@ module _ (t : List ℕ) (little : Bool) (v : List ℕ) (order : Bool) (start : �
         let f = sym e ∙ named.0 in
         record { number = ap value_number f; table_is = named.1; numbers-are = ap (λ (r : ValueAnswer). used_in r numbers) f; visits-are = ap visits_in f }
 
-  module _ (n : ℕ) (given : List ℕ) (answer : ItemAnswer) (q : answer ≡ item_answer t to (source v vo (index_of start)) n) where
+  module _ (n : ℕ) (given : List ℕ) (answer : Result ItemValue ℕ) (q : answer ≡ item_answer t to (source v vo (index_of start)) n) where
     named-item : answer ≡ item_answer t (order_of_flag little) (value_at v order start) n
     named-item =
         subst (λ (o : Order). answer ≡ item_answer t (order_of_flag little) (source v o (index_of start)) n) ve
         (subst (λ (o : Order). answer ≡ item_answer t o (source v vo (index_of start)) n) te q)
 
-    pub picks-refused : (number : ℕ) → answer ≡ Ungiven number → PicksC t little (value_at v order start) n given number given
+    pub picks-refused : (number : ℕ) → answer ≡ Err number → PicksC t little (value_at v order start) n given number given
     picks-refused number e =
         let f = sym e ∙ named-item in
-        record { number = ap item_number f; given_is = ap (λ (r : ItemAnswer). given_in r given) f }
+        record { number = ap item_number f; given_is = ap (λ (r : Result ItemValue ℕ). given_in r given) f }
 
-    pub picks-given : (i : ItemValue) (c b : ℕ) → answer ≡ Given i → c ≡ item_case i → b ≡ bits_of i → PicksC t little (value_at v order start) n given 0 (c ∷ b ∷ [])
+    pub picks-given : (i : ItemValue) (c b : ℕ) → answer ≡ Ok i → c ≡ item_case i → b ≡ bits_of i → PicksC t little (value_at v order start) n given 0 (c ∷ b ∷ [])
     picks-given i c b e ce be =
         let f = sym e ∙ named-item in
         record {
           number = ap item_number f;
-          given_is = ap (λ (z : ℕ). z ∷ b ∷ []) ce ∙ ap (λ (z : ℕ). item_case i ∷ z ∷ []) be ∙ ap (λ (r : ItemAnswer). given_in r given) f;
+          given_is = ap (λ (z : ℕ). z ∷ b ∷ []) ce ∙ ap (λ (z : ℕ). item_case i ∷ z ∷ []) be ∙ ap (λ (r : Result ItemValue ℕ). given_in r given) f;
         }

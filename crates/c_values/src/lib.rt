@@ -5,7 +5,6 @@
 ghost use Rattle.c_values.specs.Values.{value_at, ReadsValueC, PicksC};
 
 use cdr::{Index, Order};
-use value::ItemAnswer;
 use value_meaning::ValueAnswer;
 
 // A value read into the table, three numbers an item: 0, or 42, 30 to 40, or 50 to 56. Of an accepted one `numbers` gets the octets used
@@ -65,10 +64,10 @@ pub fn haulspar_item(
     let first = Index(start);
     let answer = value::read_item(types, typed, value, recorded, first, number);
     match answer {
-        ItemAnswer::Given(item) => {
+        Ok(item) => {
             *given = [item.case(), item.bits()];
             0
         }
-        ItemAnswer::Refused(refusal) => refusal,
+        Err(refusal) => refusal,
     }
 }

@@ -6,12 +6,10 @@
 --   behind_gap    where a number of n octets starts at or after `at`, in octets whose first has the index `start`
 --   index_of      an index in an encapsulation
 --   aligned_of    the next aligned index for a size, where a machine word can hold it
-use Rattle.std.specs.Prelude.{ℕ, ◌+◌, ◌-◌, ◌%◌, ◌^◌, cond, ltb}
+use Rattle.std.specs.Prelude.{ℕ, ◌+◌, ◌-◌, ◌%◌, ◌^◌, cond, ltb, Option, Some, None}
 use Rattle.cdr.specs.declared.Size.{Size}
 use Rattle.cdr.specs.declared.Size.TheVariants.{One, Two, Four, Eight}
 use Rattle.cdr.specs.declared.Index.{Index}
-use Rattle.cdr.specs.declared.Aligned.{Aligned}
-use Rattle.cdr.specs.declared.Aligned.TheVariants.{At, Beyond}
 
 abbrev pub octets : Size → ℕ
 octets One = 1
@@ -31,5 +29,5 @@ behind_gap start at n = at + gap (start.0 + at) n
 abbrev pub index_of : ℕ → Index
 index_of i = record { 0 = i }
 
-abbrev pub aligned_of : Index → Size → Aligned
-aligned_of i size = cond (ltb (aligned i.0 (octets size)) (2 ^ 64)) (At (index_of (aligned i.0 (octets size)))) Beyond
+abbrev pub aligned_of : Index → Size → Option Index
+aligned_of i size = cond (ltb (aligned i.0 (octets size)) (2 ^ 64)) (Some (index_of (aligned i.0 (octets size)))) None

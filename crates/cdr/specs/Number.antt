@@ -8,13 +8,12 @@
 --   number_at        the number in n octets from `at` on
 --   read_of          the number of a size that starts at or after `at`, in octets whose first has the index `start`
 --   sign_extended    the two's complement of n octets as one of eight
-use Rattle.std.specs.Prelude.{ℕ, zero, suc, ◌+◌, ◌-◌, ◌*◌, ◌/◌, ◌%◌, ◌^◌, ◌<◌, List, [], ◌∷◌, reverse, cond, ltb, length, get_or, take, drop}
+use Rattle.std.specs.Prelude.{ℕ, zero, suc, ◌+◌, ◌-◌, ◌*◌, ◌/◌, ◌%◌, ◌^◌, ◌<◌, List, [], ◌∷◌, reverse, cond, ltb, length, get_or, take, drop, Option}
+use Rattle.std.specs.Prelude.{Some, None}
 use Rattle.cdr.specs.declared.Order.{Order}
 use Rattle.cdr.specs.declared.Order.TheVariants.{Big, Little}
 use Rattle.cdr.specs.declared.Size.{Size}
 use Rattle.cdr.specs.declared.Index.{Index}
-use Rattle.cdr.specs.declared.Read.{Read}
-use Rattle.cdr.specs.declared.Read.TheVariants.{Number, Ends}
 use Rattle.cdr.specs.Align.{octets, behind_gap}
 
 abbrev pub Octets : List ℕ → Type 0
@@ -41,11 +40,11 @@ octets_of order n x = in_order order (little_octets n x)
 unfoldable pub number_at : List ℕ → ℕ → ℕ → Order → ℕ
 number_at v at n order = number_of order (take n (drop at v))
 
-unfoldable pub read_of : List ℕ → Index → ℕ → Size → Order → Read
+unfoldable pub read_of : List ℕ → Index → ℕ → Size → Order → Option (ℕ × ℕ)
 read_of v start at size order =
     cond (ltb (length v) (behind_gap start at (octets size) + octets size))
-    Ends
-    (Number (behind_gap start at (octets size)) (number_at v (behind_gap start at (octets size)) (octets size) order))
+    None
+    (Some (behind_gap start at (octets size), number_at v (behind_gap start at (octets size)) (octets size) order))
 
 unfoldable pub sign_extended : ℕ → ℕ → ℕ
 sign_extended n x = cond (ltb (x % 256 ^ n * 2) (256 ^ n)) (x % 256 ^ n) (x % 256 ^ n + (2 ^ 64 - 256 ^ n))

@@ -17,24 +17,14 @@ pub const OCTETS_LIMIT: usize = 16384;
 pub fn fits(len: usize, at: usize, count: usize) -> bool
     ensures { result ≡ fits len at count }
 {
-    if len < at {
-        return false;
-    }
-    count <= len - at
+    at <= len && count <= len - at
 }
 
 // A byte order.
-#[derive(Clone, Copy)]
+#[derive(Clone, Copy, PartialEq, Eq)]
 pub enum Order {
     Big,
     Little,
-}
-
-// The order that an octet names, if it names one.
-#[derive(Clone, Copy)]
-pub enum Named {
-    Is(Order),
-    NoOrder,
 }
 
 impl Order {
@@ -49,16 +39,14 @@ impl Order {
     }
 
     // The order that an octet of an encapsulation names.
-    pub fn named(octet: u8) -> Named
+    pub fn named(octet: u8) -> Option<Order>
         ensures { result ≡ order_of octet }
     {
-        if octet == 0 {
-            return Named::Is(Order::Big);
+        match octet {
+            0 => Some(Order::Big),
+            1 => Some(Order::Little),
+            _ => None,
         }
-        if octet == 1 {
-            return Named::Is(Order::Little);
-        }
-        Named::NoOrder
     }
 
     // The order that a flag says.
@@ -100,13 +88,6 @@ pub struct Index(pub usize);
 #[derive(Clone, Copy)]
 pub struct Place(pub usize);
 
-// The next aligned index, or none that a machine word can hold.
-#[derive(Clone, Copy)]
-pub enum Aligned {
-    At(Index),
-    Beyond,
-}
-
 impl Index {
     // The first octet of an encapsulation.
     pub const START: Index = Index(0);
@@ -125,46 +106,40 @@ impl Index {
     }
 
     // The next index that is a multiple of the size, this one included.
-    pub fn aligned(self, size: Size) -> Aligned
+    pub fn aligned(self, size: Size) -> Option<Index>
         ensures { result ≡ aligned_of self size }
     {
         let i = self.0;
         let g = self.gap(size);
         if g <= usize::MAX - i {
-            Aligned::At(Index(i + g))
+            Some(Index(i + g))
         } else {
-            Aligned::Beyond
+            None
         }
     }
 }
 
-// A number that was read: where it starts behind its gap, and its value; or that the octets end.
-#[derive(Clone, Copy)]
-pub enum Read {
-    Number { at: usize, value: u64 },
-    Ends,
-}
-
 // The number of the size that starts at or after `at`; `start` is the index of the slice's first octet.
-pub fn read_number(s: &[u8], start: Index, at: usize, size: Size, order: Order) -> Read
+pub fn read_number(
+    s: &[u8],
+    start: Index,
+    at: usize,
+    size: Size,
+    order: Order,
+) -> Option<(usize, u64)>
     ensures { result ≡ read_of s.now start at size order }
 {
     if s.len() < at {
-        return Read::Ends;
+        return None;
     }
     // Alignment counts modulo 8, so that no start can make the index wrap.
     let first = start.0 % 8;
-    let Aligned::At(index) = Index(first + at).aligned(size) else {
-        return Read::Ends;
-    };
+    let index = Index(first + at).aligned(size)?;
     let p = index.0 - first;
     if s.len() < p + size.octets() {
-        return Read::Ends;
+        return None;
     }
-    Read::Number {
-        at: p,
-        value: load::number(s, p, size, order),
-    }
+    Some((p, load::number(s, p, size, order)))
 }
 
 // The two's complement number of the size, as one of eight octets.

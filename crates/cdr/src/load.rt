@@ -82,6 +82,6 @@ pub(crate) fn extended(x: u64, range: u64) -> u64
     if x * 2 < range {
         x
     } else {
-        x + (18446744073709551615 - (range - 1))
+        x + (u64::MAX - (range - 1))
     }
 }

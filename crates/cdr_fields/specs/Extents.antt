@@ -9,21 +9,14 @@
 --   string_at        a length and a text without a bound, and the index after it; the text's extent is without its final zero
 --   counted_upto     what counted octets give with the index after them
 --   counted_at       a count and so many octets, and the index after them
-use Rattle.std.specs.Prelude.{ℕ, ◌+◌, min, ◌≡◌, List, length, take, drop}
+use Rattle.std.specs.Prelude.{ℕ, ◌+◌, min, ◌≡◌, List, length, take, drop, Option, Some, None, Result, Ok, Err}
 use Rattle.std.specs.Borrow.{Bor}
 use Rattle.cdr.specs.declared.Index.{Index}
 use Rattle.cdr.specs.declared.Order.{Order}
 use Rattle.cdr.specs.Align.{index_of}
-use Rattle.cdr_fields.specs.declared.Str.{Str}
-use Rattle.cdr_fields.specs.declared.Str.TheVariants.{Characters, BadText, NoText}
 use Rattle.cdr_fields.specs.declared.Extent.{Extent}
-use Rattle.cdr_fields.specs.declared.StringAt.{StringAt}
-use Rattle.cdr_fields.specs.declared.StringAt.TheVariants.{Text, BadText as bad_text, NoText as no_text}
-use Rattle.cdr_fields.specs.declared.Counted.{Counted}
-use Rattle.cdr_fields.specs.declared.Counted.TheVariants.{Octets, NoOctets}
-use Rattle.cdr_fields.specs.declared.CountedAt.{CountedAt}
-use Rattle.cdr_fields.specs.declared.CountedAt.TheVariants.{Span, NoSpan}
 use Rattle.cdr_fields.specs.Encapsulation.{start, string_of, counted_of}
+use Rattle.cdr_fields.specs.declared.StringFault.{StringFault}
 
 abbrev pub extent : Index → ℕ → Extent
 extent from n = record { from = from; length = n }
@@ -42,17 +35,16 @@ pub record PartOf (s : Bor (List ℕ)) (part : Extent) (r : Bor (List ℕ)) : Ty
   pub block : r.ref_ptr.0 ≡ s.ref_ptr.0
   pub place : r.ref_ptr.1 ≡ s.ref_ptr.1 + extent_start s.now part
 
-abbrev pub string_upto : Str → StringAt
-string_upto (Characters from n) = Text (extent from n) (index_of (from.0 + n + 1))
-string_upto BadText = bad_text
-string_upto NoText = no_text
+abbrev pub string_upto : Result (Index × ℕ) StringFault → Result (Extent × Index) StringFault
+string_upto (Ok (from, n)) = Ok (extent from n, index_of (from.0 + n + 1))
+string_upto (Err fault) = Err fault
 
-unfoldable pub string_at : List ℕ → Index → Order → StringAt
+unfoldable pub string_at : List ℕ → Index → Order → Result (Extent × Index) StringFault
 string_at v i order = string_upto (string_of v i order)
 
-abbrev pub counted_upto : Counted → CountedAt
-counted_upto (Octets from n) = Span (extent from n) (index_of (from.0 + n))
-counted_upto NoOctets = NoSpan
+abbrev pub counted_upto : Option (Index × ℕ) → Option (Extent × Index)
+counted_upto (Some (from, n)) = Some (extent from n, index_of (from.0 + n))
+counted_upto None = None
 
-unfoldable pub counted_at : List ℕ → Index → Order → CountedAt
+unfoldable pub counted_at : List ℕ → Index → Order → Option (Extent × Index)
 counted_at v i order = counted_upto (counted_of v i order)

@@ -3,76 +3,57 @@
 #![tactic(auto)]
 
 ghost use Rattle.std.specs.Prelude.{◌≡◌};
-ghost use Rattle.cdr_fields.specs.Encapsulation.{field_of, string_of, counted_of};
+ghost use Rattle.cdr_fields.specs.Encapsulation.{field_of, string_fault, string_of, counted_of};
 ghost use Rattle.cdr_fields.specs.Extents.{PartOf, string_at, counted_at};
 ghost use Rattle.cdr_fields.specs.Tagged.{tagged_at, skip_tagged, tagged_behind, tagged_list_at};
 
-use cdr::{Index, Order, Read, Size};
-use cdr_text::{Run, Text};
+use cdr::{Index, Order, Size};
+use cdr_text::TextFault;
 
-// A number of an encapsulation, and the index after it; or that the octets end.
+// Why there is no text: its octets break a rule, or end.
 #[derive(Clone, Copy)]
-pub enum Field {
-    Value { value: u64, next: Index },
-    NoField,
-}
-
-// A text of an encapsulation: its first character's index, and its length without the final zero.
-#[derive(Clone, Copy)]
-pub enum Str {
-    Characters { from: Index, length: usize },
+pub enum StringFault {
     BadText,
     NoText,
 }
 
-// Counted octets of an encapsulation: the first one's index, and their count.
-#[derive(Clone, Copy)]
-pub enum Counted {
-    Octets { from: Index, count: usize },
-    NoOctets,
+impl From<TextFault> for StringFault {
+    ghost from_gives = { λ fault result. result ≡ string_fault fault };
+
+    // Why there is no text.
+    fn from(fault: TextFault) -> StringFault {
+        match fault {
+            TextFault::Short => StringFault::NoText,
+            TextFault::Empty | TextFault::Over | TextFault::Zeros => StringFault::BadText,
+        }
+    }
 }
 
 // The number of the size at an index of an encapsulation's octets.
-pub fn read_field(s: &[u8], at: Index, size: Size, order: Order) -> Field
+pub fn read_field(s: &[u8], at: Index, size: Size, order: Order) -> Option<(u64, Index)>
     ensures { result ≡ field_of s.now at size order }
 {
-    match cdr::read_number(s, Index::START, at.0, size, order) {
-        Read::Number { at: from, value } => Field::Value {
-            value,
-            next: Index(from + size.octets()),
-        },
-        Read::Ends => Field::NoField,
-    }
+    let (from, value) = cdr::read_number(s, Index::START, at.0, size, order)?;
+    Some((value, Index(from + size.octets())))
 }
 
 // The length and text at an index of an encapsulation's octets.
-pub fn read_string(s: &[u8], at: Index, order: Order) -> Str
+pub fn read_string(s: &[u8], at: Index, order: Order) -> Result<(Index, usize), StringFault>
     ensures { result ≡ string_of s.now at order }
 {
-    let Field::Value { value, next } = read_field(s, at, Size::Four, order) else {
-        return Str::NoText;
-    };
-    match cdr_text::read_text(s, next.0, value as usize, 0) {
-        Text::Chars(length) => Str::Characters { from: next, length },
-        Text::Empty => Str::BadText,
-        Text::Over => Str::BadText,
-        Text::Short => Str::NoText,
-        Text::Zeros => Str::BadText,
-    }
+    let (value, next) = read_field(s, at, Size::Four, order).ok_or(StringFault::NoText)?;
+    let length = cdr_text::read_text(s, next.0, value as usize, 0)?;
+    Ok((next, length))
 }
 
 // The count and octets at an index of an encapsulation's octets.
-pub fn read_counted(s: &[u8], at: Index, order: Order) -> Counted
+pub fn read_counted(s: &[u8], at: Index, order: Order) -> Option<(Index, usize)>
     ensures { result ≡ counted_of s.now at order }
 {
-    let Field::Value { value, next } = read_field(s, at, Size::Four, order) else {
-        return Counted::NoOctets;
-    };
+    let (value, next) = read_field(s, at, Size::Four, order)?;
     let count = value as usize;
-    match cdr_text::read_run(s, next.0, count) {
-        Run::To(_) => Counted::Octets { from: next, count },
-        Run::Past => Counted::NoOctets,
-    }
+    cdr_text::read_run(s, next.0, count)?;
+    Some((next, count))
 }
 
 // Octets of an encapsulation: the first one's index, and how many.
@@ -98,121 +79,54 @@ pub fn octets_in<'a>(s: &'a [u8], part: Extent) -> &'a [u8]
     &s[from..from + length]
 }
 
-// A text without its final zero, and the index after that zero.
-#[derive(Clone, Copy)]
-pub enum StringAt {
-    Text { text: Extent, next: Index },
-    BadText,
-    NoText,
-}
-
 // The length and text at an index of an encapsulation's octets, and the index after it.
-pub fn string_at(s: &[u8], at: Index, order: Order) -> StringAt
+pub fn string_at(s: &[u8], at: Index, order: Order) -> Result<(Extent, Index), StringFault>
     ensures { result ≡ string_at s.now at order }
 {
-    match read_string(s, at, order) {
-        Str::Characters { from, length } => StringAt::Text {
-            text: Extent { from, length },
-            next: Index(from.0 + length + 1),
-        },
-        Str::BadText => StringAt::BadText,
-        Str::NoText => StringAt::NoText,
-    }
-}
-
-// Octets behind their count, and the index after them.
-#[derive(Clone, Copy)]
-pub enum CountedAt {
-    Span { octets: Extent, next: Index },
-    NoSpan,
+    let (from, length) = read_string(s, at, order)?;
+    Ok((Extent { from, length }, Index(from.0 + length + 1)))
 }
 
 // The count and octets at an index of an encapsulation's octets, and the index after them.
-pub fn counted_at(s: &[u8], at: Index, order: Order) -> CountedAt
+pub fn counted_at(s: &[u8], at: Index, order: Order) -> Option<(Extent, Index)>
     ensures { result ≡ counted_at s.now at order }
 {
-    match read_counted(s, at, order) {
-        Counted::Octets { from, count } => CountedAt::Span {
-            octets: Extent {
-                from,
-                length: count,
-            },
-            next: Index(from.0 + count),
-        },
-        Counted::NoOctets => CountedAt::NoSpan,
-    }
-}
-
-// A tag, the counted octets behind it, and the index after them; or that the octets end.
-#[derive(Clone, Copy)]
-pub enum Tagged {
-    Tag {
-        tag: u64,
-        octets: Extent,
-        next: Index,
-    },
-    NoTag,
-}
-
-// The index after so many tagged octets, or that there are fewer.
-#[derive(Clone, Copy)]
-pub enum Skipped {
-    Upto(Index),
-    TooFew,
+    let (from, length) = read_counted(s, at, order)?;
+    Some((Extent { from, length }, Index(from.0 + length)))
 }
 
 // The tag and the counted octets at an index.
-pub fn tagged_at(s: &[u8], at: Index, order: Order) -> Tagged
+pub fn tagged_at(s: &[u8], at: Index, order: Order) -> Option<(u64, Extent, Index)>
     ensures { result ≡ tagged_at s.now at order }
 {
-    let Field::Value { value: tag, next } = read_field(s, at, Size::Four, order) else {
-        return Tagged::NoTag;
-    };
-    match read_counted(s, next, order) {
-        Counted::Octets { from, count } => Tagged::Tag {
-            tag,
-            octets: Extent {
-                from,
-                length: count,
-            },
-            next: Index(from.0 + count),
-        },
-        Counted::NoOctets => Tagged::NoTag,
-    }
+    let (tag, behind) = read_field(s, at, Size::Four, order)?;
+    let (octets, next) = counted_at(s, behind, order)?;
+    Some((tag, octets, next))
 }
 
 // The index after `count` tagged octets.
-pub fn skip_tagged(s: &[u8], at: Index, count: u64, order: Order) -> Skipped
+pub fn skip_tagged(s: &[u8], at: Index, count: u64, order: Order) -> Option<Index>
     ensures { result ≡ skip_tagged s.now order count at }
 {
     let mut next = at;
-    let mut k: u64 = 0;
-    while k < count {
-        match tagged_at(s, next, order) {
-            Tagged::NoTag => {
-                return Skipped::TooFew;
-            }
-            Tagged::Tag {
-                tag: _,
-                octets: _,
-                next: i,
-            } => {
-                next = i;
-            }
-        }
-        k += 1;
+    for _ in 0..count {
+        let (_, _, behind) = tagged_at(s, next, order)?;
+        next = behind;
     }
-    Skipped::Upto(next)
+    Some(next)
 }
 
 // The tagged octets behind `number` others.
-pub fn tagged_behind(s: &[u8], first: Index, number: u64, order: Order) -> Tagged
+pub fn tagged_behind(
+    s: &[u8],
+    first: Index,
+    number: u64,
+    order: Order,
+) -> Option<(u64, Extent, Index)>
     ensures { result ≡ tagged_behind s.now first number order }
 {
-    match skip_tagged(s, first, number, order) {
-        Skipped::Upto(at) => tagged_at(s, at, order),
-        Skipped::TooFew => Tagged::NoTag,
-    }
+    let at = skip_tagged(s, first, number, order)?;
+    tagged_at(s, at, order)
 }
 
 // A list of tagged octets: how many, and the first one's index.
@@ -222,29 +136,11 @@ pub struct TaggedList {
     pub first: Index,
 }
 
-// A list of tagged octets, and the index after the last of them; or that the octets end.
-#[derive(Clone, Copy)]
-pub enum TaggedListAt {
-    Listed { list: TaggedList, next: Index },
-    NoList,
-}
-
 // The count at an index, and so many tagged octets behind it.
-pub fn tagged_list_at(s: &[u8], at: Index, order: Order) -> TaggedListAt
+pub fn tagged_list_at(s: &[u8], at: Index, order: Order) -> Option<(TaggedList, Index)>
     ensures { result ≡ tagged_list_at s.now at order }
 {
-    let Field::Value {
-        value: count,
-        next: first,
-    } = read_field(s, at, Size::Four, order)
-    else {
-        return TaggedListAt::NoList;
-    };
-    match skip_tagged(s, first, count, order) {
-        Skipped::Upto(next) => TaggedListAt::Listed {
-            list: TaggedList { count, first },
-            next,
-        },
-        Skipped::TooFew => TaggedListAt::NoList,
-    }
+    let (count, first) = read_field(s, at, Size::Four, order)?;
+    let next = skip_tagged(s, first, count, order)?;
+    Some((TaggedList { count, first }, next))
 }

@@ -1,4 +1,5 @@
 -- The octets of pieces from an index on, one after the other; what an output holds behind the writers of them.
+use Rattle.std.specs.Prelude.{Option, Some, None}
 use mathlib.Core.Path.{◌≡◌, refl, sym, ap, subst, ◌∙◌}
 use mathlib.Core.List.{List, [], ◌∷◌, ◌++◌, append_assoc, append-nil}
 use Prim.Native.Nat.{ℕ, ◌+◌}
@@ -11,8 +12,6 @@ use Rattle.cdr.specs.Align.{octets, gap}
 use Rattle.cdr.specs.Number.{octets_of}
 use Rattle.cdr.proofs.NumbersGivenBack.{octets-length}
 use Rattle.cdr_fields.specs.Encapsulation.{start}
-use Rattle.cdr_write.specs.declared.Written.{Written}
-use Rattle.cdr_write.specs.declared.Written.TheVariants.{Upto, NoRoom}
 use Rattle.cdr_write.specs.Pieces.{Piece, number, run, Target, target, wrote, writes}
 use Rattle.cdr_write.specs.Write.{Stored, holding}
 use Rattle.cdr_write.proofs.BufferHolds.{sets-append, stored-fits}
@@ -77,11 +76,11 @@ module _ (to : Target) where
       ∙ append_assoc out xs (octets_from to (length out + length xs) ps)
 
 -- what an output holds
-held-length : (r : Written) (out : List ℕ) (at : ℕ) (xs : List ℕ) → length (holding r out at xs) ≡ length out
-held-length NoRoom out at xs = refl
-held-length (Upto e) out at xs = length-sets out at xs
+held-length : (r : Option ℕ) (out : List ℕ) (at : ℕ) (xs : List ℕ) → length (holding r out at xs) ≡ length out
+held-length None out at xs = refl
+held-length (Some e) out at xs = length-sets out at xs
 
-pub stored-holds : (out : List ℕ) (at : ℕ) (xs : List ℕ) (r : Written) (last : List ℕ) → Stored out at xs r last → Holds out at xs last
+pub stored-holds : (out : List ℕ) (at : ℕ) (xs : List ℕ) (r : Option ℕ) (last : List ℕ) → Stored out at xs r last → Holds out at xs last
 stored-holds out at xs r last s = record {
   size = ap length s.contents ∙ held-length r out at xs;
   holds = λ h. stored-fits out at xs r last h s;

@@ -10,15 +10,13 @@
 --   octets_from          the octets of pieces, one after the other, from an index on
 --   Holds               what an output holds behind a writer of octets, if there is room for them
 --   Fills               the same of a writer of pieces
-use Rattle.std.specs.Prelude.{ℕ, zero, suc, ◌+◌, ◌≤◌, ◌≡◌, List, [], ◌∷◌, ◌++◌, length, replicate}
+use Rattle.std.specs.Prelude.{ℕ, zero, suc, ◌+◌, ◌≤◌, ◌≡◌, List, [], ◌∷◌, ◌++◌, length, replicate, Option, Some, None}
 use Rattle.std.proofs.lemmas.List.Edits.{sets}
 use Rattle.cdr.specs.declared.Index.{Index}
 use Rattle.cdr.specs.declared.Order.{Order}
 use Rattle.cdr.specs.Align.{gap}
 use Rattle.cdr.specs.Number.{octets_of}
 use Rattle.cdr_fields.specs.declared.Extent.{Extent}
-use Rattle.cdr_fields.specs.declared.Tagged.{Tagged}
-use Rattle.cdr_fields.specs.declared.Tagged.TheVariants.{Tag, NoTag}
 use Rattle.cdr_fields.specs.declared.TaggedList.{TaggedList}
 use Rattle.cdr_fields.specs.Extents.{extent_octets}
 use Rattle.cdr_fields.specs.Tagged.{tagged_at}
@@ -36,9 +34,9 @@ counted_pieces these = number_piece 4 (length these) ∷ run_piece these ∷ []
 abbrev pub tagged_pieces : ℕ → List ℕ → List Piece
 tagged_pieces tag these = number_piece 4 tag ∷ counted_pieces these
 
-abbrev pub on_tagged_pieces : Tagged → (ℕ → Extent → Index → List Piece) → List Piece
-on_tagged_pieces (Tag tag octets next) f = f tag octets next
-on_tagged_pieces NoTag f = []
+abbrev pub on_tagged_pieces : Option (ℕ × Extent × Index) → (ℕ → Extent → Index → List Piece) → List Piece
+on_tagged_pieces (Some (tag, octets, next)) f = f tag octets next
+on_tagged_pieces None f = []
 
 unfoldable pub list_pieces : List ℕ → Order → ℕ → Index → List Piece
 list_pieces v order zero i = []

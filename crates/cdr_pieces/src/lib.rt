@@ -8,10 +8,9 @@ ghost use Rattle.cdr_write.specs.Write.{Stored};
 ghost use Rattle.cdr_pieces.specs.PartPieces.{number_piece, piece_octets};
 
 use cdr::{Index, Order, Size};
-use cdr_write::Written;
 
 // Writes a number of the size behind the smallest gap at `at`, all zero.
-pub fn put_number(out: &mut [u8], at: usize, size: Size, order: Order, x: u64) -> Written
+pub fn put_number(out: &mut [u8], at: usize, size: Size, order: Order, x: u64) -> Option<usize>
     ensures { Stored out.old at (piece_octets (target order start) at (number_piece (octets size) x)) result out.new }
 {
     let gap = Index(at).gap(size);
@@ -19,7 +18,7 @@ pub fn put_number(out: &mut [u8], at: usize, size: Size, order: Order, x: u64) -
     if cdr::fits(out.len(), at, count) {
         cdr_write::write_zeros(out, at, gap);
         cdr_write::write_number(out, at + gap, size, order, x);
-        return Written::Upto(at + count);
+        return Some(at + count);
     }
-    Written::NoRoom
+    None
 }

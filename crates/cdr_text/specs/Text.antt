@@ -5,12 +5,10 @@
 --   ends_text     a last zero octet, and no earlier one
 --   text_of       a text of n octets: "length 0, bound, end, zeros", the bound "over its bound (a text's final zero not counted)"
 --   run_of        n octets as they are
-use Rattle.std.specs.Prelude.{ℕ, ◌+◌, ◌-◌, List, [], ◌∷◌, Bool, true, false, cond, ltb, eqb, length, take, drop}
+use Rattle.std.specs.Prelude.{ℕ, ◌+◌, ◌-◌, List, [], ◌∷◌, Bool, true, false, cond, ltb, eqb, length, take, drop, Option, Some, None, Result, Ok, Err}
 use Rattle.choices.specs.Lists.{any_of}
-use Rattle.cdr_text.specs.declared.Text.{Text}
-use Rattle.cdr_text.specs.declared.Text.TheVariants.{Chars, Empty, Over, Short, Zeros}
-use Rattle.cdr_text.specs.declared.Run.{Run}
-use Rattle.cdr_text.specs.declared.Run.TheVariants.{To, Past}
+use Rattle.cdr_text.specs.declared.TextFault.TheVariants.{Empty, Over, Short, Zeros}
+use Rattle.cdr_text.specs.declared.TextFault.{TextFault}
 
 unfoldable pub over_bound : ℕ → ℕ → Bool
 over_bound count bound = cond (eqb bound 0) false (ltb bound count)
@@ -26,13 +24,13 @@ unfoldable pub ends_text : List ℕ → Bool
 ends_text [] = false
 ends_text (x ∷ l) = cond (eqb x 0) (is_nil l) (ends_text l)
 
-unfoldable pub text_of : List ℕ → ℕ → ℕ → ℕ → Text
+unfoldable pub text_of : List ℕ → ℕ → ℕ → ℕ → Result ℕ TextFault
 text_of v at n bound =
-    cond (eqb n 0) Empty
-    (cond (over_bound (n - 1) bound) Over
-    (cond (ltb (length v) (at + n)) Short
-    (cond (ends_text (take n (drop at v))) (Chars (n - 1))
-    Zeros)))
+    cond (eqb n 0) (Err Empty)
+    (cond (over_bound (n - 1) bound) (Err Over)
+    (cond (ltb (length v) (at + n)) (Err Short)
+    (cond (ends_text (take n (drop at v))) (Ok (n - 1))
+    (Err Zeros))))
 
-unfoldable pub run_of : List ℕ → ℕ → ℕ → Run
-run_of v at n = cond (ltb (length v) (at + n)) Past (To (at + n))
+unfoldable pub run_of : List ℕ → ℕ → ℕ → Option ℕ
+run_of v at n = cond (ltb (length v) (at + n)) None (Some (at + n))

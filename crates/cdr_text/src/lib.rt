@@ -6,16 +6,16 @@ ghost use Rattle.std.specs.Prelude.{◌≡◌};
 ghost use Rattle.cdr_text.specs.Text.{over_bound, has_zero, ends_text, text_of, run_of};
 
 // Whether a count is over a bound, of which 0 is none.
+#[tactic(auto, unfolding(crate::specs::Text::over_bound))]
 pub fn over_bound(count: usize, bound: usize) -> bool
     ensures { result ≡ over_bound count bound }
 {
-    if bound == 0 { false } else { bound < count }
+    bound != 0 && bound < count
 }
 
-// A text's octets: its length without the final zero, or the first rule that they break.
+// The first rule that a text's octets break.
 #[derive(Clone, Copy)]
-pub enum Text {
-    Chars(usize),
+pub enum TextFault {
     Empty,
     Over,
     Short,
@@ -23,43 +23,29 @@ pub enum Text {
 }
 
 // The text of `length` octets from `at` on, its final zero among them, with a bound of which 0 is none.
-pub fn read_text(s: &[u8], at: usize, length: usize, bound: usize) -> Text
+pub fn read_text(s: &[u8], at: usize, length: usize, bound: usize) -> Result<usize, TextFault>
     ensures { result ≡ text_of s.now at length bound }
 {
     if length == 0 {
-        return Text::Empty;
+        return Err(TextFault::Empty);
     }
     if over_bound(length - 1, bound) {
-        return Text::Over;
+        return Err(TextFault::Over);
     }
-    let Run::To(end) = read_run(s, at, length) else {
-        return Text::Short;
-    };
+    let end = read_run(s, at, length).ok_or(TextFault::Short)?;
     if ends_text(&s[at..end]) {
-        Text::Chars(length - 1)
+        Ok(length - 1)
     } else {
-        Text::Zeros
+        Err(TextFault::Zeros)
     }
-}
-
-// Counted octets: where they end, or that there are fewer.
-#[derive(Clone, Copy)]
-pub enum Run {
-    To(usize),
-    Past,
 }
 
 // The run of `count` octets from `at` on.
-pub fn read_run(s: &[u8], at: usize, count: usize) -> Run
+pub fn read_run(s: &[u8], at: usize, count: usize) -> Option<usize>
     ensures { result ≡ run_of s.now at count }
 {
-    if s.len() < at {
-        return Run::Past;
-    }
-    if s.len() - at < count {
-        return Run::Past;
-    }
-    Run::To(at + count)
+    let end = at.checked_add(count)?;
+    if end <= s.len() { Some(end) } else { None }
 }
 
 // Whether an octet is zero. All of them are looked at: without a way out of the loop many are compared at once.
@@ -67,12 +53,10 @@ fn has_zero(s: &[u8]) -> bool
     ensures { result ≡ has_zero s.now }
 {
     let mut found = false;
-    let mut i = 0;
-    while i < s.len() {
-        if s[i] == 0 {
+    for octet in s {
+        if *octet == 0 {
             found = true;
         }
-        i += 1;
     }
     found
 }
@@ -81,12 +65,8 @@ fn has_zero(s: &[u8]) -> bool
 fn ends_text(s: &[u8]) -> bool
     ensures { result ≡ ends_text s.now }
 {
-    if s.len() == 0 {
+    let Some((last, before)) = s.split_last() else {
         return false;
-    }
-    let last = s.len() - 1;
-    if s[last] != 0 {
-        return false;
-    }
-    if has_zero(&s[0..last]) { false } else { true }
+    };
+    *last == 0 && !has_zero(before)
 }

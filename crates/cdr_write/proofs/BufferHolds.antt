@@ -1,17 +1,16 @@
 -- Runs of stores: one at a time, and two halves of a number one after the other.
+use Rattle.std.specs.Prelude.{Option, Some, None}
 use mathlib.Core.Path.{◌≡◌, refl, sym, ap, ◌∙◌}
-use mathlib.Core.List.{List, [], ◌∷◌, ◌++◌}
+use mathlib.Core.List.{List, [], ◌∷◌, ◌++◌, append_assoc}
 use mathlib.Core.Bool.{true, false}
-use Prim.Native.Nat.{ℕ, suc, ◌+◌, ◌^◌, ◌<◌, ◌≤◌, ◌%◌}
+use Prim.Native.Nat.{ℕ, suc, ◌+◌, ◌^◌, ◌-◌, ◌≤◌, ◌%◌}
 use native.Mathlib.Nat.{add-zero}
-use native.Mathlib.Numerals.{add-one}
 use native.Mathlib.Omega.{arith}
-use lib.ListN.{get_or, length, take, drop, set, replicate, length-append, length-replicate, get_or-replicate, drop_of_length-le}
-use lib.Seq.{sets, sets-eq, drop-cons, take_at, drop_at, length-take-le}
+use lib.ListN.{length, take, drop, set, length-append, length-drop}
+use borrow.Rule.Slice.PartMut.{put_mid}
+use lib.Seq.{sets, sets-eq, drop-drop, take_at, drop_at, length-take-le}
 use Rattle.cdr.specs.declared.Order.{Order}
 use Rattle.cdr.specs.declared.Order.TheVariants.{Big, Little}
-use Rattle.cdr_write.specs.declared.Written.{Written}
-use Rattle.cdr_write.specs.declared.Written.TheVariants.{Upto, NoRoom}
 use Rattle.cdr.specs.Number.{octets_of, little_octets}
 use Rattle.cdr.specs.Inner.{first_half, second_half}
 use Rattle.cdr_write.specs.Write.{Stored, holding}
@@ -38,27 +37,15 @@ module _ (l xs : List ℕ) (at : ℕ) (fits : at + length xs ≤ length l) where
   drop-stored =
       rw (sets-eq xs l at fits) (drop_at (take at l ++ xs) (drop (at + length xs) l) (at + length xs) before-length)
 
--- the next of a run, which starts with all of it and ends with none
-pub stored : (l out : List ℕ) (at k : ℕ) → k < length l
-    → sets out (at + k) (drop k l) ≡ sets (set out (at + k) (get_or l k 0)) (at + (k + 1)) (drop (k + 1) l)
-stored l out at k h =
-    let e : suc (at + k) ≡ at + (k + 1) = omega arith in
-    ap (sets out (at + k)) (drop-cons l k 0 h)
-    ∙ ap (λ (j : ℕ). sets (set out (at + k) (get_or l k 0)) j (drop (suc k) l)) e
-    ∙ ap (λ (j : ℕ). sets (set out (at + k) (get_or l k 0)) (at + (k + 1)) (drop j l)) (sym (add-one k))
+pub part-length : (l : List ℕ) (at n : ℕ) → at + n ≤ length l → length (take (at + n - at) (drop at l)) ≡ n
+part-length l at n h =
+    let k : at + n - at ≡ n = omega arith in rw k (length-take-le n (drop at l) (omega (arith, length-drop at l)))
 
-pub stored-first : (l out : List ℕ) (at : ℕ) → sets out (at + 0) (drop 0 l) ≡ sets out at l
-stored-first l out at = ap (λ (j : ℕ). sets out j l) (add-zero at)
-
-pub stored_last : (l out : List ℕ) (at k : ℕ) → length l ≤ k → sets out (at + k) (drop k l) ≡ out
-stored_last l out at k h = ap (sets out (at + k)) (drop_of_length-le l h)
-
-pub zero-stored : (out : List ℕ) (at n k : ℕ) → k < n
-    → sets out (at + k) (drop k (replicate n 0)) ≡ sets (set out (at + k) 0) (at + (k + 1)) (drop (k + 1) (replicate n 0))
-zero-stored out at n k h =
-    let l = length-replicate {A = ℕ} n 0 in
-    stored (replicate n 0) out at k (omega arith)
-    ∙ ap (λ (x : ℕ). sets (set out (at + k) x) (at + (k + 1)) (drop (k + 1) (replicate n 0))) (get_or-replicate n k 0 0 h)
+-- a part of the buffer that holds octets holds a run of stores
+pub put-sets : (l xs ys : List ℕ) (at n : ℕ) → at + n ≤ length l → length xs ≡ n → ys ≡ xs → put_mid at (at + n - at) l ys ≡ sets l at xs
+put-sets l xs ys at n h e f =
+    let k : at + n - at ≡ length xs = omega arith in
+    rw (f, k, drop-drop (length xs) at l, sets-eq xs l at (omega arith)) (sym (append_assoc (take at l) xs (drop (at + length xs) l)))
 
 -- a number of one octet, and of two halves
 pub one-octet : (order : Order) (x : ℕ) → octets_of order 1 x ≡ x % 256 ∷ []
@@ -79,17 +66,17 @@ stored-halves order n at x p q out l m e f g h =
 
 -- the two answers of a writer, by whether the octets fit
 module _ (out : List ℕ) (at n : ℕ) (xs : List ℕ) (e : length xs ≡ n) where
-  pub not-stored : fits (length out) at n ≡ false → Stored out at xs NoRoom out
+  pub not-stored : fits (length out) at n ≡ false → Stored out at xs None out
   not-stored h = record { answer = rw (e, h); contents = refl }
 
-  pub stored_there : fits (length out) at n ≡ true → (last : List ℕ) → last ≡ sets out at xs → Stored out at xs (Upto (at + n)) last
+  pub stored_there : fits (length out) at n ≡ true → (last : List ℕ) → last ≡ sets out at xs → Stored out at xs (Some (at + n)) last
   stored_there h last f = record { answer = rw (e, h); contents = f }
 
 -- where the octets fit, it is told where they end, and the buffer holds them
-pub stored-upto : (out : List ℕ) (at : ℕ) (xs : List ℕ) (r : Written) (last : List ℕ) → at + length xs ≤ length out
-    → Stored out at xs r last → r ≡ Upto (at + length xs)
+pub stored-upto : (out : List ℕ) (at : ℕ) (xs : List ℕ) (r : Option ℕ) (last : List ℕ) → at + length xs ≤ length out
+    → Stored out at xs r last → r ≡ Some (at + length xs)
 stored-upto out at xs r last h s = s.answer ∙ rw (room_fits (length out) at (length xs) h)
 
-pub stored-fits : (out : List ℕ) (at : ℕ) (xs : List ℕ) (r : Written) (last : List ℕ) → at + length xs ≤ length out
+pub stored-fits : (out : List ℕ) (at : ℕ) (xs : List ℕ) (r : Option ℕ) (last : List ℕ) → at + length xs ≤ length out
     → Stored out at xs r last → last ≡ sets out at xs
-stored-fits out at xs r last h s = s.contents ∙ ap (λ (w : Written). holding w out at xs) (stored-upto out at xs r last h s)
+stored-fits out at xs r last h s = s.contents ∙ ap (λ (w : Option ℕ). holding w out at xs) (stored-upto out at xs r last h s)

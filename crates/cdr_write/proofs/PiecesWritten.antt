@@ -1,4 +1,5 @@
 -- What is written of pieces: one after the other; whatever their places and gaps are; of what length; read again; from indices equal modulo 8.
+use Rattle.std.specs.Prelude.{Some}
 use mathlib.Core.Path.{◌≡◌, refl, sym, ap, ◌∙◌}
 use mathlib.Core.List.{List, [], ◌∷◌, ◌++◌, map, append_assoc}
 use Prim.Native.Nat.{ℕ, ◌+◌, ◌<◌, ◌≤◌, ◌^◌, ◌%◌}
@@ -7,7 +8,6 @@ use lib.ListN.{length, take, drop, replicate, length-append, length-replicate}
 use lib.Seq.{drop-append_seam, take_at}
 use Rattle.cdr.specs.declared.Order.{Order}
 use Rattle.cdr.specs.declared.Size.{Size}
-use Rattle.cdr.specs.declared.Read.TheVariants.{Number}
 use Rattle.cdr.specs.Align.{octets, gap, behind_gap, index_of}
 use Rattle.cdr.specs.Number.{number_of, octets_of, number_at, read_of}
 use Rattle.cdr.proofs.GapsBounded.{gap-modulo-8, read_number}
@@ -57,7 +57,7 @@ middle a b c n e =
 -- a number that was written is read again, behind its gap
 pub number-back : (to : Target) (out more : List ℕ) (before place : ℕ) (size : Size) (value : ℕ) → value < 256 ^ octets size
     → read_of (wrote to out (number before place (octets size) value) ++ more) to.start (length out) size to.order
-    ≡ Number (behind_gap to.start (length out) (octets size)) value
+    ≡ Some (behind_gap to.start (length out) (octets size), value)
 unfolding wrote number_at
 number-back to out more before place size value small =
     let n : ℕ = octets size in
@@ -73,7 +73,7 @@ number-back to out more before place size value small =
     let fits : behind_gap to.start (length out) n + n ≤ length all =
     let a = length-append (out ++ (zeros ++ these)) more in let b = number-length to out before place n value in omega arith in
     read_number all to.start (length out) size to.order fits
-    ∙ ap (Number (behind_gap to.start (length out) n)) (ap (number_of to.order) part ∙ number-of-octets to.order n value small)
+    ∙ ap (λ (x : ℕ). Some (behind_gap to.start (length out) n, x)) (ap (number_of to.order) part ∙ number-of-octets to.order n value small)
 
 -- the writing index is taken modulo 8
 module _ (order : Order) (i j : ℕ) (alike : i % 8 ≡ j % 8) where

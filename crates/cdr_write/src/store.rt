@@ -82,12 +82,7 @@ pub(crate) fn zeros(out: &mut [u8], at: usize, count: usize)
     requires { at + count ≤ length out.old }
     ensures { out.new ≡ sets out.old at (replicate count 0) }
 {
-    let mut k = 0;
-    while k < count {
-        let j = at + k;
-        out[j] = 0;
-        k += 1;
-    }
+    out[at..at + count].fill(0);
 }
 
 // Stores octets as they are.
@@ -95,10 +90,5 @@ pub(crate) fn copy(out: &mut [u8], at: usize, octets: &[u8])
     requires { at + length «octets».now ≤ length out.old }
     ensures { out.new ≡ sets out.old at «octets».now }
 {
-    let mut k = 0;
-    while k < octets.len() {
-        let j = at + k;
-        out[j] = octets[k];
-        k += 1;
-    }
+    out[at..at + octets.len()].copy_from_slice(octets);
 }

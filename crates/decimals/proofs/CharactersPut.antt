@@ -1,4 +1,5 @@
 -- Characters put one behind the other.
+use Rattle.std.specs.Prelude.{Option, Some, None}
 use mathlib.Core.Path.{◌≡◌, refl, sym, ap, ◌∙◌}
 use mathlib.Core.List.{List, [], ◌∷◌, ◌++◌}
 use Prim.Native.Nat.{ℕ, ◌+◌, ◌-◌, ◌<◌, ◌≤◌}
@@ -7,8 +8,6 @@ use native.Mathlib.Omega.{arith}
 use lib.ListN.{length, take, drop, set, length-append, length-drop}
 use lib.Seq.{sets, take_all}
 use Rattle.choices.proofs.Choices.{clash}
-use Rattle.cdr_write.specs.declared.Written.{Written}
-use Rattle.cdr_write.specs.declared.Written.TheVariants.{Upto, NoRoom}
 use Rattle.cdr_write.specs.Write.{Stored}
 use Rattle.cdr_write.proofs.BufferHolds.{sets-append, take-stored, stored-upto, stored-fits}
 use Rattle.decimals.specs.Decimal.{decimal}
@@ -34,14 +33,14 @@ put_two out at c d =
     rw (← e) (put_then (put_one out at c) (put_one (set out at c) (at + 1) d))
 
 -- characters that are stored where they fit: they are put, and it is told where they end
-module _ (out : List ℕ) (at : ℕ) (xs : List ℕ) (r : Written) (last : List ℕ) (h : at + length xs ≤ length out) (s : Stored out at xs r last) where
+module _ (out : List ℕ) (at : ℕ) (xs : List ℕ) (r : Option ℕ) (last : List ℕ) (h : at + length xs ≤ length out) (s : Stored out at xs r last) where
   pub put-stored : Put out at xs (at + length xs) last
   put-stored = record { end = refl; contents = stored-fits out at xs r last h s }
 
-  pub put-upto : (e : ℕ) → r ≡ Upto e → Put out at xs e last
+  pub put-upto : (e : ℕ) → r ≡ Some e → Put out at xs e last
   put-upto e t = let u = stored-upto out at xs r last h s in record { end = cc; contents = stored-fits out at xs r last h s }
 
-  pub put-always : {G : Type 0} → r ≡ NoRoom → G
+  pub put-always : {G : Type 0} → r ≡ None → G
   put-always t = let u = stored-upto out at xs r last h s in clash cc
 
 -- what was written from the start of a memory

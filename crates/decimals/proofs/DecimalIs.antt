@@ -142,15 +142,15 @@ decimal-is x h =
       zero_is = λ e. rw e (one-digit 19 0 (omega arith));
     }
 
--- the digits of a number counted, one less left with each turn, and the first
-module _ (n x : ℕ) (h : 0 < n) (k : n ≤ 20) where
-  left_is : 21 - n ≡ suc (20 - n)
-  left_is = omega arith
+power-some : (k : ℕ) → 0 < 10 ^ k
+power-some zero = omega arith
+power-some (suc k) = let i = power-some k in omega arith
 
-  pub counted-turn : 10 ≤ x → length (decimal_within (21 - n) x) ≡ length (decimal_within (21 - (n + 1)) (x / 10)) + 1
-  counted-turn t =
-      let e : 21 - (n + 1) ≡ 20 - n = omega arith in
-      rw (left_is, more-digits (20 - n) x t, e, length-append)
-
-  pub counted-last : x < 10 → length (decimal_within (21 - n) x) ≡ 1
-  counted-last t = rw (left_is, one-digit (20 - n) x t)
+-- a number from a power of ten up to the next has one digit more than the power
+pub digits-counted : (n k x : ℕ) → k < n → 10 ^ k ≤ x → x < 10 * 10 ^ k → length (decimal_within n x) ≡ k + 1
+digits-counted zero k x h l u = absurd (omega arith)
+digits-counted (suc n) zero x h l u = rw (one-digit n x (omega arith))
+digits-counted (suc n) (suc k) x h l u =
+    let p = power-some k in
+    let i = digits-counted n k (x / 10) (omega arith) (omega arith) (omega arith) in
+    rw (more-digits n x (omega arith), length-append) (omega (arith, i))

@@ -7,10 +7,8 @@
 --   number_from     what characters behind a number make of it
 --   number_word     "one or more digits, leading zeros allowed", and no more than the largest
 --   onward         what one character behind a number makes of it
-use Rattle.std.specs.Prelude.{Bool, true, ◌&&◌, List, [], ◌∷◌, ℕ, ◌+◌, ◌-◌, ◌*◌, eqb, leb, ltb, length}
+use Rattle.std.specs.Prelude.{Bool, true, ◌&&◌, List, [], ◌∷◌, ℕ, ◌+◌, ◌-◌, ◌*◌, eqb, leb, ltb, length, Option, Some, None}
 use Rattle.choices.specs.Branch.{choose}
-use Rattle.decimals.specs.declared.Number.{Number}
-use Rattle.decimals.specs.declared.Number.TheVariants.{Is, NotNumber}
 
 abbrev pub most_number : ℕ
 most_number = 18446744073709551615
@@ -26,14 +24,14 @@ abbrev pub value_from : ℕ → List ℕ → ℕ
 value_from before [] = before
 value_from before (c ∷ cs) = value_from (before * 10 + (c - 48)) cs
 
-unfoldable pub number_upto : ℕ → Number
-number_upto x = choose (ltb most_number x) (λ _. NotNumber) (λ _. Is x)
+unfoldable pub number_upto : ℕ → Option ℕ
+number_upto x = choose (ltb most_number x) (λ _. None) (λ _. (Some x))
 
-unfoldable pub number_from : ℕ → List ℕ → Number
-number_from before cs = choose (all_numerals cs) (λ _. number_upto (value_from before cs)) (λ _. NotNumber)
+unfoldable pub number_from : ℕ → List ℕ → Option ℕ
+number_from before cs = choose (all_numerals cs) (λ _. number_upto (value_from before cs)) (λ _. None)
 
-unfoldable pub number_word : List ℕ → Number
-number_word word = choose (eqb (length word) 0) (λ _. NotNumber) (λ _. number_from 0 word)
+unfoldable pub number_word : List ℕ → Option ℕ
+number_word word = choose (eqb (length word) 0) (λ _. None) (λ _. number_from 0 word)
 
-unfoldable pub onward : ℕ → ℕ → Number
-onward x c = choose (is_numeral c) (λ _. number_upto (x * 10 + (c - 48))) (λ _. NotNumber)
+unfoldable pub onward : ℕ → ℕ → Option ℕ
+onward x c = choose (is_numeral c) (λ _. number_upto (x * 10 + (c - 48))) (λ _. None)

@@ -6,8 +6,6 @@ ghost use Rattle.cdr_write.specs.Write.{Stored};
 ghost use Rattle.decimals.specs.Decimal.{decimal};
 ghost use Rattle.decimals.specs.Numerals.{number_word};
 
-use cdr_write::Written;
-
 mod read;
 
 // The most decimal digits of a machine word.
@@ -20,6 +18,7 @@ fn last_digits(x: u64, digits: &mut [u8]) -> usize
 {
     let mut rest = x;
     let mut at = DIGITS;
+    // No `for`: the digits that are left say when it ends.
     while 10 <= rest {
         at -= 1;
         digits[at] = b'0' + (rest % 10) as u8;
@@ -31,7 +30,7 @@ fn last_digits(x: u64, digits: &mut [u8]) -> usize
 }
 
 // Writes the decimal digits of a number and the character behind them from `at` on.
-pub fn write_decimal(out: &mut [u8], at: usize, x: u64, behind: u8) -> Written
+pub fn write_decimal(out: &mut [u8], at: usize, x: u64, behind: u8) -> Option<usize>
     ensures { Stored out.old at (decimal x ++ (behind ∷ [])) result out.new }
 {
     let mut digits = [behind; DIGITS + 1];
@@ -43,28 +42,19 @@ pub fn write_decimal(out: &mut [u8], at: usize, x: u64, behind: u8) -> Written
 pub fn count_digits(x: u64) -> usize
     ensures { result ≡ length (decimal x) }
 {
-    let mut left = x;
-    let mut n = 1;
-    while 10 <= left {
-        left = left / 10;
-        n += 1;
+    match x.checked_ilog10() {
+        Some(power) => power as usize + 1,
+        None => 1,
     }
-    n
-}
-
-// What a word is as a number of 64 bits.
-#[derive(Clone, Copy)]
-pub enum Number {
-    Is(u64),
-    NotNumber,
 }
 
 // The number that a word's decimal digits stand for; leading zeros count for nothing.
-pub fn read_decimal(word: &[u8]) -> Number
+#[tactic(auto, unfolding(crate::specs::Numerals::number_word, choices::specs::Branch::choose))]
+pub fn read_decimal(word: &[u8]) -> Option<u64>
     ensures { result ≡ number_word word.now }
 {
-    if word.len() == 0 {
-        return Number::NotNumber;
+    if word.is_empty() {
+        return None;
     }
     read::digits(word)
 }

@@ -2,37 +2,24 @@
 ghost use Rattle.std.specs.Prelude.{◌≡◌};
 ghost use Rattle.decimals.specs.Numerals.{onward, number_from};
 
-use crate::Number;
-
 // The number with one more digit behind it.
-fn onward(x: u64, c: u8) -> Number
+fn onward(x: u64, c: u8) -> Option<u64>
     ensures { result ≡ onward x c }
 {
-    if c < b'0' {
-        return Number::NotNumber;
+    if !c.is_ascii_digit() {
+        return None;
     }
-    if b'9' < c {
-        return Number::NotNumber;
-    }
-    let d = (c - b'0') as u64;
-    if (u64::MAX - d) / 10 < x {
-        return Number::NotNumber;
-    }
-    Number::Is(x * 10 + d)
+    let d = u64::from(c - b'0');
+    x.checked_mul(10)?.checked_add(d)
 }
 
 // The number of any digits, 0 of none.
-pub(crate) fn digits(word: &[u8]) -> Number
+pub(crate) fn digits(word: &[u8]) -> Option<u64>
     ensures { result ≡ number_from 0 word.now }
 {
     let mut x = 0;
-    let mut i = 0;
-    while i < word.len() {
-        let Number::Is(y) = onward(x, word[i]) else {
-            return Number::NotNumber;
-        };
-        x = y;
-        i += 1;
+    for c in word {
+        x = onward(x, *c)?;
     }
-    Number::Is(x)
+    Some(x)
 }

@@ -1,4 +1,5 @@
 -- What an accepted message is: every row of the table lets it pass, and the header says what stands there.
+use Rattle.std.specs.Prelude.{Result, Ok, Err}
 use mathlib.Core.Path.{◌≡◌, refl, sym, ap}
 use mathlib.Core.List.{List}
 use mathlib.Core.Bool.{Bool, true, false, cond, not}
@@ -9,8 +10,6 @@ use lib.ListN.{length}
 use borrow.Author.Tests.{ltb-false, eqb-true, not-false}
 use Rattle.choices.proofs.Choices.{clash}
 use Rattle.frame.specs.declared.Header.{Header}
-use Rattle.frame.specs.declared.Frame.{Frame}
-use Rattle.frame.specs.declared.Frame.TheVariants.{Accepted, Refused}
 use Rattle.frame.specs.declared.Refusal.{Refusal}
 use Rattle.frame.specs.declared.Refusal.TheVariants.{TooLong, Short, NotGiop, NoSuchVersion, NoSuchFlags, NoSuchType, SizeAbove, SizeBelow, SizeOfType, NoFragments, NotInEights}
 use Rattle.version.specs.Versions.{flags_allowed, type_exists}
@@ -30,20 +29,20 @@ pub record Accepts (v : List ℕ) (h : Header) : Type 0 where
   pub eights : eights_allowed (more_at v) (size_at v) ≡ true
 
 -- a row that does not refuse lets the rest decide
-passes : (refused : Bool) (row : Refusal) (rest : Frame) (h : Header) → cond refused (Refused row) rest ≡ Accepted h
-    → (refused ≡ false) × (rest ≡ Accepted h)
+passes : (refused : Bool) (row : Refusal) (rest : Result Header Refusal) (h : Header) → cond refused (Err row) rest ≡ Ok h
+    → (refused ≡ false) × (rest ≡ Ok h)
 passes true row rest h e = clash cc
 passes false row rest h e = (refl, e)
 
 -- the header that was accepted
-abbrev accepted_or : Header → Frame → Header
-accepted_or other (Accepted h) = h
-accepted_or other (Refused row) = other
+abbrev accepted_or : Header → Result Header Refusal → Header
+accepted_or other (Ok h) = h
+accepted_or other (Err row) = other
 
-accepted-same : (g h : Header) → Accepted g ≡ Accepted h → h ≡ g
+accepted-same : (g h : Header) → ◌≡◌ {A = Result Header Refusal} (Ok g) (Ok h) → h ≡ g
 accepted-same g h e = sym (ap (accepted_or g) e)
 
-pub message-accepts : (v : List ℕ) (h : Header) → message_of v ≡ Accepted h → Accepts v h
+pub message-accepts : (v : List ℕ) (h : Header) → message_of v ≡ Ok h → Accepts v h
 unfolding message_of sized_of
 message-accepts v h e =
     let short = passes (ltb (length v) header_size) Short _ h e in
@@ -71,7 +70,7 @@ message-accepts v h e =
       eights = not-false _ eights.0;
     }
 
-pub frame-accepts : (v : List ℕ) (h : Header) → frame_of v ≡ Accepted h → (length v ≤ message_limit) × Accepts v h
+pub frame-accepts : (v : List ℕ) (h : Header) → frame_of v ≡ Ok h → (length v ≤ message_limit) × Accepts v h
 unfolding frame_of
 frame-accepts v h e =
     let long = passes (ltb message_limit (length v)) TooLong _ h e in

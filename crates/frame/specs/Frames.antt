@@ -12,13 +12,10 @@
 --   id_numbers          1 and the request id, or "other numbers are 0"
 --   header_numbers      minor, order, more, type, size, and the request id's two
 --   frame_numbers       the number and the values of each answer; "a refusal's other numbers are 0"
-use Rattle.std.specs.Prelude.{ℕ, ◌+◌, ◌-◌, ◌%◌, List, [], ◌∷◌, Bool, true, cond, not, ◌&&◌, ◌||◌, ltb, leb, eqb, length, replicate}
+use Rattle.std.specs.Prelude.{ℕ, ◌+◌, ◌-◌, ◌%◌, List, [], ◌∷◌, Bool, true, cond, not, ◌&&◌, ◌||◌, ltb, leb, eqb, length, replicate, Option, Some}
+use Rattle.std.specs.Prelude.{None, Result, Ok, Err}
 use Rattle.cdr.specs.Orders.{order_octet}
-use Rattle.frame.specs.declared.RequestId.{RequestId}
-use Rattle.frame.specs.declared.RequestId.TheVariants.{Id, NoId}
 use Rattle.frame.specs.declared.Header.{Header}
-use Rattle.frame.specs.declared.Frame.{Frame}
-use Rattle.frame.specs.declared.Frame.TheVariants.{Accepted, Refused}
 use Rattle.frame.specs.declared.Refusal.{Refusal}
 use Rattle.frame.specs.declared.Refusal.TheVariants.{TooLong, Short, NotGiop, NoSuchVersion, NoSuchFlags, NoSuchType}
 use Rattle.frame.specs.declared.Refusal.TheVariants.{SizeAbove, SizeBelow, SizeOfType, NoFragments, NotInEights}
@@ -44,26 +41,26 @@ fragment_allowed minor kind more =
 unfoldable pub eights_allowed : Bool → ℕ → Bool
 eights_allowed more size = cond more (eqb ((size + header_size) % 8) 0) true
 
-unfoldable pub sized_of : List ℕ → Frame
+unfoldable pub sized_of : List ℕ → Result Header Refusal
 sized_of v =
-    cond (ltb (length v - header_size) (size_at v)) (Refused SizeAbove)
-    (cond (ltb (size_at v) (length v - header_size)) (Refused SizeBelow)
-    (cond (not (size_allowed (minor_at v) (message_type_at v) (size_at v))) (Refused SizeOfType)
-    (cond (not (fragment_allowed (minor_at v) (message_type_at v) (more_at v))) (Refused NoFragments)
-    (cond (not (eights_allowed (more_at v) (size_at v))) (Refused NotInEights)
-    (Accepted (header_of v))))))
+    cond (ltb (length v - header_size) (size_at v)) (Err SizeAbove)
+    (cond (ltb (size_at v) (length v - header_size)) (Err SizeBelow)
+    (cond (not (size_allowed (minor_at v) (message_type_at v) (size_at v))) (Err SizeOfType)
+    (cond (not (fragment_allowed (minor_at v) (message_type_at v) (more_at v))) (Err NoFragments)
+    (cond (not (eights_allowed (more_at v) (size_at v))) (Err NotInEights)
+    (Ok (header_of v))))))
 
-unfoldable pub message_of : List ℕ → Frame
+unfoldable pub message_of : List ℕ → Result Header Refusal
 message_of v =
-    cond (ltb (length v) header_size) (Refused Short)
-    (cond (not (eqb (magic_at v) giop)) (Refused NotGiop)
-    (cond (not (version_exists (major_at v) (minor_at v))) (Refused NoSuchVersion)
-    (cond (not (flags_allowed (minor_at v) (flags_at v))) (Refused NoSuchFlags)
-    (cond (not (type_exists (minor_at v) (message_type_at v))) (Refused NoSuchType)
+    cond (ltb (length v) header_size) (Err Short)
+    (cond (not (eqb (magic_at v) giop)) (Err NotGiop)
+    (cond (not (version_exists (major_at v) (minor_at v))) (Err NoSuchVersion)
+    (cond (not (flags_allowed (minor_at v) (flags_at v))) (Err NoSuchFlags)
+    (cond (not (type_exists (minor_at v) (message_type_at v))) (Err NoSuchType)
     (sized_of v)))))
 
-unfoldable pub frame_of : List ℕ → Frame
-frame_of v = cond (ltb message_limit (length v)) (Refused TooLong) (message_of v)
+unfoldable pub frame_of : List ℕ → Result Header Refusal
+frame_of v = cond (ltb message_limit (length v)) (Err TooLong) (message_of v)
 
 abbrev pub row_number : Refusal → ℕ
 row_number TooLong = 10
@@ -78,17 +75,17 @@ row_number SizeOfType = 19
 row_number NoFragments = 20
 row_number NotInEights = 21
 
-abbrev pub frame_number : Frame → ℕ
-frame_number (Accepted h) = 0
-frame_number (Refused r) = row_number r
+abbrev pub frame_number : Result Header Refusal → ℕ
+frame_number (Ok h) = 0
+frame_number (Err r) = row_number r
 
-abbrev pub id_numbers : RequestId → List ℕ
-id_numbers (Id x) = 1 ∷ x ∷ []
-id_numbers NoId = 0 ∷ 0 ∷ []
+abbrev pub id_numbers : Option ℕ → List ℕ
+id_numbers (Some x) = 1 ∷ x ∷ []
+id_numbers None = 0 ∷ 0 ∷ []
 
 abbrev pub header_numbers : Header → List ℕ
 header_numbers h = h.minor ∷ order_octet h.order ∷ cond h.more 1 0 ∷ h.kind ∷ h.size ∷ id_numbers h.id
 
-abbrev pub frame_numbers : Frame → List ℕ
-frame_numbers (Accepted h) = 0 ∷ header_numbers h
-frame_numbers (Refused r) = row_number r ∷ replicate 7 0
+abbrev pub frame_numbers : Result Header Refusal → List ℕ
+frame_numbers (Ok h) = 0 ∷ header_numbers h
+frame_numbers (Err r) = row_number r ∷ replicate 7 0

@@ -19,12 +19,10 @@
 --   size_at        and size
 --   id_at          the request id, where the message has one
 --   header_of      what the header says
-use Rattle.std.specs.Prelude.{ℕ, ◌/◌, ◌%◌, List, Bool, cond, eqb, get_or}
+use Rattle.std.specs.Prelude.{ℕ, ◌/◌, ◌%◌, List, Bool, cond, eqb, get_or, Option, Some, None}
 use Rattle.cdr.specs.declared.Order.{Order}
 use Rattle.cdr.specs.declared.Order.TheVariants.{Big, Little}
 use Rattle.cdr.specs.Number.{number_at}
-use Rattle.frame.specs.declared.RequestId.{RequestId}
-use Rattle.frame.specs.declared.RequestId.TheVariants.{Id, NoId}
 use Rattle.frame.specs.declared.Header.{Header}
 use Rattle.frame.specs.Messages.{id_size, has_request_id}
 
@@ -82,8 +80,8 @@ more_at v = more_flag (flags_at v)
 abbrev pub size_at : List ℕ → ℕ
 size_at v = number_at v size_offset 4 (order_at v)
 
-abbrev pub id_at : List ℕ → RequestId
-id_at v = cond (has_request_id (minor_at v) (message_type_at v)) (Id (number_at v header_size id_size (order_at v))) NoId
+abbrev pub id_at : List ℕ → Option ℕ
+id_at v = cond (has_request_id (minor_at v) (message_type_at v)) (Some (number_at v header_size id_size (order_at v))) None
 
 abbrev pub header_of : List ℕ → Header
 header_of v = record { minor = minor_at v; order = order_at v; more = more_at v; kind = message_type_at v; size = size_at v; id = id_at v }

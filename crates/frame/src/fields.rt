@@ -3,7 +3,6 @@ ghost use Rattle.std.specs.Prelude.{◌≡◌, ◌+◌, ◌%◌, ◌≤◌, leng
 ghost use Rattle.cdr.specs.Number.{number_at};
 
 use cdr::{Index, Order, Size};
-use cdr_fields::Field;
 
 // The unsigned long at a place that is a multiple of 4.
 pub(crate) fn word(octets: &[u8], at: usize, order: Order) -> u32
@@ -11,7 +10,7 @@ pub(crate) fn word(octets: &[u8], at: usize, order: Order) -> u32
     ensures { result ≡ number_at octets.now at 4 order }
 {
     match cdr_fields::read_field(octets, Index(at), Size::Four, order) {
-        Field::Value { value, next: _ } => value as u32,
-        Field::NoField => 0,
+        Some((value, _)) => value as u32,
+        None => 0,
     }
 }

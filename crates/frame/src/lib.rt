@@ -11,13 +11,6 @@ use cdr::Order;
 mod fields;
 mod rules;
 
-// The request id of a message, where it has one.
-#[derive(Clone, Copy)]
-pub enum RequestId {
-    Id(u32),
-    NoId,
-}
-
 // What an accepted header says. The major version is 1; `kind` is the message type.
 #[derive(Clone, Copy)]
 pub struct Header {
@@ -26,7 +19,7 @@ pub struct Header {
     pub more: bool,
     pub kind: u8,
     pub size: u32,
-    pub id: RequestId,
+    pub id: Option<u32>,
 }
 
 // A row of the table that refuses a frame.
@@ -66,13 +59,6 @@ impl Refusal {
     }
 }
 
-// What judging a frame gives.
-#[derive(Clone, Copy)]
-pub enum Frame {
-    Accepted(Header),
-    Refused(Refusal),
-}
-
 // The types that joining tells from the others.
 pub const CANCEL_REQUEST: u8 = 2;
 
@@ -101,39 +87,42 @@ pub const MESSAGE_LIMIT: usize = 4096;
 const GIOP: u32 = 0x47494F50;
 
 // Judges the octets of a line: their number, then the message.
-pub fn judge(octets: &[u8]) -> Frame
+#[tactic(auto, unfolding(crate::specs::Frames::frame_of))]
+pub fn judge(octets: &[u8]) -> Result<Header, Refusal>
     ensures { result ≡ frame_of octets.now }
 {
     if MESSAGE_LIMIT < octets.len() {
-        return Frame::Refused(Refusal::TooLong);
+        return Err(Refusal::TooLong);
     }
     judge_message(octets)
 }
 
 // Judges a message of any length: magic, version, flags and type, then what depends on the size.
-pub fn judge_message(octets: &[u8]) -> Frame
+#[tactic(auto, unfolding(crate::specs::Frames::message_of))]
+pub fn judge_message(octets: &[u8]) -> Result<Header, Refusal>
     ensures { result ≡ message_of octets.now }
 {
     if octets.len() < HEADER_SIZE {
-        return Frame::Refused(Refusal::Short);
+        return Err(Refusal::Short);
     }
     if fields::word(octets, MAGIC_OFFSET, Order::Big) != GIOP {
-        return Frame::Refused(Refusal::NotGiop);
+        return Err(Refusal::NotGiop);
     }
     if !rules::version_exists(octets[MAJOR_OFFSET], octets[MINOR_OFFSET]) {
-        return Frame::Refused(Refusal::NoSuchVersion);
+        return Err(Refusal::NoSuchVersion);
     }
     if !version::flags_allowed(octets[MINOR_OFFSET], octets[FLAGS_OFFSET]) {
-        return Frame::Refused(Refusal::NoSuchFlags);
+        return Err(Refusal::NoSuchFlags);
     }
     if !version::type_exists(octets[MINOR_OFFSET], octets[TYPE_OFFSET]) {
-        return Frame::Refused(Refusal::NoSuchType);
+        return Err(Refusal::NoSuchType);
     }
     sized(octets)
 }
 
 // Judges the size and the fragmentation of a message that has its header.
-fn sized(octets: &[u8]) -> Frame
+#[tactic(auto, unfolding(crate::specs::Frames::sized_of))]
+fn sized(octets: &[u8]) -> Result<Header, Refusal>
     requires { header_size ≤ length octets.now }
     ensures { result ≡ sized_of octets.now }
 {
@@ -144,25 +133,25 @@ fn sized(octets: &[u8]) -> Frame
     let size = fields::word(octets, SIZE_OFFSET, order);
     let body = octets.len() - HEADER_SIZE;
     if body < size as usize {
-        return Frame::Refused(Refusal::SizeAbove);
+        return Err(Refusal::SizeAbove);
     }
     if (size as usize) < body {
-        return Frame::Refused(Refusal::SizeBelow);
+        return Err(Refusal::SizeBelow);
     }
     let size_fits = rules::size_allowed(minor, kind, size);
     let fragment_fits = rules::fragment_allowed(minor, kind, more);
     let eights_fit = rules::eights_allowed(more, size);
     if !size_fits {
-        return Frame::Refused(Refusal::SizeOfType);
+        return Err(Refusal::SizeOfType);
     }
     if !fragment_fits {
-        return Frame::Refused(Refusal::NoFragments);
+        return Err(Refusal::NoFragments);
     }
     if !eights_fit {
-        return Frame::Refused(Refusal::NotInEights);
+        return Err(Refusal::NotInEights);
     }
     let id = request_id(octets);
-    Frame::Accepted(Header {
+    Ok(Header {
         minor,
         order,
         more,
@@ -173,14 +162,14 @@ fn sized(octets: &[u8]) -> Frame
 }
 
 // The request id of a message that has the octets of one, if it has any.
-fn request_id(octets: &[u8]) -> RequestId
+fn request_id(octets: &[u8]) -> Option<u32>
     requires { IdThere octets.now }
     ensures { result ≡ id_at octets.now }
 {
     if rules::has_request_id(octets[MINOR_OFFSET], octets[TYPE_OFFSET]) {
-        RequestId::Id(fields::word(octets, HEADER_SIZE, order_flag(octets[FLAGS_OFFSET])))
+        Some(fields::word(octets, HEADER_SIZE, order_flag(octets[FLAGS_OFFSET])))
     } else {
-        RequestId::NoId
+        None
     }
 }
 

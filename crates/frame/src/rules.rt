@@ -9,6 +9,7 @@ use crate::{CANCEL_REQUEST, FRAGMENT, HEADER_SIZE};
 const ID_SIZE: u32 = 4;
 
 // Whether the version is one of GIOP's that are read here.
+#[tactic(auto, unfolding(crate::specs::Messages::version_exists))]
 pub(crate) fn version_exists(major: u8, minor: u8) -> bool
     ensures { result ≡ version_exists major minor }
 {
@@ -16,13 +17,15 @@ pub(crate) fn version_exists(major: u8, minor: u8) -> bool
 }
 
 // Whether the type is Request, Reply, LocateRequest or LocateReply.
+#[tactic(auto, unfolding(crate::specs::Messages::is_request_or_reply))]
 fn is_request_or_reply(kind: u8) -> bool
     ensures { result ≡ is_request_or_reply kind }
 {
-    kind <= 1 || 3 <= kind && kind <= 4
+    matches!(kind, 0..=1 | 3..=4)
 }
 
 // Whether the message has its request id in its first four body octets.
+#[tactic(auto, unfolding(crate::specs::Messages::has_request_id))]
 pub(crate) fn has_request_id(minor: u8, kind: u8) -> bool
     ensures { result ≡ has_request_id minor kind }
 {
@@ -31,56 +34,49 @@ pub(crate) fn has_request_id(minor: u8, kind: u8) -> bool
 }
 
 // Whether a message of this type may have this size.
+#[tactic(auto, unfolding(crate::specs::Frames::size_allowed))]
 pub(crate) fn size_allowed(minor: u8, kind: u8, size: u32) -> bool
     ensures { result ≡ size_allowed minor kind size }
 {
     if is_request_or_reply(kind) {
-        return if version::body_starts_with_id(minor) {
-            ID_SIZE <= size
+        let least = if version::body_starts_with_id(minor) {
+            ID_SIZE
         } else {
-            1 <= size
+            1
         };
+        return least <= size;
     }
-    if kind == FRAGMENT {
-        return ID_SIZE <= size;
+    match kind {
+        FRAGMENT => ID_SIZE <= size,
+        CANCEL_REQUEST => size == ID_SIZE,
+        _ => size == 0,
     }
-    if kind == CANCEL_REQUEST {
-        return size == ID_SIZE;
-    }
-    size == 0
 }
 
 // Whether the type is CloseConnection or MessageError.
+#[tactic(auto, unfolding(crate::specs::Messages::is_bare))]
 fn is_bare(kind: u8) -> bool
     ensures { result ≡ is_bare kind }
 {
-    5 <= kind && kind <= 6
+    matches!(kind, 5..=6)
 }
 
 // Whether a message of this type may be a fragment, or have fragments after it.
+#[tactic(auto, unfolding(crate::specs::Frames::fragment_allowed))]
 pub(crate) fn fragment_allowed(minor: u8, kind: u8, more: bool) -> bool
     ensures { result ≡ fragment_allowed minor kind more }
 {
-    if !version::reads_fragments(minor) {
-        return if kind == FRAGMENT { false } else { !more };
+    if version::reads_fragments(minor) {
+        !(more && (kind == CANCEL_REQUEST || is_bare(kind)))
+    } else {
+        !(kind == FRAGMENT || more)
     }
-    if more {
-        return if kind == CANCEL_REQUEST {
-            false
-        } else {
-            !is_bare(kind)
-        };
-    }
-    true
 }
 
 // Whether a message with fragments after it ends at a multiple of 8.
+#[tactic(auto, unfolding(crate::specs::Frames::eights_allowed))]
 pub(crate) fn eights_allowed(more: bool, size: u32) -> bool
     ensures { result ≡ eights_allowed more size }
 {
-    if more {
-        (size as u64 + HEADER_SIZE as u64) % 8 == 0
-    } else {
-        true
-    }
+    !more || (size as u64 + HEADER_SIZE as u64) % 8 == 0
 }

@@ -11,28 +11,26 @@
 --   header_in         the header of an accepted message
 --   on_frame          what follows an accepted frame, or its refusal
 --   header_answer     the header of a message
-use Rattle.std.specs.Prelude.{ℕ, List, Bool, cond, ◌||◌, ltb, length}
+use Rattle.std.specs.Prelude.{ℕ, List, Bool, cond, ◌||◌, ltb, length, Result, Ok, Err}
 use Rattle.choices.specs.Branch.{choose}
 use Rattle.cdr.specs.declared.Index.{Index}
 use Rattle.cdr.specs.declared.Order.{Order}
 use Rattle.cdr.specs.Align.{index_of}
 use Rattle.cdr.specs.Limit.{octets_limit}
 use Rattle.frame.specs.declared.Header.{Header}
-use Rattle.frame.specs.declared.Frame.{Frame}
-use Rattle.frame.specs.declared.Frame.TheVariants.{Accepted, Refused as no_frame}
 use Rattle.frame.specs.Header.{header_size}
 use Rattle.frame.specs.Frames.{message_of}
 use Rattle.header_layout.specs.declared.HeaderPart.{HeaderPart}
 use Rattle.header_layout.specs.Layout.{is_request, layout_of}
 use Rattle.header_parts.specs.declared.Refusal.TheVariants.{TooLong, Frame as in_frame, NoHeader}
-use Rattle.header_parts.specs.declared.BodyPart.{BodyPart}
-use Rattle.header_parts.specs.declared.BodyPart.TheVariants.{From, Refused as no_body}
 use Rattle.header_parts.specs.Parts.{body_place}
 use Rattle.header.specs.declared.RequestHeader.{RequestHeader}
 use Rattle.header.specs.declared.ReplyHeader.{ReplyHeader}
-use Rattle.header.specs.declared.HeaderAnswer.{HeaderAnswer}
-use Rattle.header.specs.declared.HeaderAnswer.TheVariants.{Called, Answered, Refused}
 use Rattle.header_reading.specs.Reading.{HeaderFields, no_fields, HeaderUpto, through, stopped, parts_read}
+use Rattle.frame.specs.declared.Refusal.{Refusal as FrameRefusal}
+use Rattle.header.specs.declared.MessageHeader.TheVariants.{Answered, Called}
+use Rattle.header.specs.declared.MessageHeader.{MessageHeader}
+use Rattle.header_parts.specs.declared.Refusal.{Refusal}
 
 abbrev pub request_said : Order → ℕ → HeaderFields → ℕ → RequestHeader
 request_said order minor f body = record {
@@ -50,32 +48,32 @@ request_said order minor f body = record {
 abbrev pub reply_said : Order → ℕ → HeaderFields → ℕ → ReplyHeader
 reply_said order minor f body = record { minor = minor; order = order; id = f.id; status = f.status; contexts = f.contexts; body = body }
 
-abbrev pub header_said : Bool → Order → ℕ → HeaderFields → ℕ → HeaderAnswer
-header_said request order minor f body = cond request (Called (request_said order minor f body)) (Answered (reply_said order minor f body))
+abbrev pub header_said : Bool → Order → ℕ → HeaderFields → ℕ → Result MessageHeader Refusal
+header_said request order minor f body = cond request (Ok (Called (request_said order minor f body))) (Ok (Answered (reply_said order minor f body)))
 
-abbrev pub on_body : BodyPart → (ℕ → HeaderAnswer) → HeaderAnswer
-on_body (From body) f = f body
-on_body (no_body r) f = Refused r
+abbrev pub on_body : Result ℕ Refusal → (ℕ → Result MessageHeader Refusal) → Result MessageHeader Refusal
+on_body (Ok body) f = f body
+on_body (Err r) f = Err r
 
-abbrev pub header_ended : List ℕ → Bool → Order → ℕ → HeaderUpto → HeaderAnswer
+abbrev pub header_ended : List ℕ → Bool → Order → ℕ → HeaderUpto → Result MessageHeader Refusal
 header_ended v request order minor (through f i) = on_body (body_place (length v) i.0 minor) (λ body. header_said request order minor f body)
-header_ended v request order minor (stopped r) = Refused r
+header_ended v request order minor (stopped r) = Err r
 
 abbrev pub header_start : Index
 header_start = index_of header_size
 
-unfoldable pub header_by : List ℕ → Bool → Order → ℕ → List HeaderPart → HeaderAnswer
+unfoldable pub header_by : List ℕ → Bool → Order → ℕ → List HeaderPart → Result MessageHeader Refusal
 header_by v request order minor parts = header_ended v request order minor (parts_read v order minor parts no_fields header_start)
 
 abbrev pub has_no_header : Header → Bool
 has_no_header h = h.more || ltb 1 h.kind
 
-unfoldable pub header_in : List ℕ → Header → HeaderAnswer
-header_in v h = cond (has_no_header h) (Refused NoHeader) (header_by v (is_request h.kind) h.order h.minor (layout_of h.kind h.minor))
+unfoldable pub header_in : List ℕ → Header → Result MessageHeader Refusal
+header_in v h = cond (has_no_header h) (Err NoHeader) (header_by v (is_request h.kind) h.order h.minor (layout_of h.kind h.minor))
 
-abbrev pub on_frame : Frame → (Header → HeaderAnswer) → HeaderAnswer
-on_frame (Accepted h) f = f h
-on_frame (no_frame row) f = Refused (in_frame row)
+abbrev pub on_frame : Result Header FrameRefusal → (Header → Result MessageHeader Refusal) → Result MessageHeader Refusal
+on_frame (Ok h) f = f h
+on_frame (Err row) f = Err (in_frame row)
 
-unfoldable pub header_answer : List ℕ → HeaderAnswer
-header_answer v = choose (ltb octets_limit (length v)) (λ _. Refused TooLong) (λ _. on_frame (message_of v) (λ h. header_in v h))
+unfoldable pub header_answer : List ℕ → Result MessageHeader Refusal
+header_answer v = choose (ltb octets_limit (length v)) (λ _. (Err TooLong)) (λ _. on_frame (message_of v) (λ h. header_in v h))

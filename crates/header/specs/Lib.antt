@@ -3,4 +3,3 @@ pub mod Header
 pub mod Numbered
 pub mod Rows
 pub mod Within
-pub mod Inner

@@ -11,7 +11,7 @@
 --   numbered_row      a context or a profile: its id or tag, the index of its octets' first one, their length
 --   numbered_values   the row of an answer about one
 --   numbered_numbers  the number of an answer about one, then its row
-use Rattle.std.specs.Prelude.{ℕ, List, [], ◌∷◌, ◌++◌, replicate}
+use Rattle.std.specs.Prelude.{ℕ, List, [], ◌∷◌, ◌++◌, replicate, Result, Ok, Err}
 use Rattle.cdr.specs.Orders.{order_octet}
 use Rattle.cdr_fields.specs.declared.Extent.{Extent}
 use Rattle.header_parts.specs.declared.TargetAddress.{TargetAddress}
@@ -19,15 +19,14 @@ use Rattle.header_parts.specs.declared.TargetAddress.TheVariants.{Key, Profile, 
 use Rattle.header_parts.specs.Parts.{header_refusal_number}
 use Rattle.header.specs.declared.RequestHeader.{RequestHeader}
 use Rattle.header.specs.declared.ReplyHeader.{ReplyHeader}
-use Rattle.header.specs.declared.HeaderAnswer.{HeaderAnswer}
-use Rattle.header.specs.declared.HeaderAnswer.TheVariants.{Called, Answered, Refused}
-use Rattle.header.specs.declared.NumberedAnswer.{NumberedAnswer}
-use Rattle.header.specs.declared.NumberedAnswer.TheVariants.{Found, Refused as not_found}
+use Rattle.header.specs.declared.MessageHeader.TheVariants.{Answered, Called}
+use Rattle.header.specs.declared.MessageHeader.{MessageHeader}
+use Rattle.header_parts.specs.declared.Refusal.{Refusal}
 
-abbrev pub header_number : HeaderAnswer → ℕ
-header_number (Called q) = 0
-header_number (Answered a) = 0
-header_number (Refused r) = header_refusal_number r
+abbrev pub header_number : Result MessageHeader Refusal → ℕ
+header_number (Ok (Called q)) = 0
+header_number (Ok (Answered a)) = 0
+header_number (Err r) = header_refusal_number r
 
 abbrev pub target_row : TargetAddress → List ℕ
 target_row (Key octets) = 0 ∷ 0 ∷ octets.from.0 ∷ octets.length ∷ 0 ∷ []
@@ -44,24 +43,24 @@ abbrev pub reply_row : ReplyHeader → List ℕ
 reply_row a =
     (1 ∷ a.minor ∷ order_octet a.order ∷ a.id ∷ 0 ∷ a.status ∷ []) ++ (replicate 9 0 ++ (a.contexts.count ∷ a.body ∷ []))
 
-abbrev pub header_values : HeaderAnswer → List ℕ
-header_values (Called q) = request_row q
-header_values (Answered a) = reply_row a
-header_values (Refused r) = replicate 17 0
+abbrev pub header_values : Result MessageHeader Refusal → List ℕ
+header_values (Ok (Called q)) = request_row q
+header_values (Ok (Answered a)) = reply_row a
+header_values (Err r) = replicate 17 0
 
-abbrev pub header_answer_numbers : HeaderAnswer → List ℕ
+abbrev pub header_answer_numbers : Result MessageHeader Refusal → List ℕ
 header_answer_numbers a = header_number a ∷ header_values a
 
-abbrev pub numbered_number : NumberedAnswer → ℕ
-numbered_number (Found tag octets) = 0
-numbered_number (not_found r) = header_refusal_number r
+abbrev pub numbered_number : Result (ℕ × Extent) Refusal → ℕ
+numbered_number (Ok (tag, octets)) = 0
+numbered_number (Err r) = header_refusal_number r
 
 abbrev pub numbered_row : ℕ → Extent → List ℕ
 numbered_row tag octets = tag ∷ octets.from.0 ∷ octets.length ∷ []
 
-abbrev pub numbered_values : NumberedAnswer → List ℕ
-numbered_values (Found tag octets) = numbered_row tag octets
-numbered_values (not_found r) = replicate 3 0
+abbrev pub numbered_values : Result (ℕ × Extent) Refusal → List ℕ
+numbered_values (Ok (tag, octets)) = numbered_row tag octets
+numbered_values (Err r) = replicate 3 0
 
-abbrev pub numbered_numbers : NumberedAnswer → List ℕ
+abbrev pub numbered_numbers : Result (ℕ × Extent) Refusal → List ℕ
 numbered_numbers a = numbered_number a ∷ numbered_values a

@@ -5,14 +5,11 @@
 ghost use Rattle.std.specs.Prelude.{◌≡◌, true, false};
 ghost use Rattle.header_layout.specs.Layout.{early_request, late_request, early_reply, late_reply, is_request, layout_of};
 ghost use Rattle.header.specs.Header.{header_answer, header_in, header_by};
-ghost use Rattle.header.specs.Inner.{principal_then, contexts_then};
 ghost use Rattle.header.specs.Numbered.{numbered_tag, profiles_in, context_of, profile_of_target};
 
 use cdr::{Index, Order};
-use cdr_fields::{CountedAt, Extent, Tagged, TaggedList, TaggedListAt};
-use frame::Frame;
-use header_parts::{BodyPart, Refusal, TargetAddress};
-use header_reading::{AddressPart, CallPart, OutcomePart};
+use cdr_fields::{Extent, TaggedList};
+use header_parts::{Refusal, TargetAddress};
 
 // The most octets of a message.
 const LIMIT: usize = cdr::OCTETS_LIMIT;
@@ -56,280 +53,143 @@ pub struct ReplyHeader {
     pub body: usize,
 }
 
-// What the reading of a header answers.
+// What a message's header says: a request's or a reply's.
 #[derive(Clone, Copy)]
-pub enum HeaderAnswer {
+pub enum MessageHeader {
     Called(RequestHeader),
     Answered(ReplyHeader),
-    Refused(Refusal),
-}
-
-// A context's id or a profile's tag, and its octets.
-#[derive(Clone, Copy)]
-pub enum NumberedAnswer {
-    Found { tag: u64, octets: Extent },
-    Refused(Refusal),
 }
 
 // Reads the header of a message.
-pub fn read(s: &[u8]) -> HeaderAnswer
+pub fn read(s: &[u8]) -> Result<MessageHeader, Refusal>
     ensures { result ≡ header_answer s.now }
 {
     if LIMIT < s.len() {
-        return HeaderAnswer::Refused(Refusal::TooLong);
+        return Err(Refusal::TooLong);
     }
-    match frame::judge_message(s) {
-        Frame::Accepted(h) => header_in(s, h),
-        Frame::Refused(row) => HeaderAnswer::Refused(Refusal::Frame(row)),
-    }
+    let h = frame::judge_message(s)?;
+    header_in(s, h)
 }
 
 // Reads the header of an accepted message, by its type and version.
-fn header_in(s: &[u8], h: frame::Header) -> HeaderAnswer
+fn header_in(s: &[u8], h: frame::Header) -> Result<MessageHeader, Refusal>
     ensures { result ≡ header_in s.now h }
 {
-    if h.more {
-        return HeaderAnswer::Refused(Refusal::NoHeader);
+    if h.more || header_layout::REPLY < h.kind {
+        return Err(Refusal::NoHeader);
     }
-    if header_layout::REPLY < h.kind {
-        return HeaderAnswer::Refused(Refusal::NoHeader);
-    }
-    let order = h.order;
-    by_type(s, h.kind, order, h.minor)
+    by_type(s, h.kind, h.order, h.minor)
 }
 
 // Reads the header of a request or a reply.
-fn by_type(s: &[u8], kind: u8, order: Order, minor: u8) -> HeaderAnswer
+fn by_type(s: &[u8], kind: u8, order: Order, minor: u8) -> Result<MessageHeader, Refusal>
     ensures { result ≡ header_by s.now (is_request kind) order minor (layout_of kind minor) }
 {
-    let late = version::body_starts_with_id(minor);
-    if kind == header_layout::REQUEST {
-        if late {
-            return late_request(s, order, minor);
-        }
-        return early_request(s, order, minor);
+    match (
+        kind == header_layout::REQUEST,
+        version::body_starts_with_id(minor),
+    ) {
+        (true, false) => early_request(s, order, minor),
+        (true, true) => late_request(s, order, minor),
+        (false, false) => early_reply(s, order, minor),
+        (false, true) => late_reply(s, order, minor),
     }
-    if late {
-        return late_reply(s, order, minor);
-    }
-    early_reply(s, order, minor)
 }
 
 // A request before 1.2: contexts, id, response, reserved octets, key, operation, then the principal.
-fn early_request(s: &[u8], order: Order, minor: u8) -> HeaderAnswer
+fn early_request(s: &[u8], order: Order, minor: u8) -> Result<MessageHeader, Refusal>
     ensures { result ≡ header_by s.now true order minor early_request }
 {
-    let TaggedListAt::Listed {
-        list: contexts,
-        next,
-    } = cdr_fields::tagged_list_at(s, FIRST, order)
-    else {
-        return HeaderAnswer::Refused(Refusal::Ends);
-    };
-    match header_reading::call_at(s, next, order, minor) {
-        CallPart::Call {
-            id,
-            response,
-            next: called,
-        } => match header_reading::key_address_at(s, called, order, minor) {
-            AddressPart::Address {
-                target,
-                operation,
-                next: addressed,
-            } => principal_then(
-                s, order, minor, contexts, id, response, target, operation, addressed,
-            ),
-            AddressPart::Refused(refusal) => HeaderAnswer::Refused(refusal),
-        },
-        CallPart::Refused(refusal) => HeaderAnswer::Refused(refusal),
-    }
-}
-
-// The principal of a request before 1.2, and the place of its body.
-fn principal_then(
-    s: &[u8],
-    order: Order,
-    minor: u8,
-    contexts: TaggedList,
-    id: u64,
-    response: u64,
-    target: TargetAddress,
-    operation: Extent,
-    at: Index,
-) -> HeaderAnswer
-    ensures { result ≡ principal_then s.now order minor contexts id response target operation at }
-{
-    match cdr_fields::counted_at(s, at, order) {
-        CountedAt::Span {
-            octets: principal,
-            next,
-        } => match header_parts::body_at(s.len(), next.0, minor) {
-            BodyPart::From(body) => HeaderAnswer::Called(RequestHeader {
-                minor,
-                order,
-                id,
-                response,
-                target,
-                operation,
-                principal,
-                contexts,
-                body,
-            }),
-            BodyPart::Refused(refusal) => HeaderAnswer::Refused(refusal),
-        },
-        CountedAt::NoSpan => HeaderAnswer::Refused(Refusal::Ends),
-    }
+    let (contexts, next) = cdr_fields::tagged_list_at(s, FIRST, order).ok_or(Refusal::Ends)?;
+    let call = header_reading::call_at(s, next, order, minor)?;
+    let address = header_reading::key_address_at(s, call.next, order, minor)?;
+    let (principal, end) = cdr_fields::counted_at(s, address.next, order).ok_or(Refusal::Ends)?;
+    let body = header_parts::body_at(s.len(), end.0, minor)?;
+    Ok(MessageHeader::Called(RequestHeader {
+        minor,
+        order,
+        id: call.id,
+        response: call.response,
+        target: address.target,
+        operation: address.operation,
+        principal,
+        contexts,
+        body,
+    }))
 }
 
 // A request from 1.2 on: id, response, reserved octets, target, operation, then the contexts.
-fn late_request(s: &[u8], order: Order, minor: u8) -> HeaderAnswer
+fn late_request(s: &[u8], order: Order, minor: u8) -> Result<MessageHeader, Refusal>
     ensures { result ≡ header_by s.now true order minor late_request }
 {
-    match header_reading::call_at(s, FIRST, order, minor) {
-        CallPart::Call {
-            id,
-            response,
-            next: called,
-        } => match header_reading::address_at(s, called, order, minor) {
-            AddressPart::Address {
-                target,
-                operation,
-                next: addressed,
-            } => contexts_then(s, order, minor, id, response, target, operation, addressed),
-            AddressPart::Refused(refusal) => HeaderAnswer::Refused(refusal),
-        },
-        CallPart::Refused(refusal) => HeaderAnswer::Refused(refusal),
-    }
-}
-
-// The contexts of a request from 1.2 on, and the place of its body.
-fn contexts_then(
-    s: &[u8],
-    order: Order,
-    minor: u8,
-    id: u64,
-    response: u64,
-    target: TargetAddress,
-    operation: Extent,
-    at: Index,
-) -> HeaderAnswer
-    ensures { result ≡ contexts_then s.now order minor id response target operation at }
-{
-    match cdr_fields::tagged_list_at(s, at, order) {
-        TaggedListAt::Listed {
-            list: contexts,
-            next,
-        } => match header_parts::body_at(s.len(), next.0, minor) {
-            BodyPart::From(body) => HeaderAnswer::Called(RequestHeader {
-                minor,
-                order,
-                id,
-                response,
-                target,
-                operation,
-                principal: NO_OCTETS,
-                contexts,
-                body,
-            }),
-            BodyPart::Refused(refusal) => HeaderAnswer::Refused(refusal),
-        },
-        TaggedListAt::NoList => HeaderAnswer::Refused(Refusal::Ends),
-    }
+    let call = header_reading::call_at(s, FIRST, order, minor)?;
+    let address = header_reading::address_at(s, call.next, order, minor)?;
+    let (contexts, end) = cdr_fields::tagged_list_at(s, address.next, order).ok_or(Refusal::Ends)?;
+    let body = header_parts::body_at(s.len(), end.0, minor)?;
+    Ok(MessageHeader::Called(RequestHeader {
+        minor,
+        order,
+        id: call.id,
+        response: call.response,
+        target: address.target,
+        operation: address.operation,
+        principal: NO_OCTETS,
+        contexts,
+        body,
+    }))
 }
 
 // A reply before 1.2: contexts, id, status.
-fn early_reply(s: &[u8], order: Order, minor: u8) -> HeaderAnswer
+fn early_reply(s: &[u8], order: Order, minor: u8) -> Result<MessageHeader, Refusal>
     ensures { result ≡ header_by s.now false order minor early_reply }
 {
-    let TaggedListAt::Listed {
-        list: contexts,
-        next,
-    } = cdr_fields::tagged_list_at(s, FIRST, order)
-    else {
-        return HeaderAnswer::Refused(Refusal::Ends);
-    };
-    match header_reading::outcome_at(s, next, order, minor) {
-        OutcomePart::Outcome {
-            id,
-            status,
-            next: end,
-        } => match header_parts::body_at(s.len(), end.0, minor) {
-            BodyPart::From(body) => HeaderAnswer::Answered(ReplyHeader {
-                minor,
-                order,
-                id,
-                status,
-                contexts,
-                body,
-            }),
-            BodyPart::Refused(refusal) => HeaderAnswer::Refused(refusal),
-        },
-        OutcomePart::Refused(refusal) => HeaderAnswer::Refused(refusal),
-    }
+    let (contexts, next) = cdr_fields::tagged_list_at(s, FIRST, order).ok_or(Refusal::Ends)?;
+    let outcome = header_reading::outcome_at(s, next, order, minor)?;
+    let body = header_parts::body_at(s.len(), outcome.next.0, minor)?;
+    Ok(MessageHeader::Answered(ReplyHeader {
+        minor,
+        order,
+        id: outcome.id,
+        status: outcome.status,
+        contexts,
+        body,
+    }))
 }
 
 // A reply from 1.2 on: id, status, contexts.
-fn late_reply(s: &[u8], order: Order, minor: u8) -> HeaderAnswer
+fn late_reply(s: &[u8], order: Order, minor: u8) -> Result<MessageHeader, Refusal>
     ensures { result ≡ header_by s.now false order minor late_reply }
 {
-    match header_reading::outcome_at(s, FIRST, order, minor) {
-        OutcomePart::Outcome { id, status, next } => {
-            match cdr_fields::tagged_list_at(s, next, order) {
-                TaggedListAt::Listed {
-                    list: contexts,
-                    next: end,
-                } => match header_parts::body_at(s.len(), end.0, minor) {
-                    BodyPart::From(body) => HeaderAnswer::Answered(ReplyHeader {
-                        minor,
-                        order,
-                        id,
-                        status,
-                        contexts,
-                        body,
-                    }),
-                    BodyPart::Refused(refusal) => HeaderAnswer::Refused(refusal),
-                },
-                TaggedListAt::NoList => HeaderAnswer::Refused(Refusal::Ends),
-            }
-        }
-        OutcomePart::Refused(refusal) => HeaderAnswer::Refused(refusal),
-    }
+    let outcome = header_reading::outcome_at(s, FIRST, order, minor)?;
+    let (contexts, end) = cdr_fields::tagged_list_at(s, outcome.next, order).ok_or(Refusal::Ends)?;
+    let body = header_parts::body_at(s.len(), end.0, minor)?;
+    Ok(MessageHeader::Answered(ReplyHeader {
+        minor,
+        order,
+        id: outcome.id,
+        status: outcome.status,
+        contexts,
+        body,
+    }))
 }
 
 // The context of a message's header that has a number, the first one 0.
-pub fn context(s: &[u8], number: u64) -> NumberedAnswer
+pub fn context(s: &[u8], number: u64) -> Result<(u64, Extent), Refusal>
     ensures { result ≡ context_of s.now number }
 {
-    match read(s) {
-        HeaderAnswer::Called(request) => {
-            let order = request.order;
-            let contexts = request.contexts;
-            numbered(s, contexts, order, number)
-        }
-        HeaderAnswer::Answered(reply) => {
-            let order = reply.order;
-            let contexts = reply.contexts;
-            numbered(s, contexts, order, number)
-        }
-        HeaderAnswer::Refused(refusal) => NumberedAnswer::Refused(refusal),
+    match read(s)? {
+        MessageHeader::Called(q) => numbered(s, q.contexts, q.order, number),
+        MessageHeader::Answered(a) => numbered(s, a.contexts, a.order, number),
     }
 }
 
 // The profile that has a number, the first one 0, of the reference that a request is addressed to.
-pub fn target_profile(s: &[u8], number: u64) -> NumberedAnswer
+pub fn target_profile(s: &[u8], number: u64) -> Result<(u64, Extent), Refusal>
     ensures { result ≡ profile_of_target s.now number }
 {
-    match read(s) {
-        HeaderAnswer::Called(request) => {
-            let order = request.order;
-            let target = request.target;
-            numbered(s, profiles_in(target), order, number)
-        }
-        HeaderAnswer::Answered(reply) => {
-            let order = reply.order;
-            numbered(s, NO_LIST, order, number)
-        }
-        HeaderAnswer::Refused(refusal) => NumberedAnswer::Refused(refusal),
+    match read(s)? {
+        MessageHeader::Called(q) => numbered(s, profiles_in(q.target), q.order, number),
+        MessageHeader::Answered(a) => numbered(s, NO_LIST, a.order, number),
     }
 }
 
@@ -338,30 +198,20 @@ fn profiles_in(target: TargetAddress) -> TaggedList
     ensures { result ≡ profiles_in target }
 {
     match target {
-        TargetAddress::Key(_) => NO_LIST,
-        TargetAddress::Profile { tag: _, octets: _ } => NO_LIST,
-        TargetAddress::Reference {
-            index: _,
-            id: _,
-            profiles,
-        } => profiles,
+        TargetAddress::Key(_) | TargetAddress::Profile { .. } => NO_LIST,
+        TargetAddress::Reference { profiles, .. } => profiles,
     }
 }
 
 // The tagged octets of a list that have a number.
-fn numbered(s: &[u8], list: TaggedList, order: Order, number: u64) -> NumberedAnswer
+fn numbered(s: &[u8], list: TaggedList, order: Order, number: u64) -> Result<(u64, Extent), Refusal>
     ensures { result ≡ numbered_tag s.now list order number }
 {
     if list.count <= number {
-        return NumberedAnswer::Refused(Refusal::NoSuchPart);
+        return Err(Refusal::NoSuchPart);
     }
-    let first = list.first;
-    match cdr_fields::tagged_behind(s, first, number, order) {
-        Tagged::Tag {
-            tag,
-            octets,
-            next: _,
-        } => NumberedAnswer::Found { tag, octets },
-        Tagged::NoTag => NumberedAnswer::Refused(Refusal::Ends),
-    }
+    let (tag, octets, _) = cdr_fields::tagged_behind(s, list.first, number, order).ok_or(
+        Refusal::Ends,
+    )?;
+    Ok((tag, octets))
 }

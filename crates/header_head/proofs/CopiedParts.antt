@@ -1,23 +1,17 @@
 -- What was copied part by part: targets, the parts of a header, and all of them.
+use Rattle.std.specs.Prelude.{Option, Some, None, Result, Ok, Err}
 use mathlib.Core.Path.{◌≡◌, refl, sym, ap, subst, ◌∙◌}
 use mathlib.Core.List.{List, [], ◌∷◌, ◌++◌}
 use Prim.Native.Nat.{ℕ, ◌+◌, ◌≤◌}
 use native.Mathlib.Omega.{arith}
 use lib.ListN.{drop, drop_of_length-le}
 use Rattle.choices.proofs.Choices.{clash}
+use Rattle.choices.proofs.Tuples.{some-pair}
 use Rattle.cdr.specs.declared.Index.{Index}
 use Rattle.cdr.specs.declared.Order.{Order}
 use Rattle.cdr.specs.declared.Size.TheVariants.{One, Two, Four}
 use Rattle.cdr.specs.Align.{index_of}
-use Rattle.cdr_text.specs.declared.Run.{Run}
-use Rattle.cdr_text.specs.declared.Run.TheVariants.{To as upto, Past}
 use Rattle.cdr_text.specs.Text.{run_of}
-use Rattle.cdr_fields.specs.declared.Field.{Field}
-use Rattle.cdr_fields.specs.declared.Field.TheVariants.{Value, NoField}
-use Rattle.cdr_fields.specs.declared.CountedAt.{CountedAt}
-use Rattle.cdr_fields.specs.declared.CountedAt.TheVariants.{Span, NoSpan}
-use Rattle.cdr_fields.specs.declared.TaggedListAt.{TaggedListAt}
-use Rattle.cdr_fields.specs.declared.TaggedListAt.TheVariants.{Listed, NoList}
 use Rattle.cdr_fields.specs.Encapsulation.{field_of}
 use Rattle.cdr_fields.specs.Extents.{extent_octets, counted_at}
 use Rattle.cdr_fields.specs.Tagged.{tagged_list_at}
@@ -26,16 +20,9 @@ use Rattle.cdr_pieces.specs.PartPieces.{number_piece, counted_pieces, tagged_lis
 use Rattle.version.specs.Versions.{reserved_octets}
 use Rattle.header_layout.specs.declared.HeaderPart.{HeaderPart}
 use Rattle.header_layout.specs.declared.HeaderPart.TheVariants.{Contexts, Id, Response, Reserved, Key, Target as Addressed, Operation, Principal, Status}
-use Rattle.header_layout.specs.declared.PartNumber.TheVariants.{Is, NoMore}
 use Rattle.header_layout.specs.Layout.{layout_of, part_number}
 use Rattle.header_layout.proofs.PartsNumbered.{next-is, none_is, at-most-seven}
-use Rattle.header_parts.specs.declared.NumberField.{NumberField}
-use Rattle.header_parts.specs.declared.NumberField.TheVariants.{Number, Refused as no_number}
-use Rattle.header_parts.specs.declared.TextPart.{TextPart}
-use Rattle.header_parts.specs.declared.TextPart.TheVariants.{Text, Refused as no_text}
 use Rattle.header_parts.specs.declared.TargetAddress.{TargetAddress}
-use Rattle.header_parts.specs.declared.TargetPart.{TargetPart}
-use Rattle.header_parts.specs.declared.TargetPart.TheVariants.{To, Refused as no_target}
 use Rattle.header_parts.specs.Parts.{response_at, status_at, header_text_at}
 use Rattle.header_parts.specs.Targets.{key_target, profile_target, target_of_kind, target_at}
 use Rattle.header_parts.proofs.PartFacts.{text-counted, key-facts, profile-facts, reference-facts, target-facts, by-target, response-field, status-field}
@@ -47,9 +34,12 @@ use Rattle.header_head.specs.HeadPieces.{with_zero, target_kind, target_pieces, 
 use Rattle.header_head.specs.Inner.{Copied, CopiesReserved, CopiesNumber, CopiesCounted, CopiesTagged, CopiesList, CopiesReference, CopiesKind}
 use Rattle.header_head.specs.Inner.{CopiesTarget, CopiesPart, CopiesParts}
 use Rattle.header_head.proofs.CopiedPieces.{copied_none, copied-append, copied_behind}
+use Rattle.cdr_fields.specs.declared.Extent.{Extent}
+use Rattle.cdr_fields.specs.declared.TaggedList.{TaggedList}
+use Rattle.header_parts.specs.declared.Refusal.{Refusal}
 
 -- targets
-pub kind-is : (v : List ℕ) (order : Order) (i : Index) (kind : ℕ) (t : TargetAddress) (next : Index) → target_of_kind v kind i order ≡ To t next → kind ≡ target_kind t
+pub kind-is : (v : List ℕ) (order : Order) (i : Index) (kind : ℕ) (t : TargetAddress) (next : Index) → target_of_kind v kind i order ≡ Ok (t, next) → kind ≡ target_kind t
 kind-is v order i kind t next e =
     by-target v i order (λ (k : ℕ). k ≡ target_kind t) kind t next e (λ q. ap target_kind (key-facts v i order t next q).said)
     (λ q. ap target_kind (profile-facts v i order t next q).said)
@@ -57,14 +47,14 @@ kind-is v order i kind t next e =
 
 module _ (v : List ℕ) (order : Order) (at : ℕ) (out : List ℕ) where
   pub key-copies : (r : ℕ) (last : List ℕ) → CopiesCounted v order at out r last → (t : TargetAddress) (next : Index)
-      → key_target v (index_of at) order ≡ To t next
+      → key_target v (index_of at) order ≡ Ok (t, next)
       → Copied order (target_pieces v order t) at next.0 out r last
   key-copies r last counted t next e =
       let k = key-facts v (index_of at) order t next e in
       subst (λ (u : TargetAddress). Copied order (target_pieces v order u) at next.0 out r last) k.said (counted k.octets next k.counted)
 
   pub profile-copies : (r : ℕ) (last : List ℕ) → CopiesTagged v order at out r last → (t : TargetAddress) (next : Index)
-      → profile_target v (index_of at) order ≡ To t next
+      → profile_target v (index_of at) order ≡ Ok (t, next)
       → Copied order (target_pieces v order t) at next.0 out r last
   profile-copies r last tagged t next e =
       let k = profile-facts v (index_of at) order t next e in
@@ -99,23 +89,23 @@ module _ (v : List ℕ) (order : Order) (at : ℕ) (out : List ℕ) where
         by-target v (index_of at) order (λ (k : ℕ). kind ≡ k → Copied order (target_pieces v order t) at next.0 out r last) kind t next e
         (λ q z. absurd (m z)) (λ q z. absurd (n z)) (λ q z. reference t next q) refl
 
-  pub target-copies : (kind : ℕ) (j : Index) → field_of v (index_of at) Two order ≡ Value kind j → (behind : ℕ) (mid : List ℕ)
+  pub target-copies : (kind : ℕ) (j : Index) → field_of v (index_of at) Two order ≡ Some (kind, j) → (behind : ℕ) (mid : List ℕ)
       → CopiesNumber v order at out behind mid Two → (r : ℕ) (last : List ℕ) → CopiesKind v order behind mid r last kind → CopiesTarget v order at out r last
   target-copies kind j f behind mid number r last copies t next e =
       let k = target-facts v (index_of at) order t next e in
-      let q : Value kind j ≡ Value k.kind k.behind = sym f ∙ k.field in
-      let a : kind ≡ k.kind = cc in
+      let parts = some-pair (sym f ∙ k.field) in
+      let a = parts.0 in
       let n = number k.kind k.behind k.field in
-      let there : target_of_kind v kind (index_of behind) order ≡ To t next =
+      let there : target_of_kind v kind (index_of behind) order ≡ Ok (t, next) =
       ap (λ (x : ℕ). target_of_kind v x (index_of behind) order) a ∙ ap (λ (i : ℕ). target_of_kind v k.kind (index_of i) order) n.ends ∙ k.target in
       let named : k.kind ≡ target_kind t = kind-is v order k.behind k.kind t next k.target in
       let m = subst (λ (x : ℕ). Copied order (number_piece 2 x ∷ []) at k.behind.0 out behind mid) named n in
       copied_behind order (number_piece 2 (target_kind t) ∷ []) (target_pieces v order t) at k.behind.0 next.0 out behind mid r last m (copies t next there)
 
-  pub target_none : field_of v (index_of at) Two order ≡ NoField → (r : ℕ) (last : List ℕ) → CopiesTarget v order at out r last
+  pub target_none : field_of v (index_of at) Two order ≡ None → (r : ℕ) (last : List ℕ) → CopiesTarget v order at out r last
   target_none f r last t next e =
       let k = target-facts v (index_of at) order t next e in
-      let q : NoField ≡ Value k.kind k.behind = sym f ∙ k.field in
+      let q : ◌≡◌ {A = Option (ℕ × Index)} None (Some (k.kind, k.behind)) = sym f ∙ k.field in
       clash cc
 
 -- parts
@@ -134,85 +124,85 @@ module _ (v : List ℕ) (order : Order) (minor at : ℕ) (out : List ℕ) (r : �
   unfolding part_read part_pieces
   contexts-part copies f g next e = by (tagged_list_at v (index_of at) order) refl e
     where
-      by : (l : TaggedListAt) → tagged_list_at v (index_of at) order ≡ l → after_list l (contexts_set f) ≡ through g next
+      by : (l : Option (TaggedList × Index)) → tagged_list_at v (index_of at) order ≡ l → after_list l (contexts_set f) ≡ through g next
           → Has (λ x. tagged_list_pieces v order x.contexts) g next
-      by (Listed list j) q h = told (Has (λ x. tagged_list_pieces v order x.contexts)) (contexts_set f list) g j next h (copies list j q)
-      by NoList q h = clash cc
+      by (Some (list, j)) q h = told (Has (λ x. tagged_list_pieces v order x.contexts)) (contexts_set f list) g j next h (copies list j q)
+      by None q h = clash cc
 
   pub id-part : CopiesNumber v order at out r last Four → CopiesPart v order at out r last minor Id
   unfolding part_read part_pieces
   id-part copies f g next e = by (field_of v (index_of at) Four order) refl e
     where
-      by : (l : Field) → field_of v (index_of at) Four order ≡ l → after_field l (id_set f) ≡ through g next → Has (λ x. number_piece 4 x.id ∷ []) g next
-      by (Value x j) q h = told (Has (λ y. number_piece 4 y.id ∷ [])) (id_set f x) g j next h (copies x j q)
-      by NoField q h = clash cc
+      by : (l : Option (ℕ × Index)) → field_of v (index_of at) Four order ≡ l → after_field l (id_set f) ≡ through g next → Has (λ x. number_piece 4 x.id ∷ []) g next
+      by (Some (x, j)) q h = told (Has (λ y. number_piece 4 y.id ∷ [])) (id_set f x) g j next h (copies x j q)
+      by None q h = clash cc
 
   pub response-part : CopiesNumber v order at out r last One → CopiesPart v order at out r last minor Response
   unfolding part_read part_pieces
   response-part copies f g next e = by (response_at v (index_of at) order minor) refl e
     where
-      by : (l : NumberField) → response_at v (index_of at) order minor ≡ l → after_number l (response_set f) ≡ through g next
+      by : (l : Result (ℕ × Index) Refusal) → response_at v (index_of at) order minor ≡ l → after_number l (response_set f) ≡ through g next
           → Has (λ x. number_piece 1 x.response ∷ []) g next
-      by (Number x j) q h =
+      by (Ok (x, j)) q h =
           told (Has (λ y. number_piece 1 y.response ∷ [])) (response_set f x) g j next h (copies x j (response-field v (index_of at) order minor x j q))
-      by (no_number n) q h = clash cc
+      by (Err n) q h = clash cc
 
   pub status-part : CopiesNumber v order at out r last Four → CopiesPart v order at out r last minor Status
   unfolding part_read part_pieces
   status-part copies f g next e = by (status_at v (index_of at) order minor) refl e
     where
-      by : (l : NumberField) → status_at v (index_of at) order minor ≡ l → after_number l (status_set f) ≡ through g next
+      by : (l : Result (ℕ × Index) Refusal) → status_at v (index_of at) order minor ≡ l → after_number l (status_set f) ≡ through g next
           → Has (λ x. number_piece 4 x.status ∷ []) g next
-      by (Number x j) q h =
+      by (Ok (x, j)) q h =
           told (Has (λ y. number_piece 4 y.status ∷ [])) (status_set f x) g j next h (copies x j (status-field v (index_of at) order minor x j q))
-      by (no_number n) q h = clash cc
+      by (Err n) q h = clash cc
 
   pub reserved-part : CopiesReserved v order at out r last minor → CopiesPart v order at out r last minor Reserved
   unfolding part_read part_pieces
   reserved-part copies f g next e = by (run_of v at (reserved_octets minor)) refl e
     where
-      by : (l : Run) → run_of v at (reserved_octets minor) ≡ l → after_reserved l f ≡ through g next → Has (λ x. part_pieces v order minor Reserved x) g next
-      by (upto k) q h = told (Has (λ x. part_pieces v order minor Reserved x)) f g (index_of k) next h (copies k q)
-      by Past q h = clash cc
+      by : (l : Option ℕ) → run_of v at (reserved_octets minor) ≡ l → after_reserved l f ≡ through g next → Has (λ x. part_pieces v order minor Reserved x) g next
+      by (Some k) q h = told (Has (λ x. part_pieces v order minor Reserved x)) f g (index_of k) next h (copies k q)
+      by None q h = clash cc
 
   pub key-part : CopiesCounted v order at out r last → CopiesPart v order at out r last minor Key
   unfolding part_read part_pieces
   key-part copies f g next e = by (key_target v (index_of at) order) refl e
     where
-      by : (l : TargetPart) → key_target v (index_of at) order ≡ l → after_target l (target_set f) ≡ through g next
+      by : (l : Result (TargetAddress × Index) Refusal) → key_target v (index_of at) order ≡ l → after_target l (target_set f) ≡ through g next
           → Has (λ x. target_pieces v order x.target) g next
-      by (To t j) q h = told (Has (λ x. target_pieces v order x.target)) (target_set f t) g j next h (key-copies v order at out r last copies t j q)
-      by (no_target n) q h = clash cc
+      by (Ok (t, j)) q h = told (Has (λ x. target_pieces v order x.target)) (target_set f t) g j next h (key-copies v order at out r last copies t j q)
+      by (Err n) q h = clash cc
 
   pub target-part : CopiesTarget v order at out r last → CopiesPart v order at out r last minor Addressed
   unfolding part_read part_pieces
   target-part copies f g next e = by (target_at v (index_of at) order) refl e
     where
-      by : (l : TargetPart) → target_at v (index_of at) order ≡ l → after_target l (target_set f) ≡ through g next
+      by : (l : Result (TargetAddress × Index) Refusal) → target_at v (index_of at) order ≡ l → after_target l (target_set f) ≡ through g next
           → Has (λ x. number_piece 2 (target_kind x.target) ∷ target_pieces v order x.target) g next
-      by (To t j) q h =
+      by (Ok (t, j)) q h =
           told (Has (λ x. number_piece 2 (target_kind x.target) ∷ target_pieces v order x.target)) (target_set f t) g j next h (copies t j q)
-      by (no_target n) q h = clash cc
+      by (Err n) q h = clash cc
 
   pub operation-part : CopiesCounted v order at out r last → CopiesPart v order at out r last minor Operation
   unfolding part_read part_pieces
   operation-part copies f g next e = by (header_text_at v (index_of at) order) refl e
     where
-      by : (l : TextPart) → header_text_at v (index_of at) order ≡ l → after_text l (operation_set f) ≡ through g next
+      by : (l : Result (Extent × Index) Refusal) → header_text_at v (index_of at) order ≡ l → after_text l (operation_set f) ≡ through g next
           → Has (λ x. counted_pieces (extent_octets v (with_zero x.operation))) g next
-      by (Text part j) q h =
+      by (Ok (part, j)) q h =
           told (Has (λ x. counted_pieces (extent_octets v (with_zero x.operation)))) (operation_set f part) g j next h
           (copies (with_zero part) j (text-counted v (index_of at) order part j q))
-      by (no_text n) q h = clash cc
+      by (Err n) q h = clash cc
 
   pub principal-part : CopiesCounted v order at out r last → CopiesPart v order at out r last minor Principal
   unfolding part_read part_pieces
   principal-part copies f g next e = by (counted_at v (index_of at) order) refl e
     where
-      by : (l : CountedAt) → counted_at v (index_of at) order ≡ l → after_counted l (principal_set f) ≡ through g next
+      by : (l : Option (Extent × Index)) → counted_at v (index_of at) order ≡ l → after_counted l (principal_set f) ≡ through g next
           → Has (λ x. counted_pieces (extent_octets v x.principal)) g next
-      by (Span part j) q h = told (Has (λ x. counted_pieces (extent_octets v x.principal))) (principal_set f part) g j next h (copies part j q)
-      by NoSpan q h = clash cc
+      by (Some (part, j)) q h = told (Has (λ x. counted_pieces (extent_octets v x.principal))) (principal_set f part) g j next h (copies part j q)
+      by None q h = clash cc
 
 -- all parts, one after the other
 module _ (v : List ℕ) (order : Order) (kind minor from : ℕ) (out : List ℕ) where
@@ -244,7 +234,7 @@ module _ (v : List ℕ) (order : Order) (kind minor from : ℕ) (out : List ℕ)
         next.0 now s last) (sym e)
         (copied-append order (part_pieces v order minor x h) (head_pieces v order minor xs h j) at j.0 next.0 now r mid s last a b)
 
-    pub leave-fewer : (x : HeaderPart) → part_number layout k ≡ Is x → PartsLeave k at now → (r : ℕ) (mid : List ℕ) → CopiesPart v order at now r mid minor x
+    pub leave-fewer : (x : HeaderPart) → part_number layout k ≡ Some x → PartsLeave k at now → (r : ℕ) (mid : List ℕ) → CopiesPart v order at now r mid minor x
         → PartsLeave (k + 1) r mid
     leave-fewer x p before r mid copies f g next e =
         let l = before f g next e in
@@ -273,7 +263,7 @@ module _ (v : List ℕ) (order : Order) (kind minor from : ℕ) (out : List ℕ)
         l.leads at now
         (subst (λ (ys : List HeaderPart). Copied order (head_pieces v order minor ys l.fields (index_of at)) at next.0 now at now) (sym d) c)
 
-    pub leave_none : part_number layout k ≡ NoMore → PartsLeave k at now → CopiesParts v order from out at now kind minor
+    pub leave_none : part_number layout k ≡ None → PartsLeave k at now → CopiesParts v order from out at now kind minor
     leave_none p before = leave-empty (none_is layout k p) before
 
     pub leave-past : 7 ≤ k → PartsLeave k at now → CopiesParts v order from out at now kind minor

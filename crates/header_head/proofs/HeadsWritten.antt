@@ -1,4 +1,5 @@
 -- The frame, the parts and the gap before the body, one after the other: all before the body.
+use Rattle.std.specs.Prelude.{Option, Result, Ok, Err}
 use mathlib.Core.Path.{◌≡◌, refl, sym, ap, subst, ◌∙◌}
 use mathlib.Core.List.{List, ◌++◌}
 use Prim.Native.Nat.{ℕ, ◌+◌, ◌-◌, ◌≤◌, ◌<◌}
@@ -13,7 +14,6 @@ use Rattle.cdr.specs.declared.Index.{Index}
 use Rattle.cdr.specs.declared.Order.{Order}
 use Rattle.cdr_fields.specs.Encapsulation.{start}
 use Rattle.cdr_fields.specs.Extents.{extent, extent_octets}
-use Rattle.cdr_write.specs.declared.Written.{Written}
 use Rattle.cdr_write.specs.Pieces.{Piece, target}
 use Rattle.cdr_write.specs.Write.{Stored}
 use Rattle.cdr_pieces.specs.PartPieces.{octets_from, Holds}
@@ -24,17 +24,15 @@ use Rattle.header_parts.specs.declared.Refusal.{Refusal}
 use Rattle.header_parts.specs.declared.Refusal.TheVariants.{NoRoom}
 use Rattle.header.specs.declared.RequestHeader.{RequestHeader}
 use Rattle.header.specs.declared.ReplyHeader.{ReplyHeader}
-use Rattle.header.specs.declared.HeaderAnswer.{HeaderAnswer}
-use Rattle.header.specs.declared.HeaderAnswer.TheVariants.{Called, Answered, Refused}
 use Rattle.header_reading.specs.Reading.{HeaderFields, no_fields, through, parts_read}
 use Rattle.header.specs.Header.{header_start, header_answer}
 use Rattle.header.specs.Within.{HeaderParts}
 use Rattle.header.proofs.HeadersWithin.{calls-within, answers-within}
-use Rattle.header_head.specs.declared.HeadAnswer.{HeadAnswer}
-use Rattle.header_head.specs.declared.HeadAnswer.TheVariants.{Written as written, Refused as not_written}
 use Rattle.header_head.specs.HeadPieces.{head_pieces}
 use Rattle.header_head.specs.Head.{frame_octets, header_octets, padded, head_octets, head_written, head_in, head_answer, head_held, head_after}
 use Rattle.header_head.specs.Inner.{CopiesParts, WritesHead}
+use Rattle.header.specs.declared.MessageHeader.TheVariants.{Answered, Called}
+use Rattle.header.specs.declared.MessageHeader.{MessageHeader}
 
 -- the frame's octets are an extent
 pub frame-there : (v : List ℕ) → extent_octets v (extent start header_size) ≡ frame_octets v
@@ -42,14 +40,14 @@ unfolding extent_octets
 frame-there v = refl
 
 module _ (v : List ℕ) (kind : ℕ) (order : Order) (minor body : ℕ) (out : List ℕ) where
-  pub head-short : length out < body → WritesHead v kind order minor body out (not_written NoRoom) out
+  pub head-short : length out < body → WritesHead v kind order minor body out (Err NoRoom) out
   head-short h = record { short = λ l. (refl, refl); written = λ room. absurd (omega (arith, h, room)) }
 
   -- what the three writers leave
-  pub head-written : body ≤ length out → (these : List ℕ) → these ≡ frame_octets v → (w : Written) (one : List ℕ) → Stored out 0 these w one
+  pub head-written : body ≤ length out → (these : List ℕ) → these ≡ frame_octets v → (w : Option ℕ) (one : List ℕ) → Stored out 0 these w one
       → (end : ℕ) (two : List ℕ)
       → CopiesParts v order header_size one end two kind minor → (last : List ℕ) → Holds two end (replicate (body - end) 0) last
-      → WritesHead v kind order minor body out (written body) last
+      → WritesHead v kind order minor body out (Ok body) last
   unfolding header_octets
   head-written room these t w one s end two copies last zeros = record {
     short = λ l. absurd (omega (arith, l, room));
@@ -83,26 +81,26 @@ module _ (v : List ℕ) (kind : ℕ) (order : Order) (minor body : ℕ) (out : L
 
 -- the answers
 module _ (v : List ℕ) where
-  pub answer-is : (n : ℕ) (a : HeaderAnswer) → header_answer v ≡ a → head_answer v n ≡ head_in n a
+  pub answer-is : (n : ℕ) (a : Result MessageHeader Refusal) → header_answer v ≡ a → head_answer v n ≡ head_in n a
   unfolding head_answer
   answer-is n a e = ap (head_in n) e
 
-  pub after_is : (out : List ℕ) (a : HeaderAnswer) → header_answer v ≡ a → (r : HeadAnswer) → head_answer v (length out) ≡ r
+  pub after_is : (out : List ℕ) (a : Result MessageHeader Refusal) → header_answer v ≡ a → (r : Result ℕ Refusal) → head_answer v (length out) ≡ r
       → head_after v out ≡ head_held r (head_octets v a) out
   unfolding head_after
-  after_is out a e r q = ap (λ (x : HeadAnswer). head_held x (head_octets v (header_answer v)) out) q
-      ∙ ap (λ (x : HeaderAnswer). head_held r (head_octets v x) out) e
+  after_is out a e r q = ap (λ (x : Result ℕ Refusal). head_held x (head_octets v (header_answer v)) out) q
+      ∙ ap (λ (x : Result MessageHeader Refusal). head_held r (head_octets v x) out) e
 
-  pub refused-head : (out : List ℕ) (n : Refusal) → header_answer v ≡ Refused n → (not_written n ≡ head_answer v (length out)) × (out ≡ head_after v out)
+  pub refused-head : (out : List ℕ) (n : Refusal) → header_answer v ≡ Err n → (Err n ≡ head_answer v (length out)) × (out ≡ head_after v out)
   refused-head out n e =
-      let q = answer-is (length out) (Refused n) e in
-      (sym q, sym (after_is out (Refused n) e (not_written n) q))
+      let q = answer-is (length out) (Err n) e in
+      (sym q, sym (after_is out (Err n) e (Err n) q))
 
-module _ (v out : List ℕ) (r : HeadAnswer) (last : List ℕ) where
+module _ (v out : List ℕ) (r : Result ℕ Refusal) (last : List ℕ) where
   abbrev Heads : Type 0
   Heads = (r ≡ head_answer v (length out)) × (last ≡ head_after v out)
 
-  by-room : (kind : ℕ) (order : Order) (minor body : ℕ) (a : HeaderAnswer) → header_answer v ≡ a → head_in (length out) a ≡ head_written (length out) body
+  by-room : (kind : ℕ) (order : Order) (minor body : ℕ) (a : Result MessageHeader Refusal) → header_answer v ≡ a → head_in (length out) a ≡ head_written (length out) body
       → head_octets v a ≡ padded (header_octets v kind order minor) body → HeaderParts v kind order minor body → WritesHead v kind order minor body out r last
       → Heads
   unfolding head_written choose
@@ -110,15 +108,15 @@ module _ (v out : List ℕ) (r : HeadAnswer) (last : List ℕ) where
       by-test (ltb (length out) body)
       (λ t.
       let s = w.short (ltb-true (length out) body t) in
-      let q : head_answer v (length out) ≡ not_written NoRoom = answer-is v (length out) a e ∙ i ∙ rw t in
-      (s.0 ∙ sym q, s.1 ∙ sym (after_is v out a e (not_written NoRoom) q)))
+      let q : head_answer v (length out) ≡ Err NoRoom = answer-is v (length out) a e ∙ i ∙ rw t in
+      (s.0 ∙ sym q, s.1 ∙ sym (after_is v out a e (Err NoRoom) q)))
       (λ t.
       let s = w.written (ltb-false (length out) body t) p.begins p.fields p.end p.reads p.behind in
-      let q : head_answer v (length out) ≡ written body = answer-is v (length out) a e ∙ i ∙ rw t in
-      (s.0 ∙ sym q, s.1 ∙ ap (sets out 0) (sym o) ∙ sym (after_is v out a e (written body) q)))
+      let q : head_answer v (length out) ≡ Ok body = answer-is v (length out) a e ∙ i ∙ rw t in
+      (s.0 ∙ sym q, s.1 ∙ ap (sets out 0) (sym o) ∙ sym (after_is v out a e (Ok body) q)))
 
-  pub called-head : (q : RequestHeader) → header_answer v ≡ Called q → WritesHead v 0 q.order q.minor q.body out r last → Heads
-  called-head q e w = by-room 0 q.order q.minor q.body (Called q) e refl refl (calls-within v q e).parts w
+  pub called-head : (q : RequestHeader) → header_answer v ≡ Ok (Called q) → WritesHead v 0 q.order q.minor q.body out r last → Heads
+  called-head q e w = by-room 0 q.order q.minor q.body (Ok (Called q)) e refl refl (calls-within v q e).parts w
 
-  pub answered-head : (a : ReplyHeader) → header_answer v ≡ Answered a → WritesHead v 1 a.order a.minor a.body out r last → Heads
-  answered-head a e w = by-room 1 a.order a.minor a.body (Answered a) e refl refl (answers-within v a e).parts w
+  pub answered-head : (a : ReplyHeader) → header_answer v ≡ Ok (Answered a) → WritesHead v 1 a.order a.minor a.body out r last → Heads
+  answered-head a e w = by-room 1 a.order a.minor a.body (Ok (Answered a)) e refl refl (answers-within v a e).parts w

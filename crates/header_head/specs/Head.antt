@@ -8,7 +8,7 @@
 --   head_answer     the answer, with an output of so many octets
 --   head_held       what the output then holds
 --   head_after      the output of a message: on a refusal it is as it was
-use Rattle.std.specs.Prelude.{ℕ, ◌-◌, List, ◌++◌, ltb, length, take, replicate}
+use Rattle.std.specs.Prelude.{ℕ, ◌-◌, List, ◌++◌, ltb, length, take, replicate, Result, Ok, Err}
 use Rattle.std.proofs.lemmas.List.Edits.{sets}
 use Rattle.choices.specs.Branch.{choose}
 use Rattle.cdr.specs.declared.Order.{Order}
@@ -17,13 +17,12 @@ use Rattle.cdr_write.specs.Pieces.{target, writes}
 use Rattle.frame.specs.Header.{header_size}
 use Rattle.header_layout.specs.Layout.{layout_of}
 use Rattle.header_parts.specs.declared.Refusal.TheVariants.{NoRoom}
-use Rattle.header.specs.declared.HeaderAnswer.{HeaderAnswer}
-use Rattle.header.specs.declared.HeaderAnswer.TheVariants.{Called, Answered, Refused}
 use Rattle.header_reading.specs.Reading.{no_fields}
 use Rattle.header.specs.Header.{header_start, header_answer}
-use Rattle.header_head.specs.declared.HeadAnswer.{HeadAnswer}
-use Rattle.header_head.specs.declared.HeadAnswer.TheVariants.{Written, Refused as not_written}
 use Rattle.header_head.specs.HeadPieces.{head_pieces}
+use Rattle.header.specs.declared.MessageHeader.TheVariants.{Answered, Called}
+use Rattle.header.specs.declared.MessageHeader.{MessageHeader}
+use Rattle.header_parts.specs.declared.Refusal.{Refusal}
 
 abbrev pub frame_octets : List ℕ → List ℕ
 frame_octets v = take header_size v
@@ -35,25 +34,25 @@ header_octets v kind order minor =
 abbrev pub padded : List ℕ → ℕ → List ℕ
 padded l n = l ++ replicate (n - length l) 0
 
-abbrev pub head_octets : List ℕ → HeaderAnswer → List ℕ
-head_octets v (Called q) = padded (header_octets v 0 q.order q.minor) q.body
-head_octets v (Answered a) = padded (header_octets v 1 a.order a.minor) a.body
-head_octets v (Refused r) = frame_octets v
+abbrev pub head_octets : List ℕ → Result MessageHeader Refusal → List ℕ
+head_octets v (Ok (Called q)) = padded (header_octets v 0 q.order q.minor) q.body
+head_octets v (Ok (Answered a)) = padded (header_octets v 1 a.order a.minor) a.body
+head_octets v (Err r) = frame_octets v
 
-unfoldable pub head_written : ℕ → ℕ → HeadAnswer
-head_written room body = choose (ltb room body) (λ _. not_written NoRoom) (λ _. Written body)
+unfoldable pub head_written : ℕ → ℕ → Result ℕ Refusal
+head_written room body = choose (ltb room body) (λ _. (Err NoRoom)) (λ _. (Ok body))
 
-abbrev pub head_in : ℕ → HeaderAnswer → HeadAnswer
-head_in room (Called q) = head_written room q.body
-head_in room (Answered a) = head_written room a.body
-head_in room (Refused r) = not_written r
+abbrev pub head_in : ℕ → Result MessageHeader Refusal → Result ℕ Refusal
+head_in room (Ok (Called q)) = head_written room q.body
+head_in room (Ok (Answered a)) = head_written room a.body
+head_in room (Err r) = Err r
 
-unfoldable pub head_answer : List ℕ → ℕ → HeadAnswer
+unfoldable pub head_answer : List ℕ → ℕ → Result ℕ Refusal
 head_answer v room = head_in room (header_answer v)
 
-abbrev pub head_held : HeadAnswer → List ℕ → List ℕ → List ℕ
-head_held (Written n) octets out = sets out 0 octets
-head_held (not_written r) octets out = out
+abbrev pub head_held : Result ℕ Refusal → List ℕ → List ℕ → List ℕ
+head_held (Ok n) octets out = sets out 0 octets
+head_held (Err r) octets out = out
 
 unfoldable pub head_after : List ℕ → List ℕ → List ℕ
 head_after v out = head_held (head_answer v (length out)) (head_octets v (header_answer v)) out

@@ -5,9 +5,7 @@ ghost use Rattle.header_head.specs.Inner.{CopiesReserved, CopiesNumber, CopiesCo
 ghost use Rattle.header_head.specs.Inner.{CopiesReference, CopiesKind, CopiesTarget, CopiesPart, CopiesParts};
 
 use cdr::{Index, Order, Size};
-use cdr_fields::{CountedAt, Field};
-use cdr_text::Run;
-use header_layout::{HeaderPart, PartNumber};
+use header_layout::HeaderPart;
 
 // The most parts of a header.
 const PARTS_MOST: usize = 7;
@@ -21,10 +19,7 @@ const PROFILE_TARGET: u64 = 1;
 pub(crate) fn zeros(at: usize, upto: usize, out: &mut [u8])
     ensures { Holds out.old at (replicate (upto - at) 0) out.new }
 {
-    if upto <= at {
-        return;
-    }
-    cdr_write::write_zeros(out, at, upto - at);
+    cdr_write::write_zeros(out, at, upto.saturating_sub(at));
 }
 
 // All parts of a header, from an index on, and the index after them.
@@ -39,17 +34,11 @@ pub(crate) fn parts(
     ensures { CopiesParts s.now order from out.old result out.new kind minor }
 {
     let mut at = from;
-    let mut k = 0;
-    while k < PARTS_MOST {
-        match header_layout::part_at(kind, minor, k) {
-            PartNumber::Is(next) => {
-                at = part(s, next, order, minor, at, out);
-            }
-            PartNumber::NoMore => {
-                return at;
-            }
-        }
-        k += 1;
+    for k in 0..PARTS_MOST {
+        let Some(next) = header_layout::part_at(kind, minor, k) else {
+            return at;
+        };
+        at = part(s, next, order, minor, at, out);
     }
     at
 }
@@ -77,11 +66,11 @@ fn reserved(s: &[u8], order: Order, minor: u8, at: usize, out: &mut [u8]) -> usi
 {
     let count = version::reserved_octets(minor);
     match cdr_text::read_run(s, at, count) {
-        Run::To(end) => {
+        Some(end) => {
             cdr_write::write_zeros(out, at, count);
             end
         }
-        Run::Past => at,
+        None => at,
     }
 }
 
@@ -90,11 +79,11 @@ fn number(s: &[u8], size: Size, order: Order, at: usize, out: &mut [u8]) -> usiz
     ensures { CopiesNumber s.now order at out.old result out.new size }
 {
     match cdr_fields::read_field(s, Index(at), size, order) {
-        Field::Value { value, next } => {
+        Some((value, next)) => {
             cdr_pieces::put_number(out, at, size, order, value);
             next.0
         }
-        Field::NoField => at,
+        None => at,
     }
 }
 
@@ -103,12 +92,12 @@ fn counted(s: &[u8], order: Order, at: usize, out: &mut [u8]) -> usize
     ensures { CopiesCounted s.now order at out.old result out.new }
 {
     match cdr_fields::counted_at(s, Index(at), order) {
-        CountedAt::Span { octets, next } => {
+        Some((octets, next)) => {
             let from = number(s, Size::Four, order, at, out);
             cdr_write::write_octets(out, from, cdr_fields::octets_in(s, octets));
             next.0
         }
-        CountedAt::NoSpan => at,
+        None => at,
     }
 }
 
@@ -125,10 +114,8 @@ fn entries(s: &[u8], order: Order, count: u64, from: usize, out: &mut [u8]) -> u
     ensures { CopiesEntries s.now order from out.old result out.new count }
 {
     let mut at = from;
-    let mut k = 0;
-    while k < count {
+    for _ in 0..count {
         at = tagged(s, order, at, out);
-        k += 1;
     }
     at
 }
@@ -138,11 +125,11 @@ fn list(s: &[u8], order: Order, at: usize, out: &mut [u8]) -> usize
     ensures { CopiesList s.now order at out.old result out.new }
 {
     match cdr_fields::read_field(s, Index(at), Size::Four, order) {
-        Field::Value { value, next: _ } => {
+        Some((value, _)) => {
             let first = number(s, Size::Four, order, at, out);
             entries(s, order, value, first, out)
         }
-        Field::NoField => at,
+        None => at,
     }
 }
 
@@ -160,11 +147,11 @@ fn target(s: &[u8], order: Order, at: usize, out: &mut [u8]) -> usize
     ensures { CopiesTarget s.now order at out.old result out.new }
 {
     match cdr_fields::read_field(s, Index(at), Size::Two, order) {
-        Field::Value { value, next: _ } => {
+        Some((value, _)) => {
             let behind = number(s, Size::Two, order, at, out);
             of_kind(s, value, order, behind, out)
         }
-        Field::NoField => at,
+        None => at,
     }
 }
 
@@ -172,11 +159,9 @@ fn target(s: &[u8], order: Order, at: usize, out: &mut [u8]) -> usize
 fn of_kind(s: &[u8], kind: u64, order: Order, at: usize, out: &mut [u8]) -> usize
     ensures { CopiesKind s.now order at out.old result out.new kind }
 {
-    if kind == KEY_TARGET {
-        return counted(s, order, at, out);
+    match kind {
+        KEY_TARGET => counted(s, order, at, out),
+        PROFILE_TARGET => tagged(s, order, at, out),
+        _ => reference(s, order, at, out),
     }
-    if kind == PROFILE_TARGET {
-        return tagged(s, order, at, out);
-    }
-    reference(s, order, at, out)
 }

@@ -1,4 +1,5 @@
 -- Messages of one length with the same frame: one is accepted where the other is, and its header is looked for in the same way.
+use Rattle.std.specs.Prelude.{Ok}
 use mathlib.Core.Path.{◌≡◌, sym, ap, ◌∙◌}
 use mathlib.Core.List.{List, ◌++◌}
 use mathlib.Core.Bool.{true}
@@ -13,7 +14,6 @@ use Rattle.cdr.specs.declared.Order.TheVariants.{Big}
 use Rattle.cdr.specs.Limit.{octets_limit}
 use Rattle.cdr.specs.Number.{number_of, number_at}
 use Rattle.frame.specs.declared.Header.{Header}
-use Rattle.frame.specs.declared.Frame.TheVariants.{Accepted}
 use Rattle.frame.specs.Header.{header_size, order_flag, magic_at, major_at, minor_at, flags_at, message_type_at, order_at, size_at, header_of}
 use Rattle.frame.specs.Frames.{message_of}
 use Rattle.frame.proofs.Accepts.{message-accepts}
@@ -57,7 +57,7 @@ module _ (frame : List ℕ) (l : length frame ≡ header_size) where
       }
 
 module _ (v w : List ℕ) (s : SameFrame v w) (n : length w ≡ length v) where
-  pub message-again : (h : Header) → message_of v ≡ Accepted h → message_of w ≡ Accepted (header_of w)
+  pub message-again : (h : Header) → message_of v ≡ Ok h → message_of w ≡ Ok (header_of w)
   message-again h e =
       let m = message-accepts v h e in
       let there : header_size ≤ length w = omega (arith, n, m.octets) in
@@ -72,6 +72,6 @@ module _ (v w : List ℕ) (s : SameFrame v w) (n : length w ≡ length v) where
   header-alike = rw (s.minor, s.flags, s.kind)
 
 -- the answer about an accepted message
-pub answer-in : (v : List ℕ) → length v ≤ octets_limit → (h : Header) → message_of v ≡ Accepted h → header_answer v ≡ header_in v h
+pub answer-in : (v : List ℕ) → length v ≤ octets_limit → (h : Header) → message_of v ≡ Ok h → header_answer v ≡ header_in v h
 unfolding header_answer choose
 answer-in v l h e = rw (le-ltb octets_limit (length v) l, e)

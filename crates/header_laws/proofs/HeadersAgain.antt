@@ -1,4 +1,5 @@
 -- A message with what was written back before its body: its header is read again, and written back again it is the same octets.
+use Rattle.std.specs.Prelude.{Ok, Err}
 use mathlib.Core.Path.{◌≡◌, sym, ap, subst, ◌∙◌}
 use mathlib.Core.Bool.{Bool, cond}
 use mathlib.Core.List.{List, ◌++◌, append_assoc}
@@ -21,7 +22,6 @@ use Rattle.header_parts.specs.declared.Refusal.TheVariants.{NoHeader}
 use Rattle.header_parts.specs.Parts.{body_place}
 use Rattle.header.specs.declared.RequestHeader.{RequestHeader}
 use Rattle.header.specs.declared.ReplyHeader.{ReplyHeader}
-use Rattle.header.specs.declared.HeaderAnswer.TheVariants.{Called, Answered, Refused}
 use Rattle.header_reading.specs.Reading.{HeaderFields, no_fields, through, parts_read}
 use Rattle.header.specs.Header.{header_said, on_body, header_ended, header_start, header_by, has_no_header, header_in, header_answer}
 use Rattle.header.specs.Within.{HeaderParts}
@@ -33,6 +33,7 @@ use Rattle.header_laws.proofs.StandsBehind.{Stands}
 use Rattle.header_laws.proofs.FieldsAgain.{Told}
 use Rattle.header_laws.proofs.PartsAgain.{SameFields, none-same, parts_again}
 use Rattle.header_laws.proofs.FrameAgain.{same-frame, SameFrame, message-again, header-alike, answer-in}
+use Rattle.header.specs.declared.MessageHeader.TheVariants.{Answered, Called}
 
 -- the same parts in messages of one length give the same header
 by_alike : (v w : List ℕ) → length w ≡ length v → (request : Bool) (order : Order) (minor : ℕ) (parts : List HeaderPart) (f : HeaderFields) (i : Index)
@@ -109,7 +110,7 @@ module _ (v : List ℕ) (small : Octets v) (kind : ℕ) (order : Order) (minor b
   same-header : header_in again p.frame ≡ header_in v p.frame
   unfolding header_in
   same-header =
-      ap (cond (has_no_header p.frame) (Refused NoHeader))
+      ap (cond (has_no_header p.frame) (Err NoHeader))
       (rw (p.kinds, p.orders, p.minors)
       (by_alike v again whole_length (is_request kind) order minor layout p.fields p.end p.reads parts-told.reads))
 
@@ -149,31 +150,31 @@ module _ (v : List ℕ) (small : Octets v) (kind : ℕ) (order : Order) (minor b
   }
 
 pub reads-again : ReadsAgain
-reads-again v small (Called q) h e =
+reads-again v small (Ok (Called q)) h e =
     let r = calls-within v q e in
     let g = head-again v small 0 q.order q.minor q.body r.parts in
     record {
       size = g.size;
       whole = g.whole;
       answer = g.answer ∙ e;
-      parts = subst (λ (x : RequestHeader). SameParts v (rewritten_message v (Called q)) (Called x)) r.said g.fields;
+      parts = subst (λ (x : RequestHeader). SameParts v (rewritten_message v (Ok (Called q))) (Ok (Called x))) r.said g.fields;
     }
-reads-again v small (Answered a) h e =
+reads-again v small (Ok (Answered a)) h e =
     let r = answers-within v a e in
     let g = head-again v small 1 a.order a.minor a.body r.parts in
     record {
       size = g.size;
       whole = g.whole;
       answer = g.answer ∙ e;
-      parts = subst (λ (x : ReplyHeader). SameParts v (rewritten_message v (Answered a)) (Answered x)) r.said g.fields.contexts;
+      parts = subst (λ (x : ReplyHeader). SameParts v (rewritten_message v (Ok (Answered a))) (Ok (Answered x))) r.said g.fields.contexts;
     }
-reads-again v small (Refused r) h e = absurd h
+reads-again v small (Err r) h e = absurd h
 
 pub written-again : WrittenAgain
-written-again v small (Called q) h e =
+written-again v small (Ok (Called q)) h e =
     let g = head-again v small 0 q.order q.minor q.body (calls-within v q e).parts in
-    ap (head_octets (rewritten_message v (Called q))) (g.answer ∙ e) ∙ g.octets
-written-again v small (Answered a) h e =
+    ap (head_octets (rewritten_message v (Ok (Called q)))) (g.answer ∙ e) ∙ g.octets
+written-again v small (Ok (Answered a)) h e =
     let g = head-again v small 1 a.order a.minor a.body (answers-within v a e).parts in
-    ap (head_octets (rewritten_message v (Answered a))) (g.answer ∙ e) ∙ g.octets
-written-again v small (Refused r) h e = absurd h
+    ap (head_octets (rewritten_message v (Ok (Answered a)))) (g.answer ∙ e) ∙ g.octets
+written-again v small (Err r) h e = absurd h

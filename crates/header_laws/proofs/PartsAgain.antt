@@ -1,4 +1,5 @@
 -- The parts of a header, one after the other: where their pieces stand in w as they were read in v, w reads the same.
+use Rattle.std.specs.Prelude.{Option, Some, None, Result, Ok, Err}
 use mathlib.Core.Path.{◌≡◌, refl, sym, ap, subst, ◌∙◌}
 use mathlib.Core.List.{List, [], ◌∷◌, ◌++◌}
 use Prim.Native.Nat.{ℕ}
@@ -10,16 +11,8 @@ use Rattle.cdr.specs.declared.Order.{Order}
 use Rattle.cdr.specs.declared.Size.TheVariants.{One, Four}
 use Rattle.cdr.specs.Align.{index_of}
 use Rattle.cdr.specs.Number.{Octets}
-use Rattle.cdr_text.specs.declared.Run.{Run}
-use Rattle.cdr_text.specs.declared.Run.TheVariants.{To as upto, Past}
 use Rattle.cdr_text.specs.Text.{run_of}
 use Rattle.cdr_text.proofs.TextEnds.{run-facts, run-to}
-use Rattle.cdr_fields.specs.declared.Field.{Field}
-use Rattle.cdr_fields.specs.declared.Field.TheVariants.{Value, NoField}
-use Rattle.cdr_fields.specs.declared.CountedAt.{CountedAt}
-use Rattle.cdr_fields.specs.declared.CountedAt.TheVariants.{Span, NoSpan}
-use Rattle.cdr_fields.specs.declared.TaggedListAt.{TaggedListAt}
-use Rattle.cdr_fields.specs.declared.TaggedListAt.TheVariants.{Listed, NoList}
 use Rattle.cdr_fields.specs.Encapsulation.{field_of}
 use Rattle.cdr_fields.specs.Extents.{extent_octets, counted_at}
 use Rattle.cdr_fields.specs.Tagged.{tagged_list_at}
@@ -27,12 +20,6 @@ use Rattle.cdr_write.specs.Pieces.{Piece}
 use Rattle.version.specs.Versions.{reserved_octets}
 use Rattle.header_layout.specs.declared.HeaderPart.{HeaderPart}
 use Rattle.header_layout.specs.declared.HeaderPart.TheVariants.{Contexts, Id, Response, Reserved, Key, Target as Addressed, Operation, Principal, Status}
-use Rattle.header_parts.specs.declared.NumberField.{NumberField}
-use Rattle.header_parts.specs.declared.NumberField.TheVariants.{Number, Refused as no_number}
-use Rattle.header_parts.specs.declared.TextPart.{TextPart}
-use Rattle.header_parts.specs.declared.TextPart.TheVariants.{Text, Refused as no_text}
-use Rattle.header_parts.specs.declared.TargetPart.{TargetPart}
-use Rattle.header_parts.specs.declared.TargetPart.TheVariants.{To, Refused as no_target}
 use Rattle.header_parts.specs.Parts.{response_from, response_at, status_from, status_at, header_text_at}
 use Rattle.header_parts.specs.Targets.{key_target, target_at}
 use Rattle.header_parts.proofs.PartFacts.{response-field, status-field}
@@ -45,6 +32,10 @@ use Rattle.header_laws.specs.Written.{SameOctets}
 use Rattle.header_laws.proofs.StandsBehind.{Again, again-none, again-append, again-so, run-again, number-again}
 use Rattle.header_laws.proofs.FieldsAgain.{Told, Rereads, counted-again, text-again, list-again}
 use Rattle.header_laws.proofs.TargetsAgain.{key-again, target-again}
+use Rattle.cdr_fields.specs.declared.Extent.{Extent}
+use Rattle.cdr_fields.specs.declared.TaggedList.{TaggedList}
+use Rattle.header_parts.specs.declared.Refusal.{Refusal}
+use Rattle.header_parts.specs.declared.TargetAddress.{TargetAddress}
 
 -- the octets that fields tell are the same in both
 abbrev pub SameFields : List ℕ → List ℕ → Order → HeaderFields → Type 0
@@ -74,106 +65,106 @@ module _ (v : List ℕ) (small : Octets v) (order : Order) (w : List ℕ) (minor
       (subst (λ (k : HeaderFields). PartAgain x f i k j) a (again-so order w i j (part_pieces v order minor x h) R (PartTold x f i h j) so again))
 
   module _ (f : HeaderFields) (i : Index) (g : HeaderFields) (next : Index) where
-    in_list : (l : TaggedListAt) → tagged_list_at v i order ≡ l → after_list l (contexts_set f) ≡ through g next → PartAgain Contexts f i g next
+    in_list : (l : Option (TaggedList × Index)) → tagged_list_at v i order ≡ l → after_list l (contexts_set f) ≡ through g next → PartAgain Contexts f i g next
     unfolding part_read part_pieces
-    in_list (Listed list j) q e =
+    in_list (Some (list, j)) q e =
         given Contexts f i (contexts_set f list) g j next e _ (list-again v small order w i list j q)
         (λ t. record {
-          reads = ap (λ (l : TaggedListAt). after_list l (contexts_set f)) t.reads;
+          reads = ap (λ (l : Option (TaggedList × Index)). after_list l (contexts_set f)) t.reads;
           pieces = t.pieces;
           same = λ s. record { target = s.target; operation = s.operation; principal = s.principal; contexts = t.same };
         })
-    in_list NoList q e = clash cc
+    in_list None q e = clash cc
 
-    in_field : (l : Field) → field_of v i Four order ≡ l → after_field l (id_set f) ≡ through g next → PartAgain Id f i g next
+    in_field : (l : Option (ℕ × Index)) → field_of v i Four order ≡ l → after_field l (id_set f) ≡ through g next → PartAgain Id f i g next
     unfolding part_read part_pieces
-    in_field (Value x j) q e =
+    in_field (Some (x, j)) q e =
         given Id f i (id_set f x) g j next e _ (number-again order w v small i Four x j q)
-        (λ t. record { reads = ap (λ (l : Field). after_field l (id_set f)) t; pieces = refl; same = λ s. s })
-    in_field NoField q e = clash cc
+        (λ t. record { reads = ap (λ (l : Option (ℕ × Index)). after_field l (id_set f)) t; pieces = refl; same = λ s. s })
+    in_field None q e = clash cc
 
-    in-response : (l : NumberField) → response_at v i order minor ≡ l → after_number l (response_set f) ≡ through g next → PartAgain Response f i g next
+    in-response : (l : Result (ℕ × Index) Refusal) → response_at v i order minor ≡ l → after_number l (response_set f) ≡ through g next → PartAgain Response f i g next
     unfolding part_read part_pieces response_at
-    in-response (Number x j) q e =
+    in-response (Ok (x, j)) q e =
         let there = response-field v i order minor x j q in
         given Response f i (response_set f x) g j next e _ (number-again order w v small i One x j there)
         (λ t. record {
-          reads = ap (λ (l : NumberField). after_number l (response_set f)) (ap (response_from minor) (t ∙ sym there) ∙ q);
+          reads = ap (λ (l : Result (ℕ × Index) Refusal). after_number l (response_set f)) (ap (response_from minor) (t ∙ sym there) ∙ q);
           pieces = refl;
           same = λ s. s;
         })
-    in-response (no_number r) q e = clash cc
+    in-response (Err r) q e = clash cc
 
-    in-status : (l : NumberField) → status_at v i order minor ≡ l → after_number l (status_set f) ≡ through g next → PartAgain Status f i g next
+    in-status : (l : Result (ℕ × Index) Refusal) → status_at v i order minor ≡ l → after_number l (status_set f) ≡ through g next → PartAgain Status f i g next
     unfolding part_read part_pieces status_at
-    in-status (Number x j) q e =
+    in-status (Ok (x, j)) q e =
         let there = status-field v i order minor x j q in
         given Status f i (status_set f x) g j next e _ (number-again order w v small i Four x j there)
         (λ t. record {
-          reads = ap (λ (l : NumberField). after_number l (status_set f)) (ap (status_from minor) (t ∙ sym there) ∙ q);
+          reads = ap (λ (l : Result (ℕ × Index) Refusal). after_number l (status_set f)) (ap (status_from minor) (t ∙ sym there) ∙ q);
           pieces = refl;
           same = λ s. s;
         })
-    in-status (no_number r) q e = clash cc
+    in-status (Err r) q e = clash cc
 
-    in-reserved : (l : Run) → run_of v i.0 (reserved_octets minor) ≡ l → after_reserved l f ≡ through g next → PartAgain Reserved f i g next
+    in-reserved : (l : Option ℕ) → run_of v i.0 (reserved_octets minor) ≡ l → after_reserved l f ≡ through g next → PartAgain Reserved f i g next
     unfolding part_read part_pieces
-    in-reserved (upto k) q e =
+    in-reserved (Some k) q e =
         let n : ℕ = reserved_octets minor in
         let zeros : List ℕ = replicate n 0 in
         let l : length zeros ≡ n = length-replicate n 0 in
         let c = run-facts v i.0 n k q in
         given Reserved f i f g (index_of k) next e _ (run-again order w i (index_of k) zeros (omega (arith, c.0, l)))
         (λ t. record {
-          reads = ap (λ (r : Run). after_reserved r f) (run-to w i.0 n (omega (arith, t.0, l)) ∙ ap upto (sym c.0));
+          reads = ap (λ (r : Option ℕ). after_reserved r f) (run-to w i.0 n (omega (arith, t.0, l)) ∙ ap Some (sym c.0));
           pieces = refl;
           same = λ s. s;
         })
-    in-reserved Past q e = clash cc
+    in-reserved None q e = clash cc
 
-    in-key : (l : TargetPart) → key_target v i order ≡ l → after_target l (target_set f) ≡ through g next → PartAgain Key f i g next
+    in-key : (l : Result (TargetAddress × Index) Refusal) → key_target v i order ≡ l → after_target l (target_set f) ≡ through g next → PartAgain Key f i g next
     unfolding part_read part_pieces
-    in-key (To u j) q e =
+    in-key (Ok (u, j)) q e =
         given Key f i (target_set f u) g j next e _ (key-again v small order w i u j q)
         (λ t. record {
-          reads = ap (λ (l : TargetPart). after_target l (target_set f)) t.reads;
+          reads = ap (λ (l : Result (TargetAddress × Index) Refusal). after_target l (target_set f)) t.reads;
           pieces = t.pieces;
           same = λ s. record { target = t.same; operation = s.operation; principal = s.principal; contexts = s.contexts };
         })
-    in-key (no_target r) q e = clash cc
+    in-key (Err r) q e = clash cc
 
-    in-target : (l : TargetPart) → target_at v i order ≡ l → after_target l (target_set f) ≡ through g next → PartAgain Addressed f i g next
+    in-target : (l : Result (TargetAddress × Index) Refusal) → target_at v i order ≡ l → after_target l (target_set f) ≡ through g next → PartAgain Addressed f i g next
     unfolding part_read part_pieces
-    in-target (To u j) q e =
+    in-target (Ok (u, j)) q e =
         given Addressed f i (target_set f u) g j next e _ (target-again v small order w i u j q)
         (λ t. record {
-          reads = ap (λ (l : TargetPart). after_target l (target_set f)) t.reads;
+          reads = ap (λ (l : Result (TargetAddress × Index) Refusal). after_target l (target_set f)) t.reads;
           pieces = t.pieces;
           same = λ s. record { target = t.same; operation = s.operation; principal = s.principal; contexts = s.contexts };
         })
-    in-target (no_target r) q e = clash cc
+    in-target (Err r) q e = clash cc
 
-    in-text : (l : TextPart) → header_text_at v i order ≡ l → after_text l (operation_set f) ≡ through g next → PartAgain Operation f i g next
+    in-text : (l : Result (Extent × Index) Refusal) → header_text_at v i order ≡ l → after_text l (operation_set f) ≡ through g next → PartAgain Operation f i g next
     unfolding part_read part_pieces
-    in-text (Text part j) q e =
+    in-text (Ok (part, j)) q e =
         given Operation f i (operation_set f part) g j next e _ (text-again v small order w i part j q)
         (λ t. record {
-          reads = ap (λ (l : TextPart). after_text l (operation_set f)) t.reads;
+          reads = ap (λ (l : Result (Extent × Index) Refusal). after_text l (operation_set f)) t.reads;
           pieces = t.pieces;
           same = λ s. record { target = s.target; operation = t.same; principal = s.principal; contexts = s.contexts };
         })
-    in-text (no_text r) q e = clash cc
+    in-text (Err r) q e = clash cc
 
-    in-counted : (l : CountedAt) → counted_at v i order ≡ l → after_counted l (principal_set f) ≡ through g next → PartAgain Principal f i g next
+    in-counted : (l : Option (Extent × Index)) → counted_at v i order ≡ l → after_counted l (principal_set f) ≡ through g next → PartAgain Principal f i g next
     unfolding part_read part_pieces
-    in-counted (Span part j) q e =
+    in-counted (Some (part, j)) q e =
         given Principal f i (principal_set f part) g j next e _ (counted-again v small order w i part j q)
         (λ t. record {
-          reads = ap (λ (l : CountedAt). after_counted l (principal_set f)) t.reads;
+          reads = ap (λ (l : Option (Extent × Index)). after_counted l (principal_set f)) t.reads;
           pieces = t.pieces;
           same = λ s. record { target = s.target; operation = s.operation; principal = t.same; contexts = s.contexts };
         })
-    in-counted NoSpan q e = clash cc
+    in-counted None q e = clash cc
 
     part-again : (x : HeaderPart) → part_read v order minor x f i ≡ through g next → PartAgain x f i g next
     unfolding part_read

@@ -1,4 +1,5 @@
 -- Pieces that stand in octets at an index, one behind the other; a number that stands there is read, and so are octets.
+use Rattle.std.specs.Prelude.{Some}
 use mathlib.Core.Path.{◌≡◌, sym, ap, subst, ◌∙◌}
 use mathlib.Core.List.{List, [], ◌∷◌, ◌++◌, append_assoc}
 use Prim.Native.Nat.{ℕ, ◌+◌, ◌≤◌, ◌<◌, ◌^◌}
@@ -9,11 +10,9 @@ use lib.Seq.{drop_at, take-append_seam}
 use Rattle.cdr.specs.declared.Index.{Index}
 use Rattle.cdr.specs.declared.Order.{Order}
 use Rattle.cdr.specs.declared.Size.{Size}
-use Rattle.cdr.specs.declared.Read.TheVariants.{Number}
 use Rattle.cdr.specs.Align.{octets, gap, behind_gap, index_of}
 use Rattle.cdr.specs.Number.{Octets, read_of}
 use Rattle.cdr.proofs.NumbersGivenBack.{number_small}
-use Rattle.cdr_fields.specs.declared.Field.TheVariants.{Value}
 use Rattle.cdr_fields.specs.Encapsulation.{start, field_of}
 use Rattle.cdr_fields.proofs.FieldsRead.{field-facts, field_is}
 use Rattle.cdr_write.specs.Pieces.{Piece, Target, target, wrote, writes}
@@ -107,7 +106,7 @@ module _ (order : Order) (w : List ℕ) where
       }
 
   -- a number that was read
-  module _ (v : List ℕ) (small : Octets v) (i : Index) (size : Size) (x : ℕ) (next : Index) (e : field_of v i size order ≡ Value x next) where
+  module _ (v : List ℕ) (small : Octets v) (i : Index) (size : Size) (x : ℕ) (next : Index) (e : field_of v i size order ≡ Some (x, next)) where
     number-reach : next.0 ≡ i.0 + length (octets_from to i.0 (number_piece (octets size) x ∷ []))
     number-reach =
         let f = field-facts v i size order x next e in
@@ -117,7 +116,7 @@ module _ (order : Order) (w : List ℕ) where
         ∙ add_assoc i.0 (gap i.0 (octets size)) (octets size)
         ∙ ap (λ (k : ℕ). i.0 + k) (sym l)
 
-    number-told : Stands order w i.0 (number_piece (octets size) x ∷ []) → field_of w i size order ≡ Value x next
+    number-told : Stands order w i.0 (number_piece (octets size) x ∷ []) → field_of w i size order ≡ Some (x, next)
     unfolding writes
     number-told s =
         let f = field-facts v i size order x next e in
@@ -131,12 +130,12 @@ module _ (order : Order) (w : List ℕ) where
         ∙ sym (append_assoc s.before (octets_from to i.0 (p ∷ [])) s.more)
         ∙ ap (λ (k : ℕ). (s.before ++ octets_from to k (p ∷ [])) ++ s.more) (sym s.index)
         ∙ ap (λ (l : List ℕ). l ++ s.more) (sym (writes-from to s.before (p ∷ []))) in
-        let read : read_of w start i.0 size order ≡ Number at x =
+        let read : read_of w start i.0 size order ≡ Some (at, x) =
         ap (λ (l : List ℕ). read_of l start i.0 size order) all
         ∙ ap (λ (k : ℕ). read_of (wrote to s.before p ++ s.more) start k size order) (sym s.index)
         ∙ number-back to s.before s.more 0 0 size x below
-        ∙ ap (λ (k : ℕ). Number (behind_gap start k n) x) s.index in
-        field_is w i size order at x read ∙ ap (λ (k : ℕ). Value x (index_of k)) (sym f.ends)
+        ∙ ap (λ (k : ℕ). (Some (behind_gap start k n, x))) s.index in
+        field_is w i size order at x read ∙ ap (λ (k : ℕ). (Some (x, index_of k))) (sym f.ends)
 
-    pub number-again : Again order w i next (number_piece (octets size) x ∷ []) (field_of w i size order ≡ Value x next)
+    pub number-again : Again order w i next (number_piece (octets size) x ∷ []) (field_of w i size order ≡ Some (x, next))
     number-again = record { reach = number-reach; told = number-told }

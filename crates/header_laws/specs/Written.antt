@@ -13,7 +13,7 @@
 --                     octets of each part are the same
 --   ReadsAgain        every header that was read is read again so
 --   WrittenAgain      "gaps and reserved octets zero": what is written back of what was written back is the same octets
-use Rattle.std.specs.Prelude.{ℕ, ◌<◌, ◌≡◌, List, ◌++◌, length, drop}
+use Rattle.std.specs.Prelude.{ℕ, ◌<◌, ◌≡◌, List, ◌++◌, length, drop, Result, Ok, Err}
 use Rattle.cdr.specs.declared.Order.{Order}
 use Rattle.cdr.specs.Number.{Octets}
 use Rattle.cdr_fields.specs.declared.Extent.{Extent}
@@ -22,25 +22,25 @@ use Rattle.cdr_fields.specs.Extents.{extent_octets}
 use Rattle.frame.specs.Header.{header_size}
 use Rattle.header_parts.specs.declared.TargetAddress.{TargetAddress}
 use Rattle.header_parts.specs.declared.TargetAddress.TheVariants.{Key, Profile, Reference}
-use Rattle.header.specs.declared.HeaderAnswer.{HeaderAnswer}
-use Rattle.header.specs.declared.HeaderAnswer.TheVariants.{Called, Answered, Refused}
-use Rattle.header.specs.declared.NumberedAnswer.TheVariants.{Found}
 use Rattle.header.specs.Header.{header_answer}
 use Rattle.header.specs.Numbered.{numbered_tag}
 use Rattle.header_head.specs.Head.{head_octets}
+use Rattle.header.specs.declared.MessageHeader.TheVariants.{Answered, Called}
+use Rattle.header.specs.declared.MessageHeader.{MessageHeader}
+use Rattle.header_parts.specs.declared.Refusal.{Refusal}
 
-abbrev pub body_begins : HeaderAnswer → ℕ
-body_begins (Called q) = q.body
-body_begins (Answered a) = a.body
-body_begins (Refused r) = header_size
+abbrev pub body_begins : Result MessageHeader Refusal → ℕ
+body_begins (Ok (Called q)) = q.body
+body_begins (Ok (Answered a)) = a.body
+body_begins (Err r) = header_size
 
-abbrev pub rewritten_message : List ℕ → HeaderAnswer → List ℕ
+abbrev pub rewritten_message : List ℕ → Result MessageHeader Refusal → List ℕ
 rewritten_message v a = head_octets v a ++ drop (body_begins a) v
 
-abbrev pub HasHeader : HeaderAnswer → Type 0
-HasHeader (Called q) = Unit {0}
-HasHeader (Answered a) = Unit {0}
-HasHeader (Refused r) = ⊥
+abbrev pub HasHeader : Result MessageHeader Refusal → Type 0
+HasHeader (Ok (Called q)) = Unit {0}
+HasHeader (Ok (Answered a)) = Unit {0}
+HasHeader (Err r) = ⊥
 
 abbrev pub SameIn : List ℕ → List ℕ → Extent → Type 0
 SameIn v w part = extent_octets w part ≡ extent_octets v part
@@ -48,8 +48,8 @@ SameIn v w part = extent_octets w part ≡ extent_octets v part
 pub record SameEntry (v w : List ℕ) (order : Order) (list : TaggedList) (number : ℕ) : Type 0 where
   pub tag : ℕ
   pub octets : Extent
-  pub first : numbered_tag v list order number ≡ Found tag octets
-  pub second : numbered_tag w list order number ≡ Found tag octets
+  pub first : numbered_tag v list order number ≡ Ok (tag, octets)
+  pub second : numbered_tag w list order number ≡ Ok (tag, octets)
   pub same : SameIn v w octets
 
 abbrev pub SameList : List ℕ → List ℕ → Order → TaggedList → Type 0
@@ -66,21 +66,21 @@ pub record SameOctets (v w : List ℕ) (order : Order) (to : TargetAddress) (nam
   pub principal : SameIn v w who
   pub contexts : SameList v w order list
 
-abbrev pub SameParts : List ℕ → List ℕ → HeaderAnswer → Type 0
-SameParts v w (Called q) = SameOctets v w q.order q.target q.operation q.principal q.contexts
-SameParts v w (Answered a) = SameList v w a.order a.contexts
-SameParts v w (Refused r) = Unit {0}
+abbrev pub SameParts : List ℕ → List ℕ → Result MessageHeader Refusal → Type 0
+SameParts v w (Ok (Called q)) = SameOctets v w q.order q.target q.operation q.principal q.contexts
+SameParts v w (Ok (Answered a)) = SameList v w a.order a.contexts
+SameParts v w (Err r) = Unit {0}
 
-pub record ReadAgain (v : List ℕ) (a : HeaderAnswer) : Type 0 where
+pub record ReadAgain (v : List ℕ) (a : Result MessageHeader Refusal) : Type 0 where
   pub size : length (head_octets v a) ≡ body_begins a
   pub whole : length (rewritten_message v a) ≡ length v
   pub answer : header_answer (rewritten_message v a) ≡ a
   pub parts : SameParts v (rewritten_message v a) a
 
 abbrev pub ReadsAgain : Type 0
-ReadsAgain = (v : List ℕ) → Octets v → (a : HeaderAnswer) → HasHeader a → header_answer v ≡ a → ReadAgain v a
+ReadsAgain = (v : List ℕ) → Octets v → (a : Result MessageHeader Refusal) → HasHeader a → header_answer v ≡ a → ReadAgain v a
 
 abbrev pub WrittenAgain : Type 0
 WrittenAgain =
-    (v : List ℕ) → Octets v → (a : HeaderAnswer) → HasHeader a → header_answer v ≡ a
+    (v : List ℕ) → Octets v → (a : Result MessageHeader Refusal) → HasHeader a → header_answer v ≡ a
     → head_octets (rewritten_message v a) (header_answer (rewritten_message v a)) ≡ head_octets v a

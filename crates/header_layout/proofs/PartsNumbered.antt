@@ -1,16 +1,17 @@
 -- The part of a number is the next one behind so many; a header has at most seven.
+use Rattle.std.specs.Prelude.{Some, None}
 use mathlib.Core.Path.{◌≡◌, refl, ap, ◌∙◌}
 use mathlib.Core.List.{List, [], ◌∷◌}
 use Prim.Native.Nat.{ℕ, zero, suc, ◌+◌, ◌≤◌}
 use native.Mathlib.Omega.{arith}
 use lib.ListN.{length, drop, drop_of_length-le}
+use Rattle.std.specs.List.{slice_get}
 use Rattle.choices.proofs.Choices.{by-test, clash}
 use Rattle.header_layout.specs.declared.HeaderPart.{HeaderPart}
-use Rattle.header_layout.specs.declared.PartNumber.TheVariants.{Is, NoMore}
 use Rattle.header_layout.specs.Layout.{is_request, layout_of, part_number}
 use Rattle.version.specs.Versions.{body_starts_with_id}
 
-pub no_more : (xs : List HeaderPart) (n : ℕ) → length xs ≤ n → part_number xs n ≡ NoMore
+pub no_more : (xs : List HeaderPart) (n : ℕ) → length xs ≤ n → part_number xs n ≡ None
 unfolding part_number
 no_more [] n h = refl
 no_more (x ∷ xs) zero h = clash (omega (arith, h))
@@ -20,9 +21,16 @@ no_more (x ∷ xs) (suc n) h = no_more xs n (omega (arith, h))
 pub past : (n k : ℕ) → n ≤ k → (k ≡ n → ⊥) → suc n ≤ k
 past n k h e = omega (arith, h, e)
 
+-- the part of a number is what `get` gives
+pub part-got : (xs : List HeaderPart) (n : ℕ) → slice_get xs n ≡ part_number xs n
+unfolding part_number
+part-got [] n = refl
+part-got (x ∷ xs) zero = refl
+part-got (x ∷ xs) (suc n) = part-got xs n
+
 -- the part of a number, and those behind it
 module _ (x : HeaderPart) where
-  pub next-is : (xs : List HeaderPart) (n : ℕ) → part_number xs n ≡ Is x → drop n xs ≡ x ∷ drop (n + 1) xs
+  pub next-is : (xs : List HeaderPart) (n : ℕ) → part_number xs n ≡ Some x → drop n xs ≡ x ∷ drop (n + 1) xs
   unfolding part_number
   next-is [] n e = clash cc
   next-is (y ∷ xs) zero e = let a : y ≡ x = cc in ap (λ (z : HeaderPart). z ∷ xs) a
@@ -31,7 +39,7 @@ module _ (x : HeaderPart) where
       suc_one : (m : ℕ) → suc (m + 1) ≡ suc m + 1
       suc_one m = omega arith
 
-pub none_is : (xs : List HeaderPart) (n : ℕ) → part_number xs n ≡ NoMore → drop n xs ≡ []
+pub none_is : (xs : List HeaderPart) (n : ℕ) → part_number xs n ≡ None → drop n xs ≡ []
 unfolding part_number
 none_is [] n e = drop_of_length-le [] {i = n} (omega arith)
 none_is (y ∷ xs) zero e = clash cc

@@ -7,12 +7,10 @@
 --   is_request       type 0
 --   layout_of        the parts of a message's header; those of 1.2 where bodies start with the request id
 --   part_number      the part of a number among others, the first one 0
-use Rattle.std.specs.Prelude.{ℕ, zero, suc, List, [], ◌∷◌, Bool, cond, eqb}
+use Rattle.std.specs.Prelude.{ℕ, zero, suc, List, [], ◌∷◌, Bool, cond, eqb, Option, Some, None}
 use Rattle.version.specs.Versions.{body_starts_with_id}
 use Rattle.header_layout.specs.declared.HeaderPart.{HeaderPart}
 use Rattle.header_layout.specs.declared.HeaderPart.TheVariants.{Contexts, Id, Response, Reserved, Key, Target, Operation, Principal, Status}
-use Rattle.header_layout.specs.declared.PartNumber.{PartNumber}
-use Rattle.header_layout.specs.declared.PartNumber.TheVariants.{Is, NoMore}
 
 abbrev pub early_request : List HeaderPart
 early_request = Contexts ∷ Id ∷ Response ∷ Reserved ∷ Key ∷ Operation ∷ Principal ∷ []
@@ -34,7 +32,7 @@ layout_of kind minor =
     cond (is_request kind) (cond (body_starts_with_id minor) late_request early_request)
     (cond (body_starts_with_id minor) late_reply early_reply)
 
-unfoldable pub part_number : List HeaderPart → ℕ → PartNumber
-part_number [] n = NoMore
-part_number (x ∷ xs) zero = Is x
+unfoldable pub part_number : List HeaderPart → ℕ → Option HeaderPart
+part_number [] n = None
+part_number (x ∷ xs) zero = Some x
 part_number (x ∷ xs) (suc n) = part_number xs n

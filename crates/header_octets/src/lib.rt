@@ -6,7 +6,7 @@ ghost use Rattle.cdr_fields.specs.Extents.{PartOf};
 ghost use Rattle.header_octets.specs.Octets.{target_part, target_extent, operation_extent, principal_extent, context_extent, profile_extent};
 
 use cdr_fields::Extent;
-use header::{HeaderAnswer, NumberedAnswer};
+use header::MessageHeader;
 use header_parts::TargetAddress;
 
 // The octets that a request is addressed to: the key, the profile's octets, or the reference's type id without its final zero; none of a reply or a
@@ -15,12 +15,9 @@ pub fn target<'a>(s: &'a [u8]) -> &'a [u8]
     ensures { PartOf s.entry (target_extent s.now) result }
 {
     match header::read(s) {
-        HeaderAnswer::Called(request) => {
-            let target = request.target;
-            cdr_fields::octets_in(s, target_part(target))
-        }
-        HeaderAnswer::Answered(_) => &s[0..0], // no target
-        HeaderAnswer::Refused(_) => &s[0..0],
+        Ok(MessageHeader::Called(request)) => cdr_fields::octets_in(s, target_part(request.target)),
+        Ok(MessageHeader::Answered(_)) => &s[0..0], // no target
+        Err(_) => &s[0..0],
     }
 }
 
@@ -29,13 +26,8 @@ fn target_part(target: TargetAddress) -> Extent
     ensures { result ≡ target_part target }
 {
     match target {
-        TargetAddress::Key(octets) => octets,
-        TargetAddress::Profile { tag: _, octets } => octets,
-        TargetAddress::Reference {
-            index: _,
-            id,
-            profiles: _,
-        } => id,
+        TargetAddress::Key(octets) | TargetAddress::Profile { octets, .. } => octets,
+        TargetAddress::Reference { id, .. } => id,
     }
 }
 
@@ -44,9 +36,9 @@ pub fn operation<'a>(s: &'a [u8]) -> &'a [u8]
     ensures { PartOf s.entry (operation_extent s.now) result }
 {
     match header::read(s) {
-        HeaderAnswer::Called(request) => cdr_fields::octets_in(s, request.operation),
-        HeaderAnswer::Answered(_) => &s[0..0], // no operation
-        HeaderAnswer::Refused(_) => &s[0..0],
+        Ok(MessageHeader::Called(request)) => cdr_fields::octets_in(s, request.operation),
+        Ok(MessageHeader::Answered(_)) => &s[0..0], // no operation
+        Err(_) => &s[0..0],
     }
 }
 
@@ -55,9 +47,9 @@ pub fn principal<'a>(s: &'a [u8]) -> &'a [u8]
     ensures { PartOf s.entry (principal_extent s.now) result }
 {
     match header::read(s) {
-        HeaderAnswer::Called(request) => cdr_fields::octets_in(s, request.principal),
-        HeaderAnswer::Answered(_) => &s[0..0], // no principal
-        HeaderAnswer::Refused(_) => &s[0..0],
+        Ok(MessageHeader::Called(request)) => cdr_fields::octets_in(s, request.principal),
+        Ok(MessageHeader::Answered(_)) => &s[0..0], // no principal
+        Err(_) => &s[0..0],
     }
 }
 
@@ -66,8 +58,8 @@ pub fn context<'a>(s: &'a [u8], number: u64) -> &'a [u8]
     ensures { PartOf s.entry (context_extent s.now number) result }
 {
     match header::context(s, number) {
-        NumberedAnswer::Found { tag: _, octets } => cdr_fields::octets_in(s, octets),
-        NumberedAnswer::Refused(_) => &s[0..0],
+        Ok((_, octets)) => cdr_fields::octets_in(s, octets),
+        Err(_) => &s[0..0],
     }
 }
 
@@ -76,7 +68,7 @@ pub fn target_profile<'a>(s: &'a [u8], number: u64) -> &'a [u8]
     ensures { PartOf s.entry (profile_extent s.now number) result }
 {
     match header::target_profile(s, number) {
-        NumberedAnswer::Found { tag: _, octets } => cdr_fields::octets_in(s, octets),
-        NumberedAnswer::Refused(_) => &s[0..0],
+        Ok((_, octets)) => cdr_fields::octets_in(s, octets),
+        Err(_) => &s[0..0],
     }
 }

@@ -11,72 +11,63 @@
 --   target_of_kind      what follows a kind: 72 where it is none of the three; a negative one is read as above them
 --   kind_then          what a field gives as a kind
 --   target_at          a target
-use Rattle.std.specs.Prelude.{ℕ, List, cond, eqb}
+use Rattle.std.specs.Prelude.{ℕ, List, cond, eqb, Option, Some, None, Result, Ok, Err}
 use Rattle.cdr.specs.declared.Index.{Index}
 use Rattle.cdr.specs.declared.Order.{Order}
 use Rattle.cdr.specs.declared.Size.TheVariants.{Two, Four}
-use Rattle.cdr_fields.specs.declared.Field.{Field}
-use Rattle.cdr_fields.specs.declared.Field.TheVariants.{Value, NoField}
 use Rattle.cdr_fields.specs.declared.Extent.{Extent}
-use Rattle.cdr_fields.specs.declared.CountedAt.{CountedAt}
-use Rattle.cdr_fields.specs.declared.CountedAt.TheVariants.{Span, NoSpan}
-use Rattle.cdr_fields.specs.declared.Tagged.{Tagged}
-use Rattle.cdr_fields.specs.declared.Tagged.TheVariants.{Tag, NoTag}
-use Rattle.cdr_fields.specs.declared.TaggedListAt.{TaggedListAt}
-use Rattle.cdr_fields.specs.declared.TaggedListAt.TheVariants.{Listed, NoList}
 use Rattle.cdr_fields.specs.Encapsulation.{field_of}
 use Rattle.cdr_fields.specs.Extents.{counted_at}
 use Rattle.cdr_fields.specs.Tagged.{tagged_at, tagged_list_at}
 use Rattle.header_parts.specs.declared.Refusal.TheVariants.{Ends, NoSuchTarget}
-use Rattle.header_parts.specs.declared.TextPart.{TextPart}
-use Rattle.header_parts.specs.declared.TextPart.TheVariants.{Text, Refused as no_text}
 use Rattle.header_parts.specs.declared.TargetAddress.TheVariants.{Key, Profile, Reference}
-use Rattle.header_parts.specs.declared.TargetPart.{TargetPart}
-use Rattle.header_parts.specs.declared.TargetPart.TheVariants.{To, Refused as no_target}
 use Rattle.header_parts.specs.Parts.{header_text_at}
+use Rattle.cdr_fields.specs.declared.TaggedList.{TaggedList}
+use Rattle.header_parts.specs.declared.Refusal.{Refusal}
+use Rattle.header_parts.specs.declared.TargetAddress.{TargetAddress}
 
-abbrev pub key_found : CountedAt → TargetPart
-key_found (Span octets next) = To (Key octets) next
-key_found NoSpan = no_target Ends
+abbrev pub key_found : Option (Extent × Index) → Result (TargetAddress × Index) Refusal
+key_found (Some (octets, next)) = Ok (Key octets, next)
+key_found None = Err Ends
 
-unfoldable pub key_target : List ℕ → Index → Order → TargetPart
+unfoldable pub key_target : List ℕ → Index → Order → Result (TargetAddress × Index) Refusal
 key_target v i order = key_found (counted_at v i order)
 
-abbrev pub profile_found : Tagged → TargetPart
-profile_found (Tag tag octets next) = To (Profile tag octets) next
-profile_found NoTag = no_target Ends
+abbrev pub profile_found : Option (ℕ × Extent × Index) → Result (TargetAddress × Index) Refusal
+profile_found (Some (tag, octets, next)) = Ok (Profile tag octets, next)
+profile_found None = Err Ends
 
-unfoldable pub profile_target : List ℕ → Index → Order → TargetPart
+unfoldable pub profile_target : List ℕ → Index → Order → Result (TargetAddress × Index) Refusal
 profile_target v i order = profile_found (tagged_at v i order)
 
-abbrev pub profiles_found : ℕ → Extent → TaggedListAt → TargetPart
-profiles_found index id (Listed profiles next) = To (Reference index id profiles) next
-profiles_found index id NoList = no_target Ends
+abbrev pub profiles_found : ℕ → Extent → Option (TaggedList × Index) → Result (TargetAddress × Index) Refusal
+profiles_found index id (Some (profiles, next)) = Ok (Reference index id profiles, next)
+profiles_found index id None = Err Ends
 
-abbrev pub on_header_text : TextPart → (Extent → Index → TargetPart) → TargetPart
-on_header_text (Text text next) f = f text next
-on_header_text (no_text r) f = no_target r
+abbrev pub on_header_text : Result (Extent × Index) Refusal → (Extent → Index → Result (TargetAddress × Index) Refusal) → Result (TargetAddress × Index) Refusal
+on_header_text (Ok (text, next)) f = f text next
+on_header_text (Err r) f = Err r
 
-unfoldable pub type_id_then : List ℕ → ℕ → Index → Order → TargetPart
+unfoldable pub type_id_then : List ℕ → ℕ → Index → Order → Result (TargetAddress × Index) Refusal
 type_id_then v index i order = on_header_text (header_text_at v i order) (λ id next. profiles_found index id (tagged_list_at v next order))
 
-abbrev pub index_then : List ℕ → Order → Field → TargetPart
-index_then v order (Value index next) = type_id_then v index next order
-index_then v order NoField = no_target Ends
+abbrev pub index_then : List ℕ → Order → Option (ℕ × Index) → Result (TargetAddress × Index) Refusal
+index_then v order (Some (index, next)) = type_id_then v index next order
+index_then v order None = Err Ends
 
-unfoldable pub reference_target : List ℕ → Index → Order → TargetPart
+unfoldable pub reference_target : List ℕ → Index → Order → Result (TargetAddress × Index) Refusal
 reference_target v i order = index_then v order (field_of v i Four order)
 
-abbrev pub target_of_kind : List ℕ → ℕ → Index → Order → TargetPart
+abbrev pub target_of_kind : List ℕ → ℕ → Index → Order → Result (TargetAddress × Index) Refusal
 target_of_kind v kind i order =
     cond (eqb kind 0) (key_target v i order)
     (cond (eqb kind 1) (profile_target v i order)
     (cond (eqb kind 2) (reference_target v i order)
-    (no_target NoSuchTarget)))
+    (Err NoSuchTarget)))
 
-abbrev pub kind_then : List ℕ → Order → Field → TargetPart
-kind_then v order (Value kind next) = target_of_kind v kind next order
-kind_then v order NoField = no_target Ends
+abbrev pub kind_then : List ℕ → Order → Option (ℕ × Index) → Result (TargetAddress × Index) Refusal
+kind_then v order (Some (kind, next)) = target_of_kind v kind next order
+kind_then v order None = Err Ends
 
-unfoldable pub target_at : List ℕ → Index → Order → TargetPart
+unfoldable pub target_at : List ℕ → Index → Order → Result (TargetAddress × Index) Refusal
 target_at v i order = kind_then v order (field_of v i Two order)

@@ -5,7 +5,7 @@
 --   ReadsOutcome      the request id and the status
 --   ReadsKeyAddress   the key and the operation
 --   ReadsAddress      the target and the operation
-use Rattle.std.specs.Prelude.{ℕ, ◌≡◌, List, ◌∷◌}
+use Rattle.std.specs.Prelude.{ℕ, ◌≡◌, List, ◌∷◌, Result, Ok, Err}
 use Rattle.cdr.specs.declared.Index.{Index}
 use Rattle.cdr.specs.declared.Order.{Order}
 use Rattle.cdr_fields.specs.declared.Extent.{Extent}
@@ -13,42 +13,40 @@ use Rattle.header_layout.specs.declared.HeaderPart.{HeaderPart}
 use Rattle.header_layout.specs.declared.HeaderPart.TheVariants.{Id, Response, Reserved, Key, Target as Addressed, Operation, Status}
 use Rattle.header_parts.specs.declared.TargetAddress.{TargetAddress}
 use Rattle.header_reading.specs.declared.CallPart.{CallPart}
-use Rattle.header_reading.specs.declared.CallPart.TheVariants.{Call, Refused as no_call}
 use Rattle.header_reading.specs.declared.OutcomePart.{OutcomePart}
-use Rattle.header_reading.specs.declared.OutcomePart.TheVariants.{Outcome, Refused as no_outcome}
 use Rattle.header_reading.specs.declared.AddressPart.{AddressPart}
-use Rattle.header_reading.specs.declared.AddressPart.TheVariants.{Address, Refused as no_address}
 use Rattle.header_reading.specs.Reading.{HeaderFields, HeaderUpto, stopped, parts_read}
 use Rattle.header_reading.specs.Reading.{id_set, response_set, target_set, operation_set, status_set}
+use Rattle.header_parts.specs.declared.Refusal.{Refusal}
 
-abbrev pub on_call : CallPart → (ℕ → ℕ → Index → HeaderUpto) → HeaderUpto
-on_call (Call id response next) f = f id response next
-on_call (no_call r) f = stopped r
+abbrev pub on_call : Result CallPart Refusal → (ℕ → ℕ → Index → HeaderUpto) → HeaderUpto
+on_call (Ok call) f = f call.id call.response call.next
+on_call (Err r) f = stopped r
 
-abbrev pub on_outcome : OutcomePart → (ℕ → ℕ → Index → HeaderUpto) → HeaderUpto
-on_outcome (Outcome id status next) f = f id status next
-on_outcome (no_outcome r) f = stopped r
+abbrev pub on_outcome : Result OutcomePart Refusal → (ℕ → ℕ → Index → HeaderUpto) → HeaderUpto
+on_outcome (Ok outcome) f = f outcome.id outcome.status outcome.next
+on_outcome (Err r) f = stopped r
 
-abbrev pub on_address : AddressPart → (TargetAddress → Extent → Index → HeaderUpto) → HeaderUpto
-on_address (Address target operation next) f = f target operation next
-on_address (no_address r) f = stopped r
+abbrev pub on_address : Result AddressPart Refusal → (TargetAddress → Extent → Index → HeaderUpto) → HeaderUpto
+on_address (Ok address) f = f address.target address.operation address.next
+on_address (Err r) f = stopped r
 
-pub record ReadsCall (v : List ℕ) (order : Order) (minor : ℕ) (at : Index) (r : CallPart) : Type 0 where
+pub record ReadsCall (v : List ℕ) (order : Order) (minor : ℕ) (at : Index) (r : Result CallPart Refusal) : Type 0 where
   pub reads : (xs : List HeaderPart) (f : HeaderFields)
       → parts_read v order minor (Id ∷ Response ∷ Reserved ∷ xs) f at
       ≡ on_call r (λ id response next. parts_read v order minor xs (response_set (id_set f id) response) next)
 
-pub record ReadsOutcome (v : List ℕ) (order : Order) (minor : ℕ) (at : Index) (r : OutcomePart) : Type 0 where
+pub record ReadsOutcome (v : List ℕ) (order : Order) (minor : ℕ) (at : Index) (r : Result OutcomePart Refusal) : Type 0 where
   pub reads : (xs : List HeaderPart) (f : HeaderFields)
       → parts_read v order minor (Id ∷ Status ∷ xs) f at
       ≡ on_outcome r (λ id status next. parts_read v order minor xs (status_set (id_set f id) status) next)
 
-pub record ReadsKeyAddress (v : List ℕ) (order : Order) (minor : ℕ) (at : Index) (r : AddressPart) : Type 0 where
+pub record ReadsKeyAddress (v : List ℕ) (order : Order) (minor : ℕ) (at : Index) (r : Result AddressPart Refusal) : Type 0 where
   pub reads : (xs : List HeaderPart) (f : HeaderFields)
       → parts_read v order minor (Key ∷ Operation ∷ xs) f at
       ≡ on_address r (λ target operation next. parts_read v order minor xs (operation_set (target_set f target) operation) next)
 
-pub record ReadsAddress (v : List ℕ) (order : Order) (minor : ℕ) (at : Index) (r : AddressPart) : Type 0 where
+pub record ReadsAddress (v : List ℕ) (order : Order) (minor : ℕ) (at : Index) (r : Result AddressPart Refusal) : Type 0 where
   pub reads : (xs : List HeaderPart) (f : HeaderFields)
       → parts_read v order minor (Addressed ∷ Operation ∷ xs) f at
       ≡ on_address r (λ target operation next. parts_read v order minor xs (operation_set (target_set f target) operation) next)

@@ -10,22 +10,14 @@
 --   part_read        a part, at an index
 --   on_part          what follows what was read
 --   parts_read       parts one after the other: "first fault in octet order"
-use Rattle.std.specs.Prelude.{ℕ, List, [], ◌∷◌}
+use Rattle.std.specs.Prelude.{ℕ, List, [], ◌∷◌, Option, Some, None, Result, Ok, Err}
 use Rattle.cdr.specs.declared.Index.{Index}
 use Rattle.cdr.specs.declared.Order.{Order}
 use Rattle.cdr.specs.declared.Size.TheVariants.{Four}
 use Rattle.cdr.specs.Align.{index_of}
-use Rattle.cdr_text.specs.declared.Run.{Run}
-use Rattle.cdr_text.specs.declared.Run.TheVariants.{To as upto, Past}
 use Rattle.cdr_text.specs.Text.{run_of}
 use Rattle.cdr_fields.specs.declared.Extent.{Extent}
-use Rattle.cdr_fields.specs.declared.Field.{Field}
-use Rattle.cdr_fields.specs.declared.Field.TheVariants.{Value, NoField}
-use Rattle.cdr_fields.specs.declared.CountedAt.{CountedAt}
-use Rattle.cdr_fields.specs.declared.CountedAt.TheVariants.{Span, NoSpan}
 use Rattle.cdr_fields.specs.declared.TaggedList.{TaggedList}
-use Rattle.cdr_fields.specs.declared.TaggedListAt.{TaggedListAt}
-use Rattle.cdr_fields.specs.declared.TaggedListAt.TheVariants.{Listed, NoList}
 use Rattle.cdr_fields.specs.Encapsulation.{start, field_of}
 use Rattle.cdr_fields.specs.Extents.{no_extent, counted_at}
 use Rattle.cdr_fields.specs.Tagged.{tagged_list, tagged_list_at}
@@ -34,14 +26,8 @@ use Rattle.header_layout.specs.declared.HeaderPart.{HeaderPart}
 use Rattle.header_layout.specs.declared.HeaderPart.TheVariants.{Contexts, Id, Response, Reserved, Key, Target as Addressed, Operation, Principal, Status}
 use Rattle.header_parts.specs.declared.Refusal.{Refusal}
 use Rattle.header_parts.specs.declared.Refusal.TheVariants.{Ends}
-use Rattle.header_parts.specs.declared.NumberField.{NumberField}
-use Rattle.header_parts.specs.declared.NumberField.TheVariants.{Number, Refused as no_number}
-use Rattle.header_parts.specs.declared.TextPart.{TextPart}
-use Rattle.header_parts.specs.declared.TextPart.TheVariants.{Text, Refused as no_text}
 use Rattle.header_parts.specs.declared.TargetAddress.{TargetAddress}
 use Rattle.header_parts.specs.declared.TargetAddress.TheVariants.{Key as key}
-use Rattle.header_parts.specs.declared.TargetPart.{TargetPart}
-use Rattle.header_parts.specs.declared.TargetPart.TheVariants.{To, Refused as no_target}
 use Rattle.header_parts.specs.Parts.{response_at, status_at, header_text_at}
 use Rattle.header_parts.specs.Targets.{key_target, target_at}
 
@@ -85,33 +71,33 @@ pub data HeaderUpto : Type 0 where
   through : HeaderFields → Index → HeaderUpto
   stopped : Refusal → HeaderUpto
 
-abbrev pub after_field : Field → (ℕ → HeaderFields) → HeaderUpto
-after_field (Value x next) f = through (f x) next
-after_field NoField f = stopped Ends
+abbrev pub after_field : Option (ℕ × Index) → (ℕ → HeaderFields) → HeaderUpto
+after_field (Some (x, next)) f = through (f x) next
+after_field None f = stopped Ends
 
-abbrev pub after_number : NumberField → (ℕ → HeaderFields) → HeaderUpto
-after_number (Number x next) f = through (f x) next
-after_number (no_number r) f = stopped r
+abbrev pub after_number : Result (ℕ × Index) Refusal → (ℕ → HeaderFields) → HeaderUpto
+after_number (Ok (x, next)) f = through (f x) next
+after_number (Err r) f = stopped r
 
-abbrev pub after_list : TaggedListAt → (TaggedList → HeaderFields) → HeaderUpto
-after_list (Listed x next) f = through (f x) next
-after_list NoList f = stopped Ends
+abbrev pub after_list : Option (TaggedList × Index) → (TaggedList → HeaderFields) → HeaderUpto
+after_list (Some (x, next)) f = through (f x) next
+after_list None f = stopped Ends
 
-abbrev pub after_counted : CountedAt → (Extent → HeaderFields) → HeaderUpto
-after_counted (Span x next) f = through (f x) next
-after_counted NoSpan f = stopped Ends
+abbrev pub after_counted : Option (Extent × Index) → (Extent → HeaderFields) → HeaderUpto
+after_counted (Some (x, next)) f = through (f x) next
+after_counted None f = stopped Ends
 
-abbrev pub after_text : TextPart → (Extent → HeaderFields) → HeaderUpto
-after_text (Text x next) f = through (f x) next
-after_text (no_text r) f = stopped r
+abbrev pub after_text : Result (Extent × Index) Refusal → (Extent → HeaderFields) → HeaderUpto
+after_text (Ok (x, next)) f = through (f x) next
+after_text (Err r) f = stopped r
 
-abbrev pub after_target : TargetPart → (TargetAddress → HeaderFields) → HeaderUpto
-after_target (To x next) f = through (f x) next
-after_target (no_target r) f = stopped r
+abbrev pub after_target : Result (TargetAddress × Index) Refusal → (TargetAddress → HeaderFields) → HeaderUpto
+after_target (Ok (x, next)) f = through (f x) next
+after_target (Err r) f = stopped r
 
-abbrev pub after_reserved : Run → HeaderFields → HeaderUpto
-after_reserved (upto e) f = through f (index_of e)
-after_reserved Past f = stopped Ends
+abbrev pub after_reserved : Option ℕ → HeaderFields → HeaderUpto
+after_reserved (Some e) f = through f (index_of e)
+after_reserved None f = stopped Ends
 
 unfoldable pub part_read : List ℕ → Order → ℕ → HeaderPart → HeaderFields → Index → HeaderUpto
 part_read v order minor Contexts f i = after_list (tagged_list_at v i order) (contexts_set f)

@@ -7,7 +7,7 @@ use native.Mathlib.Omega.{arith}
 use lib.Dec.{lit<}
 use lib.ListN.{length, get_or}
 use Rattle.choices.proofs.Choices.{and-true}
-use Rattle.hexline.specs.Digit.{is_digit}
+use Rattle.hexline.specs.Digit.{is_digit, digit_value}
 use Rattle.hexline.specs.Decoding.{all_digits, octet_of, line_octets}
 use Rattle.hexline.specs.Encoding.{octet_digits}
 use Rattle.hexline.proofs.DigitValues.{value-below, upper-digit, upper-value}
@@ -25,6 +25,10 @@ unfolding all_digits
 digit_at [] h k l = absurd (omega arith)
 digit_at (c ∷ cs) h zero l = (and-true (is_digit c) (all_digits cs) h).0
 digit_at (c ∷ cs) h (suc k) l = digit_at cs (and-true (is_digit c) (all_digits cs) h).1 k (omega arith)
+
+-- and its value is below 16
+pub value-at : (line : List ℕ) → all_digits line ≡ true → (k v : ℕ) → k < length line → v ≡ digit_value (get_or line k 0) → v < 16
+value-at line h k v l e = rw e (value-below (get_or line k 0) (digit_at line h k l))
 
 -- two digits make a number below 256
 pub octet-below : (c d : ℕ) → is_digit c ≡ true → is_digit d ≡ true → octet_of c d < 256

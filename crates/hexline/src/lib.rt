@@ -10,87 +10,72 @@ ghost use Rattle.hexline.specs.Encoding.{octet_digits, encoded_number, Encodes};
 // The most characters of a line.
 pub const LINE_LIMIT: usize = 8192;
 
-// What decoding gives: the number of octets written, or why nothing was.
+// Why a line's octets are not written.
 #[derive(Clone, Copy)]
-pub enum Decoded {
-    Octets(usize),
+pub enum Undecoded {
     TooLong,
     NotDigits,
     NoRoom,
 }
 
-impl Decoded {
-    // The paper's number of the answer, 0 where the octets are written.
-    // For no room our choice of number: 01's for an output that is too short.
-    pub fn number(self) -> u32
-        ensures { result ≡ decoded_number self }
-    {
-        match self {
-            Decoded::Octets(_) => 0,
-            Decoded::TooLong => refusals::LINE_TOO_LONG,
-            Decoded::NotDigits => refusals::NOT_DIGITS,
-            Decoded::NoRoom => refusals::NO_ROOM,
-        }
+// The paper's number of what decoding gives, 0 where the octets are written.
+// For no room our choice of number: 01's for an output that is too short.
+pub fn decoded_number(answer: Result<usize, Undecoded>) -> u32
+    ensures { result ≡ decoded_number answer }
+{
+    match answer {
+        Ok(_) => 0,
+        Err(Undecoded::TooLong) => refusals::LINE_TOO_LONG,
+        Err(Undecoded::NotDigits) => refusals::NOT_DIGITS,
+        Err(Undecoded::NoRoom) => refusals::NO_ROOM,
     }
 }
 
-// What encoding octets gives: the number of digits written, or that there was no room.
-#[derive(Clone, Copy)]
-pub enum Encoded {
-    Digits(usize),
-    NoRoom,
-}
-
-impl Encoded {
-    // 0 where the digits are written. For no room our choice of number: 01's for an output that is too short.
-    pub fn number(self) -> u32
-        ensures { result ≡ encoded_number self }
-    {
-        match self {
-            Encoded::Digits(_) => 0,
-            Encoded::NoRoom => refusals::NO_ROOM,
-        }
+// The number of what encoding gives, 0 where the digits are written. For no room our choice of number: 01's for an output that is too short.
+pub fn encoded_number(answer: Option<usize>) -> u32
+    ensures { result ≡ encoded_number answer }
+{
+    match answer {
+        Some(_) => 0,
+        None => refusals::NO_ROOM,
     }
 }
 
 // A line's octets, written from the start of `out`; nothing is written on a refusal.
-pub fn decode(line: &[u8], out: &mut [u8]) -> Decoded
+pub fn decode(line: &[u8], out: &mut [u8]) -> Result<usize, Undecoded>
     ensures { Decodes decoded_of line.now out.old result out.new }
 {
     if LINE_LIMIT < line.len() {
-        return Decoded::TooLong;
+        return Err(Undecoded::TooLong);
     }
     decode_digits(line, out)
 }
 
 // The octets of any number of digits, written from the start of `out`; nothing is written on a refusal.
-pub fn decode_digits(digits: &[u8], out: &mut [u8]) -> Decoded
+pub fn decode_digits(digits: &[u8], out: &mut [u8]) -> Result<usize, Undecoded>
     ensures { Decodes digits_decoded digits.now out.old result out.new }
 {
-    if digits.len() % 2 == 1 {
-        return Decoded::NotDigits;
-    }
-    if !all_digits(digits) {
-        return Decoded::NotDigits;
+    if digits.len() % 2 == 1 || !all_digits(digits) {
+        return Err(Undecoded::NotDigits);
     }
     let n = digits.len() / 2;
     if out.len() < n {
-        return Decoded::NoRoom;
+        return Err(Undecoded::NoRoom);
     }
     write_octets(digits, out);
-    Decoded::Octets(n)
+    Ok(n)
 }
 
 // The upper-case digits of octets, written from the start of `out`, or nothing where they do not fit.
-pub fn encode(octets: &[u8], out: &mut [u8]) -> Encoded
+pub fn encode(octets: &[u8], out: &mut [u8]) -> Option<usize>
     ensures { Encodes octets.now out.old result out.new }
 {
     // The room is halved, since twice the octets need not fit a usize.
     if out.len() / 2 < octets.len() {
-        return Encoded::NoRoom;
+        return None;
     }
     write_digits(octets, out);
-    Encoded::Digits(octets.len() * 2)
+    Some(octets.len() * 2)
 }
 
 // Whether every character is a digit. No early end.
@@ -98,10 +83,8 @@ fn all_digits(characters: &[u8]) -> bool
     ensures { result ≡ all_digits characters.now }
 {
     let mut all = true;
-    let mut i = 0;
-    while i < characters.len() {
-        all = all & is_digit(characters[i]);
-        i += 1;
+    for c in characters {
+        all &= is_digit(*c);
     }
     all
 }
@@ -111,14 +94,10 @@ fn write_octets(digits: &[u8], out: &mut [u8])
     requires { (all_digits digits.now ≡ true) × (length digits.now / 2 ≤ length out.old) }
     ensures { out.new ≡ sets out.old 0 (line_octets digits.now) }
 {
-    let n = digits.len() / 2;
-    let mut k = 0;
-    while k < n {
-        let j = k * 2;
-        let high = digit_value(digits[j]);
-        let low = digit_value(digits[j + 1]);
+    for k in 0..digits.len() / 2 {
+        let high = digit_value(digits[k * 2]);
+        let low = digit_value(digits[k * 2 + 1]);
         out[k] = high * 16 + low;
-        k += 1;
     }
 }
 
@@ -127,17 +106,15 @@ fn write_digits(octets: &[u8], out: &mut [u8])
     requires { length octets.now * 2 ≤ length out.old }
     ensures { out.new ≡ sets out.old 0 (octet_digits octets.now) }
 {
-    let mut k = 0;
-    while k < octets.len() {
+    for k in 0..octets.len() {
         let x = octets[k];
-        let j = k * 2;
-        out[j] = upper_digit(x / 16);
-        out[j + 1] = upper_digit(x % 16);
-        k += 1;
+        out[k * 2] = upper_digit(x / 16);
+        out[k * 2 + 1] = upper_digit(x % 16);
     }
 }
 
 // Whether a character is a digit of either case.
+#[tactic(auto, unfolding(crate::specs::Digit::is_digit))]
 fn is_digit(c: u8) -> bool
     ensures { result ≡ is_digit c }
 {
@@ -156,6 +133,7 @@ fn digit_value(c: u8) -> u8
 }
 
 // The upper-case digit of a number below 16.
+#[tactic(auto, unfolding(crate::specs::Digit::upper_digit))]
 fn upper_digit(v: u8) -> u8
     requires { v < 16 }
     ensures { result ≡ upper_digit v }

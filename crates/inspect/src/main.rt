@@ -14,12 +14,9 @@ const BLOCK: usize = 65536;
 // The characters that answers are gathered to, at least, before they are written.
 const GATHERED: usize = 65536;
 
-// Where answering stands: the characters kept of the line begun, and whether every read and write has gone well.
+// That the program stops: a read or a write failed, memory has no room, or the input outlasts the reads. Standard error says which.
 #[derive(Clone, Copy)]
-struct Standing {
-    kept: usize,
-    ok: bool,
-}
+struct Stopped;
 
 fn main(rt: HostRuntime) -> ExitCode {
     let mut block = [0u8; BLOCK];
@@ -28,7 +25,7 @@ fn main(rt: HostRuntime) -> ExitCode {
     let mut table = [0u64; TABLE_ROOM];
     let mut input = rt.stdin();
     let mut output = rt.stdout();
-    let is_whole = answer_all(
+    let answered = answer_all(
         &rt,
         &mut input,
         &mut output,
@@ -37,14 +34,13 @@ fn main(rt: HostRuntime) -> ExitCode {
         &mut out,
         &mut table,
     );
-    if is_whole {
-        ExitCode::SUCCESS
-    } else {
-        ExitCode::FAILURE
+    match answered {
+        Ok(()) => ExitCode::SUCCESS,
+        Err(Stopped) => ExitCode::FAILURE,
     }
 }
 
-// Answers all questions of the input, in lent memory; says whether every read and write has gone well.
+// Answers all questions of the input, in lent memory.
 fn answer_all<R: Read, W: Write>(
     rt: &impl Eprint,
     input: &mut R,
@@ -53,12 +49,12 @@ fn answer_all<R: Read, W: Write>(
     line: &mut [u8],
     out: &mut [u8],
     table: &mut [u64],
-) -> bool {
-    let read = read_all(rt, input, output, block, line, out, table);
-    read.ok && end_line(rt, output, line, out, table, read.kept)
+) -> Result<(), Stopped> {
+    let kept = read_all(rt, input, output, block, line, out, table)?;
+    end_line(rt, output, line, out, table, kept)
 }
 
-// Reads the input to its end, and writes the answer of every line that ends in an LF.
+// Reads the input to its end, and writes the answer of every line that ends in an LF; says how many characters it keeps of the line begun.
 fn read_all<R: Read, W: Write>(
     rt: &impl Eprint,
     input: &mut R,
@@ -67,30 +63,24 @@ fn read_all<R: Read, W: Write>(
     line: &mut [u8],
     out: &mut [u8],
     table: &mut [u64],
-) -> Standing {
+) -> Result<usize, Stopped> {
     let mut kept = 0;
     for _ in 0..READS {
-        match input.read(block) {
-            Ok(n) => {
-                if n == 0 {
-                    return Standing { kept, ok: true };
-                }
-                let taken = take_block(rt, output, &block[..n], line, out, table, kept);
-                if !taken.ok {
-                    return taken;
-                }
-                kept = taken.kept;
-            }
-            Err(e) => {
-                program::say_unread(rt, e);
-                return stopped();
-            }
+        let n = input.read(block).map_err(|why| {
+            program::say_unread(rt, why);
+            Stopped
+        })?;
+        if n == 0 {
+            return Ok(kept);
         }
+        kept = take_block(rt, output, &block[..n], line, out, table, kept)?;
     }
-    endless(rt)
+    program::say_endless(rt);
+    Err(Stopped)
 }
 
-// Writes the answers of the lines that end in a block, as many at a time as there is memory for.
+// Writes the answers of the lines that end in a block, as many at a time as there is memory for; says how many characters
+// it keeps of the line begun.
 fn take_block<W: Write>(
     rt: &impl Eprint,
     output: &mut W,
@@ -99,25 +89,26 @@ fn take_block<W: Write>(
     out: &mut [u8],
     table: &mut [u64],
     before: usize,
-) -> Standing {
+) -> Result<usize, Stopped> {
     let mut kept = before;
     let mut from = 0;
+    // No `for`: each call says how far it came.
     while from < block.len() {
         let done = questions::answer_block(block, from, line, out, table, kept);
-        kept = done.kept;
-        let next = done.next;
-        if next <= from {
-            return stuck(rt);
+        if done.next <= from {
+            program::say_full(rt);
+            return Err(Stopped);
         }
-        from = next;
         if !program::write_text(rt, output, out, done.filled) {
-            return stopped();
+            return Err(Stopped);
         }
+        kept = done.kept;
+        from = done.next;
     }
-    Standing { kept, ok: true }
+    Ok(kept)
 }
 
-// Answers the line that was begun, if one was, as an LF would end it; says whether that went well.
+// Answers the line that was begun, if one was, as an LF would end it.
 fn end_line<W: Write>(
     rt: &impl Eprint,
     output: &mut W,
@@ -125,26 +116,10 @@ fn end_line<W: Write>(
     out: &mut [u8],
     table: &mut [u64],
     kept: usize,
-) -> bool {
+) -> Result<(), Stopped> {
     if kept == 0 {
-        return true;
+        return Ok(());
     }
-    take_block(rt, output, b"\n", line, out, table, kept).ok
-}
-
-// A read or a write has not gone well, and it was said.
-fn stopped() -> Standing {
-    Standing { kept: 0, ok: false }
-}
-
-// The output's memory has no room for an answer.
-fn stuck(rt: &impl Eprint) -> Standing {
-    program::say_full(rt);
-    stopped()
-}
-
-// The input outlasts the reads.
-fn endless(rt: &impl Eprint) -> Standing {
-    program::say_endless(rt);
-    stopped()
+    take_block(rt, output, b"\n", line, out, table, kept)?;
+    Ok(())
 }

@@ -3,14 +3,12 @@
 --   answer_number    the number of each answer: "0 whole message; 1 held (a first or middle fragment); 2 joined; 3 a CancelRequest
 --                   whose id was open"
 --   output_in        how many octets an answer writes: "Answers 0, 2 and 3 write a message"
-use Rattle.std.specs.Prelude.{ℕ}
+use Rattle.std.specs.Prelude.{ℕ, Option, Some, None, Result, Ok, Err}
 use Rattle.frame.specs.Frames.{row_number}
 use Rattle.join_answers.specs.declared.Refusal.{Refusal}
 use Rattle.join_answers.specs.declared.Refusal.TheVariants.{Frame, BadRecord, IdOpen, NoPlaceFree, IdNotOpen, FirstDiffers, TooLong, NoRoom}
+use Rattle.join_answers.specs.declared.Answer.TheVariants.{Cancelled, Held, Joined, Whole}
 use Rattle.join_answers.specs.declared.Answer.{Answer}
-use Rattle.join_answers.specs.declared.Answer.TheVariants.{Whole, Held, Joined, Cancelled, Refused}
-use Rattle.join_answers.specs.declared.Output.{Output}
-use Rattle.join_answers.specs.declared.Output.TheVariants.{Message, Nothing}
 
 abbrev pub join_refusal_number : Refusal → ℕ
 join_refusal_number (Frame row) = row_number row
@@ -22,16 +20,16 @@ join_refusal_number TooLong = 26
 join_refusal_number NoRoom = 27
 join_refusal_number BadRecord = 28
 
-abbrev pub answer_number : Answer → ℕ
-answer_number (Whole n) = 0
-answer_number Held = 1
-answer_number (Joined n) = 2
-answer_number (Cancelled n) = 3
-answer_number (Refused why) = join_refusal_number why
+abbrev pub answer_number : Result Answer Refusal → ℕ
+answer_number (Ok (Whole n)) = 0
+answer_number (Ok Held) = 1
+answer_number (Ok (Joined n)) = 2
+answer_number (Ok (Cancelled n)) = 3
+answer_number (Err why) = join_refusal_number why
 
-abbrev pub output_in : Answer → Output
-output_in (Whole n) = Message n
-output_in Held = Nothing
-output_in (Joined n) = Message n
-output_in (Cancelled n) = Message n
-output_in (Refused why) = Nothing
+abbrev pub output_in : Result Answer Refusal → Option ℕ
+output_in (Ok (Whole n)) = Some n
+output_in (Ok Held) = None
+output_in (Ok (Joined n)) = Some n
+output_in (Ok (Cancelled n)) = Some n
+output_in (Err why) = None

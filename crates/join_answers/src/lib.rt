@@ -3,6 +3,7 @@
 
 ghost use Rattle.std.specs.Prelude.{◌≡◌};
 ghost use Rattle.join_answers.specs.Answers.{join_refusal_number, answer_number, output_in};
+ghost use Rattle.join_answers.specs.declared.Refusal.TheVariants.{Frame};
 
 // A refusal: a row of the frame header's table, or a rule of joining.
 #[derive(Clone, Copy)]
@@ -15,6 +16,15 @@ pub enum Refusal {
     TooLong,
     NoRoom,
     BadRecord,
+}
+
+impl From<frame::Refusal> for Refusal {
+    ghost from_gives = { λ row result. result ≡ Frame row };
+
+    // A row of the frame's table.
+    fn from(row: frame::Refusal) -> Refusal {
+        Refusal::Frame(row)
+    }
 }
 
 impl Refusal {
@@ -35,47 +45,34 @@ impl Refusal {
     }
 }
 
-// The answer to a line, with the number of octets of the message that it writes.
+// The answer to a line that is not refused, with the number of octets of the message that it writes.
 #[derive(Clone, Copy)]
 pub enum Answer {
     Whole(usize),
     Held,
     Joined(usize),
     Cancelled(usize),
-    Refused(Refusal),
 }
 
-impl Answer {
-    // The paper's number of the answer.
-    pub fn number(self) -> u32
-        ensures { result ≡ answer_number self }
-    {
-        match self {
-            Answer::Whole(_) => 0,
-            Answer::Held => 1,
-            Answer::Joined(_) => 2,
-            Answer::Cancelled(_) => 3,
-            Answer::Refused(why) => why.number(),
-        }
-    }
-
-    // The message that the answer writes.
-    pub fn output(self) -> Output
-        ensures { result ≡ output_in self }
-    {
-        match self {
-            Answer::Whole(n) => Output::Message(n),
-            Answer::Held => Output::Nothing,
-            Answer::Joined(n) => Output::Message(n),
-            Answer::Cancelled(n) => Output::Message(n),
-            Answer::Refused(_) => Output::Nothing,
-        }
+// The paper's number of the answer or the refusal.
+pub fn answer_number(answer: Result<Answer, Refusal>) -> u32
+    ensures { result ≡ answer_number answer }
+{
+    match answer {
+        Ok(Answer::Whole(_)) => 0,
+        Ok(Answer::Held) => 1,
+        Ok(Answer::Joined(_)) => 2,
+        Ok(Answer::Cancelled(_)) => 3,
+        Err(why) => why.number(),
     }
 }
 
-// The octets of the message that an answer writes, if it writes one.
-#[derive(Clone, Copy)]
-pub enum Output {
-    Message(usize),
-    Nothing,
+// The octets of the message that is written, where one is.
+pub fn output_in(answer: Result<Answer, Refusal>) -> Option<usize>
+    ensures { result ≡ output_in answer }
+{
+    match answer {
+        Ok(Answer::Whole(n) | Answer::Joined(n) | Answer::Cancelled(n)) => Some(n),
+        Ok(Answer::Held) | Err(_) => None,
+    }
 }

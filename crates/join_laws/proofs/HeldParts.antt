@@ -1,4 +1,5 @@
 -- The lowest free place, stores in one place that leave the others alone, what a place holds of an open message, and records that are not refused.
+use Rattle.std.specs.Prelude.{Option, Some, None}
 use mathlib.Core.Path.{◌≡◌, refl, sym, ap, ◌∙◌}
 use mathlib.Core.List.{List, [], ◌∷◌, ◌++◌, append-nil, append_assoc}
 use mathlib.Core.Bool.{Bool, true, false, not, ◌&&◌, ◌||◌}
@@ -11,8 +12,6 @@ use lib.Seq.{sets}
 use borrow.Author.Tests.{le-ltb, ne_eqb, not-true, not-false}
 use Rattle.choices.proofs.Choices.{clash, and-true, and-false, or-false}
 use Rattle.join_places.specs.declared.Record.{Record}
-use Rattle.join_places.specs.declared.Found.{Found}
-use Rattle.join_places.specs.declared.Found.TheVariants.{At, Nowhere}
 use Rattle.join_places.specs.Places.{places_count, place_size, place_start, places_size, least_length, is_open, id_of, length_of, held_in, first_with, lowest_free}
 use Rattle.join_places.specs.Places.{both_open, open_before, id_open_twice, length_wrong, some_length_wrong, bad_record}
 use Rattle.join_message.specs.Message.{id_end, body_after_id, bodies}
@@ -22,9 +21,9 @@ use Rattle.join_places.proofs.FoldsChanged.{none-some, FirstOf, first-is}
 use Rattle.join_laws.proofs.PartsAfterStores.{part-before, part-behind, part_filled, part-longer}
 
 -- a place that is free is the lowest, and nowhere is one free only where all are open
-abbrev pub Freed : Record → Found → Type 0
-Freed r (At i) = Lowest r i
-Freed r Nowhere = (i : ℕ) → i < places_count → is_open r i ≡ true
+abbrev pub Freed : Record → Option ℕ → Type 0
+Freed r (Some i) = Lowest r i
+Freed r None = (i : ℕ) → i < places_count → is_open r i ≡ true
 
 pub lowest-free : (r : Record) → Freed r (lowest_free r)
 unfolding lowest_free
@@ -33,10 +32,10 @@ lowest-free r = by_first (first_with free places_count) (first-is free places_co
     free : ℕ → Bool
     free i = not (is_open r i)
 
-    by_first : (f : Found) → FirstOf free places_count f → Freed r f
-    by_first (At i) f =
+    by_first : (f : Option ℕ) → FirstOf free places_count f → Freed r f
+    by_first (Some i) f =
         record { place = f.place; free = not-true (is_open r i) f.here; below = λ j h. not-false (is_open r j) (f.below j h) }
-    by_first Nowhere each = λ i h. not-false (is_open r i) (each i h)
+    by_first None each = λ i h. not-false (is_open r i) (each i h)
 
 -- stores inside one place leave the parts of the others alone
 module _ (l : List ℕ) (i j at n : ℕ) (vs : List ℕ) (apart : j ≡ i → ⊥) (start : place_start i ≤ at)

@@ -1,4 +1,5 @@
 -- Lines one after another: each step keeps what the places hold of the parts, and so do all calls from a fresh record on.
+use Rattle.std.specs.Prelude.{Some, None, Result, Ok, Err}
 use mathlib.Core.Path.{◌≡◌, refl, sym, ap, subst, fun_ext, ◌∙◌}
 use mathlib.Core.List.{List, [], ◌∷◌, ◌++◌}
 use mathlib.Core.Bool.{true, false}
@@ -9,11 +10,11 @@ use lib.ListN.{length, replicate, get_or-replicate, length-set, length-drop}
 use lib.Seq.{sets, length-sets, get_or-set_same, get_or-set_other}
 use Rattle.choices.proofs.Choices.{never_both}
 use Rattle.join_places.specs.declared.Record.{Record}
-use Rattle.join_places.specs.declared.Found.TheVariants.{At, Nowhere}
+use Rattle.join_answers.specs.declared.Refusal.{Refusal}
 use Rattle.join_answers.specs.declared.Refusal.TheVariants.{BadRecord, NoPlaceFree, NoRoom}
 use Rattle.join_places.specs.Places.{places_count, place_size, place_start, places_size, is_open, id_of, length_of, place_of_id, bad_record}
 use Rattle.join_message.specs.Message.{id_end, body_after_id, corrected}
-use Rattle.join_steps.specs.Steps.{LineStep, Passes, Opens, Extends, Completes, Frees, Refuses, length_after}
+use Rattle.join_steps.specs.Steps.{LineStep, Passes, Opens, Extends, Completes, Frees, length_after}
 use Rattle.join_places.specs.Places.{closed, opened, lengthened}
 use Rattle.joining.specs.Answers.{message_written, record_after, places_after}
 use Rattle.join_laws.specs.Sequence.{Call, JoinState, step_in, state_after, after_all, accepted_line, accepted, parts_after, parts_from, parts_of, held_of, Fresh, HoldsParts, JoinsParts, Lowest}
@@ -189,15 +190,15 @@ module _ (r : Record) (places : List ℕ) (now : ℕ → List (List ℕ)) (k : K
         }
 
 pub step_keeps : (r : Record) (places : List ℕ) (now : ℕ → List (List ℕ)) → Keeps (record { messages = r; places = places }) now
-    → (v : List ℕ) (room : ℕ) (step : LineStep) → Facts v r (length places) room step
+    → (v : List ℕ) (room : ℕ) (step : Result LineStep Refusal) → Facts v r (length places) room step
     → Keeps (record { messages = record_after step r v; places = places_after step r v places }) (λ id. parts_from id (now id) (accepted_line step v))
 unfolding parts_from
-step_keeps r places now k v room Passes f = passes-keeps r places now k v f
-step_keeps r places now k v room (Opens i x) f = opens-keeps r places now k v i x f
-step_keeps r places now k v room (Extends i) f = extends-keeps r places now k v i f
-step_keeps r places now k v room (Completes i) f = ends-keeps r places now k v (length_after r i (length v)) i f
-step_keeps r places now k v room (Frees i) f = ends-keeps r places now k v (length v) i f
-step_keeps r places now k v room (Refuses why) f = k
+step_keeps r places now k v room (Ok Passes) f = passes-keeps r places now k v f
+step_keeps r places now k v room (Ok (Opens i x)) f = opens-keeps r places now k v i x f
+step_keeps r places now k v room (Ok (Extends i)) f = extends-keeps r places now k v i f
+step_keeps r places now k v room (Ok (Completes i)) f = ends-keeps r places now k v (length_after r i (length v)) i f
+step_keeps r places now k v room (Ok (Frees i)) f = ends-keeps r places now k v (length v) i f
+step_keeps r places now k v room (Err why) f = k
 
 parts-append : (id : ℕ) (now lines more : List (List ℕ)) → parts_from id now (lines ++ more) ≡ parts_from id (parts_from id now lines) more
 unfolding parts_from
@@ -228,7 +229,7 @@ fresh_keeps s f =
     }
 
 -- what a call says that takes a step
-says_of : (s : JoinState) (c : Call) (step : LineStep) → step_in s c ≡ step → Facts c.octets s.messages (length s.places) (length c.out) step
+says_of : (s : JoinState) (c : Call) (step : Result LineStep Refusal) → step_in s c ≡ step → Facts c.octets s.messages (length s.places) (length c.out) step
 says_of s c step e =
     subst (Facts c.octets s.messages (length s.places) (length c.out)) e
     (within-says c.octets s.messages s.places (length c.out))
@@ -247,12 +248,12 @@ module _ (s : JoinState) (fresh : Fresh s) (calls : List Call) where
   pub held-parts : (i : ℕ) → i < places_count → is_open (after_all s calls).messages i ≡ true → HoldsParts (after_all s calls) (accepted s calls) i
   held-parts i h o = let at = kept-all.holds i h o in record { held = at.held; some = at.some }
 
-  pub open-parts : (id i : ℕ) → place_of_id (after_all s calls).messages id ≡ At i → parts_of id (accepted s calls) ≡ [] → ⊥
+  pub open-parts : (id i : ℕ) → place_of_id (after_all s calls).messages id ≡ Some i → parts_of id (accepted s calls) ≡ [] → ⊥
   open-parts id i e =
       let at = place_found (after_all s calls).messages id i e in
       subst (λ x. parts_of x (accepted s calls) ≡ [] → ⊥) at.id (held-parts i at.place at.opened).some
 
-  pub closed_parts : (id : ℕ) → place_of_id (after_all s calls).messages id ≡ Nowhere → parts_of id (accepted s calls) ≡ []
+  pub closed_parts : (id : ℕ) → place_of_id (after_all s calls).messages id ≡ None → parts_of id (accepted s calls) ≡ []
   closed_parts id e = kept-all.none id (place-nowhere (after_all s calls).messages id e)
 
   pub never-28 : bad_record (after_all s calls).messages (length (after_all s calls).places) ≡ false
@@ -261,14 +262,14 @@ module _ (s : JoinState) (fresh : Fresh s) (calls : List Call) where
       (λ i h o. (kept-all.holds i h o).least)
       (λ i h o. (kept-all.holds i h o).most)
 
-  pub not-refused-28 : (c : Call) → step_in (after_all s calls) c ≡ Refuses BadRecord → ⊥
-  not-refused-28 c e = never_both _ (says_of (after_all s calls) c (Refuses BadRecord) e) never-28
+  pub not-refused-28 : (c : Call) → step_in (after_all s calls) c ≡ Err BadRecord → ⊥
+  not-refused-28 c e = never_both _ (says_of (after_all s calls) c (Err BadRecord) e) never-28
 
-  pub joined-parts : (c : Call) (i : ℕ) → step_in (after_all s calls) c ≡ Completes i → JoinsParts (after_all s calls) (accepted s calls) c i
+  pub joined-parts : (c : Call) (i : ℕ) → step_in (after_all s calls) c ≡ Ok (Completes i) → JoinsParts (after_all s calls) (accepted s calls) c i
   joined-parts c i e = joined_by (parts_of (id_of (after_all s calls).messages i) (accepted s calls)) refl
     where
       f : Ended c.octets (after_all s calls).messages (length_after (after_all s calls).messages i (length c.octets)) i
-      f = says_of (after_all s calls) c (Completes i) e
+      f = says_of (after_all s calls) c (Ok (Completes i)) e
 
       at : HoldsParts (after_all s calls) (accepted s calls) i
       at = held-parts i f.place f.opened
@@ -288,15 +289,15 @@ module _ (s : JoinState) (fresh : Fresh s) (calls : List Call) where
           }
 
 -- "Freed places are used again, the lowest free one first"
-pub lowest-first : (s : JoinState) (c : Call) (i id : ℕ) → step_in s c ≡ Opens i id → Lowest s.messages i
+pub lowest-first : (s : JoinState) (c : Call) (i id : ℕ) → step_in s c ≡ Ok (Opens i id) → Lowest s.messages i
 lowest-first s c i id e =
-    let f = says_of s c (Opens i id) e in
+    let f = says_of s c (Ok (Opens i id)) e in
     subst (Freed s.messages) f.lowest (lowest-free s.messages)
 
 -- 23 is given only "when four are open"
-pub all-are-open : (s : JoinState) (c : Call) → step_in s c ≡ Refuses NoPlaceFree → (i : ℕ) → i < places_count → is_open s.messages i ≡ true
-all-are-open s c e = count-full s.messages (says_of s c (Refuses NoPlaceFree) e)
+pub all-are-open : (s : JoinState) (c : Call) → step_in s c ≡ Err NoPlaceFree → (i : ℕ) → i < places_count → is_open s.messages i ≡ true
+all-are-open s c e = count-full s.messages (says_of s c (Err NoPlaceFree) e)
 
 -- 27 is not given where the output has the octets of the longest message
-pub not-refused-27 : (s : JoinState) (c : Call) → place_size ≤ length c.out → step_in s c ≡ Refuses NoRoom → ⊥
-not-refused-27 s c h e = let l = says_of s c (Refuses NoRoom) e in omega arith
+pub not-refused-27 : (s : JoinState) (c : Call) → place_size ≤ length c.out → step_in s c ≡ Err NoRoom → ⊥
+not-refused-27 s c h e = let l = says_of s c (Err NoRoom) e in omega arith

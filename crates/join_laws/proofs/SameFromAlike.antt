@@ -1,24 +1,20 @@
 -- The octets that the places have at first decide nothing: of two lots of places that hold the same parts, each line makes the same.
+use Rattle.std.specs.Prelude.{Option, Some, None, Result, Ok, Err}
 use mathlib.Core.Path.{◌≡◌, refl, sym, ap, subst, ◌∙◌}
 use mathlib.Core.List.{List, [], ◌++◌}
 use mathlib.Core.Bool.{true, false, cond}
 use Prim.Native.Nat.{ℕ, ◌<◌}
 use lib.Dec.{ltb}
 use lib.ListN.{length}
-use Rattle.frame.specs.declared.RequestId.{RequestId}
-use Rattle.frame.specs.declared.RequestId.TheVariants.{Id, NoId}
 use Rattle.frame.specs.declared.Header.{Header}
-use Rattle.frame.specs.declared.Frame.{Frame}
-use Rattle.frame.specs.declared.Frame.TheVariants.{Accepted, Refused}
 use Rattle.frame.specs.Messages.{is_cancel, is_fragment}
 use Rattle.frame.specs.Frames.{frame_of}
 use Rattle.join_places.specs.declared.Record.{Record}
-use Rattle.join_places.specs.declared.Found.{Found}
-use Rattle.join_places.specs.declared.Found.TheVariants.{At, Nowhere}
+use Rattle.join_answers.specs.declared.Refusal.{Refusal}
 use Rattle.join_answers.specs.declared.Refusal.TheVariants.{BadRecord, FirstDiffers, TooLong}
 use Rattle.join_places.specs.Places.{places_count, place_size, is_open, held_in, place_of_id, bad_record}
 use Rattle.join_message.specs.Message.{body_after_id, corrected}
-use Rattle.join_steps.specs.Steps.{LineStep, Passes, Opens, Extends, Completes, Frees, Refuses, cancelled, differs, length_after, continued}
+use Rattle.join_steps.specs.Steps.{LineStep, Passes, Opens, Extends, Completes, Frees, cancelled, differs, length_after, continued}
 use Rattle.join_steps.specs.Steps.{fragment_of, starting_of, with_id, by_id, message_step, frame_step, step_of}
 use Rattle.joining.specs.Answers.{message_written, roomed, step_within, record_after, places_after}
 use Rattle.join_laws.specs.Sequence.{accepted_line, parts_from, Fresh}
@@ -26,6 +22,7 @@ use Rattle.join_places.proofs.PlaceOfId.{Placed, place_is}
 use Rattle.join_laws.proofs.StepFacts.{Facts, step-says, within-says}
 use Rattle.join_laws.proofs.HeldParts.{not-bad}
 use Rattle.join_laws.proofs.PartsHeld.{Keeps, step_keeps, fresh_keeps}
+use Rattle.frame.specs.declared.Refusal.{Refusal as FrameRefusal}
 
 -- two lots of places hold the same parts of every open message
 pub record Alike (r : Record) (p q : List ℕ) : Type 0 where
@@ -52,20 +49,20 @@ module _ (r : Record) (p q : List ℕ) (a : Alike r p q) where
     unfolding continued
     same-continued i l o =
         ap (λ (held : List ℕ).
-        cond (differs held h) (Refuses FirstDiffers)
-        (cond (ltb place_size (length_after r i n)) (Refuses TooLong)
-        (cond h.more (Extends i) (Completes i))))
+        cond (differs held h) (Err FirstDiffers)
+        (cond (ltb place_size (length_after r i n)) (Err TooLong)
+        (cond h.more (Ok (Extends i)) (Ok (Completes i)))))
         (same-held i l o)
 
-    same-fragment : (x : ℕ) (at : Found) → Placed r x at → fragment_of r p n h at ≡ fragment_of r q n h at
-    same-fragment x (At i) f = same-continued i f.place f.opened
-    same-fragment x Nowhere f = refl
+    same-fragment : (x : ℕ) (at : Option ℕ) → Placed r x at → fragment_of r p n h at ≡ fragment_of r q n h at
+    same-fragment x (Some i) f = same-continued i f.place f.opened
+    same-fragment x None f = refl
 
-    same-by-id : (id : RequestId) → by_id r p n h id ≡ by_id r q n h id
+    same-by-id : (id : Option ℕ) → by_id r p n h id ≡ by_id r q n h id
     unfolding with_id
-    same-by-id NoId = refl
-    same-by-id (Id x) =
-        ap (λ (step : LineStep).
+    same-by-id None = refl
+    same-by-id (Some x) =
+        ap (λ (step : Result LineStep Refusal).
         cond (is_cancel h.kind) (cancelled (place_of_id r x))
         (cond (is_fragment h.kind) step (starting_of r h x (place_of_id r x))))
         (same-fragment x (place_of_id r x) (place_is r x))
@@ -73,33 +70,33 @@ module _ (r : Record) (p q : List ℕ) (a : Alike r p q) where
     same-message-step : message_step r p n h ≡ message_step r q n h
     unfolding message_step
     same-message-step =
-        ap (λ bad. cond bad (Refuses BadRecord) (by_id r p n h h.id)) same-bad
-        ∙ ap (λ (step : LineStep). cond (bad_record r (length q)) (Refuses BadRecord) step) (same-by-id h.id)
+        ap (λ bad. cond bad (Err BadRecord) (by_id r p n h h.id)) same-bad
+        ∙ ap (λ (step : Result LineStep Refusal). cond (bad_record r (length q)) (Err BadRecord) step) (same-by-id h.id)
 
-  same-frame : (n : ℕ) (f : Frame) → frame_step r p n f ≡ frame_step r q n f
-  same-frame n (Accepted h) = same-message-step n h
-  same-frame n (Refused row) = refl
+  same-frame : (n : ℕ) (f : Result Header FrameRefusal) → frame_step r p n f ≡ frame_step r q n f
+  same-frame n (Ok h) = same-message-step n h
+  same-frame n (Err row) = refl
 
   same_step : (v : List ℕ) → step_of v r p ≡ step_of v r q
   unfolding step_of
   same_step v = same-frame (length v) (frame_of v)
 
   module _ (v : List ℕ) (room : ℕ) where
-    message-by : (step : LineStep) → Facts v r (length p) room step → message_written step r v p ≡ message_written step r v q
-    message-by Passes f = refl
-    message-by (Opens i id) f = refl
-    message-by (Extends i) f = refl
-    message-by (Completes i) f = ap (λ (held : List ℕ). corrected (held ++ body_after_id v)) (same-held i f.place f.opened)
-    message-by (Frees i) f = refl
-    message-by (Refuses why) f = refl
+    message-by : (step : Result LineStep Refusal) → Facts v r (length p) room step → message_written step r v p ≡ message_written step r v q
+    message-by (Ok Passes) f = refl
+    message-by (Ok (Opens i id)) f = refl
+    message-by (Ok (Extends i)) f = refl
+    message-by (Ok (Completes i)) f = ap (λ (held : List ℕ). corrected (held ++ body_after_id v)) (same-held i f.place f.opened)
+    message-by (Ok (Frees i)) f = refl
+    message-by (Err why) f = refl
 
-    abbrev step : LineStep
+    abbrev step : Result LineStep Refusal
     step = step_within v r p room
 
     pub alike-step : step_within v r p room ≡ step_within v r q room
     alike-step =
         ap (λ (m : List ℕ). roomed room (step_of v r p) m) (message-by (step_of v r p) (step-says v r p room))
-        ∙ ap (λ (s : LineStep). roomed room s (message_written s r v q)) (same_step v)
+        ∙ ap (λ (s : Result LineStep Refusal). roomed room s (message_written s r v q)) (same_step v)
 
     pub alike-message : message_written step r v p ≡ message_written step r v q
     alike-message = message-by step (within-says v r p room)

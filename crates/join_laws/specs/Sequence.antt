@@ -21,15 +21,14 @@
 --   HoldsParts      a place holds the parts of its request id, and there are some
 --   JoinsParts      the last fragment is joined to the parts of its request id
 --   Lowest          "the lowest free one"
-use Rattle.std.specs.Prelude.{◌≡◌, List, [], ◌∷◌, ◌++◌, Bool, true, false, cond, ℕ, ◌≤◌, ◌<◌, eqb, length}
-use Rattle.frame.specs.declared.RequestId.{RequestId}
-use Rattle.frame.specs.declared.RequestId.TheVariants.{Id, NoId}
+use Rattle.std.specs.Prelude.{◌≡◌, List, [], ◌∷◌, ◌++◌, Bool, true, false, cond, ℕ, ◌≤◌, ◌<◌, eqb, length, Option, Some, None, Result, Ok, Err}
 use Rattle.frame.specs.Messages.{is_cancel, is_fragment}
 use Rattle.frame.specs.Header.{message_type_at, more_at, id_at}
 use Rattle.join_places.specs.declared.Record.{Record}
 use Rattle.join_places.specs.Places.{places_count, places_size, is_open, id_of, held_in}
+use Rattle.join_answers.specs.declared.Refusal.{Refusal}
 use Rattle.join_message.specs.Message.{parts, joined_of}
-use Rattle.join_steps.specs.Steps.{LineStep, Passes, Opens, Extends, Completes, Frees, Refuses}
+use Rattle.join_steps.specs.Steps.{LineStep}
 use Rattle.joining.specs.Answers.{message_written, step_within, record_after, places_after}
 
 pub record Call : Type 0 where
@@ -40,7 +39,7 @@ pub record JoinState : Type 0 where
   pub messages : Record
   pub places : List ℕ
 
-abbrev pub step_in : JoinState → Call → LineStep
+abbrev pub step_in : JoinState → Call → Result LineStep Refusal
 step_in s c = step_within c.octets s.messages s.places (length c.out)
 
 abbrev pub message_in : JoinState → Call → List ℕ
@@ -57,21 +56,17 @@ unfoldable pub after_all : JoinState → List Call → JoinState
 after_all s [] = s
 after_all s (c ∷ calls) = after_all (state_after s c) calls
 
-abbrev pub accepted_line : LineStep → List ℕ → List (List ℕ)
-accepted_line Passes v = v ∷ []
-accepted_line (Opens i id) v = v ∷ []
-accepted_line (Extends i) v = v ∷ []
-accepted_line (Completes i) v = v ∷ []
-accepted_line (Frees i) v = v ∷ []
-accepted_line (Refuses why) v = []
+abbrev pub accepted_line : Result LineStep Refusal → List ℕ → List (List ℕ)
+accepted_line (Ok step) v = v ∷ []
+accepted_line (Err why) v = []
 
 unfoldable pub accepted : JoinState → List Call → List (List ℕ)
 accepted s [] = []
 accepted s (c ∷ calls) = accepted_line (step_in s c) c.octets ++ accepted (state_after s c) calls
 
-abbrev pub is_id : ℕ → RequestId → Bool
-is_id id (Id x) = eqb x id
-is_id id NoId = false
+abbrev pub is_id : ℕ → Option ℕ → Bool
+is_id id (Some x) = eqb x id
+is_id id None = false
 
 abbrev pub with_one : List (List ℕ) → List ℕ → List (List ℕ)
 with_one [] v = []
@@ -109,7 +104,7 @@ pub record HoldsParts (s : JoinState) (lines : List (List ℕ)) (i : ℕ) : Type
   pub some : parts_of (id_of s.messages i) lines ≡ [] → ⊥
 
 pub record JoinsParts (s : JoinState) (lines : List (List ℕ)) (c : Call) (i : ℕ) : Type 0 where
-  pub id : id_at c.octets ≡ Id (id_of s.messages i)
+  pub id : id_at c.octets ≡ Some (id_of s.messages i)
   pub first : List ℕ
   pub fragments : List (List ℕ)
   pub opened : parts_of (id_of s.messages i) lines ≡ first ∷ fragments

@@ -1,4 +1,5 @@
 -- The joined message in the output: parts stored one behind the other, and the header corrected where it stands.
+use Rattle.std.specs.Prelude.{Option, Some, Ok, Err}
 use mathlib.Core.Path.{◌≡◌, refl, sym, ap, ◌∙◌}
 use mathlib.Core.List.{List, [], ◌∷◌, ◌++◌}
 use Prim.Native.Nat.{ℕ, suc, ◌+◌, ◌-◌, ◌≤◌, ◌<◌}
@@ -8,16 +9,14 @@ use borrow.Author.Tests.{lt-ltb, le-ltb}
 use lib.ListN.{length, drop, set, length-append, length-set, get_or-append}
 use lib.Seq.{sets, sets-eq, length-sets, set-append_left}
 use Rattle.cdr.specs.declared.Order.{Order}
-use Rattle.cdr_write.specs.declared.Written.{Written}
-use Rattle.cdr_write.specs.declared.Written.TheVariants.{Upto}
 use Rattle.cdr.specs.Number.{octets_of}
 use Rattle.cdr_write.specs.Write.{Stored}
 use Rattle.cdr_write.proofs.BufferHolds.{stored-upto, stored-fits, sets-append}
 use Rattle.cdr.proofs.NumbersGivenBack.{octets-length}
 use Rattle.frame.specs.Header.{flags_offset, size_offset, header_size, flags_at, order_at, order_flag}
-use Rattle.join_message.specs.declared.Assembled.TheVariants.{Message, NoRoom, NoHeader}
 use Rattle.join_message.specs.Written.{assembled_of, Assembles}
 use Rattle.join_message.specs.Message.{more_cleared, corrected}
+use Rattle.join_message.specs.declared.Unassembled.TheVariants.{NoHeader, NoRoom}
 
 -- a run of stores in the first of two lists leaves the second
 pub sets-front : (xs l r : List ℕ) (i : ℕ) → i + length xs ≤ length l → sets (l ++ r) i xs ≡ sets l i xs ++ r
@@ -53,7 +52,7 @@ corrects m rest h =
     ∙ sets-front n (set m flags_offset c) rest size_offset (omega arith)
 
 -- the header at the start of the output, as it is stored
-pub header-stored : (out : List ℕ) (total c : ℕ) (order : Order) (w : Written) (last : List ℕ) → header_size ≤ total → total ≤ length out
+pub header-stored : (out : List ℕ) (total c : ℕ) (order : Order) (w : Option ℕ) (last : List ℕ) → header_size ≤ total → total ≤ length out
     → c ≡ more_cleared (flags_at out) → order ≡ order_at out → Stored (set out flags_offset c) size_offset (octets_of order 4 (total - header_size)) w last
     → last ≡ sets (set out flags_offset (more_cleared (flags_at out))) size_offset (octets_of (order_at out) 4 (total - header_size))
 header-stored out total c order w last h k e f s =
@@ -64,14 +63,14 @@ header-stored out total c order w last h k e f s =
     ∙ ap (λ (o : Order). sets (set out flags_offset (more_cleared (flags_at out))) size_offset (octets_of o 4 (total - header_size))) f
 
 -- the second of two parts ends where both do
-pub second-end : (a b out : List ℕ) (one two : List ℕ) (w x : Written) → length a + length b ≤ length out
-    → Stored out 0 a w one → Stored one (length a) b x two → x ≡ Upto (length a + length b)
+pub second-end : (a b out : List ℕ) (one two : List ℕ) (w x : Option ℕ) → length a + length b ≤ length out
+    → Stored out 0 a w one → Stored one (length a) b x two → x ≡ Some (length a + length b)
 second-end a b out one two w x k s t =
     let n : length one ≡ length out = ap length (stored-fits out 0 a w one (omega arith) s) ∙ length-sets out 0 a in
     stored-upto one (length a) b x two (omega arith) t
 
 -- two parts written one behind the other, and the header corrected
-pub joined-written : (a b out : List ℕ) (one two last : List ℕ) (w x : Written) → header_size ≤ length a → length a + length b ≤ length out
+pub joined-written : (a b out : List ℕ) (one two last : List ℕ) (w x : Option ℕ) → header_size ≤ length a → length a + length b ≤ length out
     → Stored out 0 a w one → Stored one (length a) b x two
     → last ≡ sets (set two flags_offset (more_cleared (flags_at two))) size_offset (octets_of (order_at two) 4 (length a + length b - header_size))
     → last ≡ sets out 0 (corrected (a ++ b))
@@ -97,18 +96,18 @@ joined-written a b out one two last w x h k s t e =
 
 -- the three answers
 module _ (held body out : List ℕ) where
-  pub no_header : length held < header_size → Assembles held body out NoHeader out
+  pub no_header : length held < header_size → Assembles held body out (Err NoHeader) out
   unfolding assembled_of
   no_header h = record { answer = rw (lt-ltb (length held) header_size h); contents = refl }
 
-  pub no_room : header_size ≤ length held → length out < length held + length body → Assembles held body out NoRoom out
+  pub no_room : header_size ≤ length held → length out < length held + length body → Assembles held body out (Err NoRoom) out
   unfolding assembled_of
   no_room h k =
       let l = length-append held body in
       record { answer = rw (le-ltb (length held) header_size h, lt-ltb (length out) (length (held ++ body)) (omega arith)); contents = refl }
 
   pub message : header_size ≤ length held → length held + length body ≤ length out → (last : List ℕ) → last ≡ sets out 0 (corrected (held ++ body))
-      → Assembles held body out (Message (length held + length body)) last
+      → Assembles held body out (Ok (length held + length body)) last
   unfolding assembled_of
   message h k last e =
       let l = length-append held body in

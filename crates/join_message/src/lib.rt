@@ -9,34 +9,29 @@ ghost use Rattle.join_message.specs.Message.{more_cleared};
 ghost use Rattle.join_message.specs.Written.{Assembles};
 
 use cdr::Size;
-use cdr_write::Written;
 
-// What writing a joined message gives: its octets; or that it does not fit, or that its first octets are no header, and
-// nothing was written.
+// Why a joined message is not written: it does not fit, or its first octets are no header.
 #[derive(Clone, Copy)]
-pub enum Assembled {
-    Message(usize),
+pub enum Unassembled {
     NoRoom,
     NoHeader,
 }
 
 // Writes the message of the octets that are held and a last fragment's body after the id from the start of `out`.
-pub fn write_joined(held: &[u8], body: &[u8], out: &mut [u8]) -> Assembled
+pub fn write_joined(held: &[u8], body: &[u8], out: &mut [u8]) -> Result<usize, Unassembled>
     ensures { Assembles held.now body.now out.old result out.new }
 {
     let total = held.len() + body.len();
     if held.len() < frame::HEADER_SIZE {
-        return Assembled::NoHeader;
+        return Err(Unassembled::NoHeader);
     }
     if out.len() < total {
-        return Assembled::NoRoom;
+        return Err(Unassembled::NoRoom);
     }
     cdr_write::write_octets(out, 0, held);
-    let Written::Upto(end) = cdr_write::write_octets(out, held.len(), body) else {
-        return Assembled::NoRoom;
-    };
+    let end = cdr_write::write_octets(out, held.len(), body).ok_or(Unassembled::NoRoom)?;
     correct(out, end);
-    Assembled::Message(end)
+    Ok(end)
 }
 
 // Flags with the more flag cleared.

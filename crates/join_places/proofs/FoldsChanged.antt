@@ -1,13 +1,11 @@
 -- Sums, tests and searches over the first so many places: what each says of every place, and what a change at one place changes.
+use Rattle.std.specs.Prelude.{Option, Some, None}
 use mathlib.Core.Path.{◌≡◌, refl, sym, ap, ◌∙◌}
 use mathlib.Core.Bool.{Bool, true, false, cond, ◌||◌}
 use Prim.Native.Nat.{ℕ, zero, suc, ◌+◌, ◌≤◌, ◌<◌}
 use native.Mathlib.Decide.{ℕ_discrete}
-use native.Mathlib.Numerals.{add-one}
 use native.Mathlib.Omega.{arith}
 use Rattle.choices.proofs.Choices.{chosen, neither, or-false}
-use Rattle.join_places.specs.declared.Found.{Found}
-use Rattle.join_places.specs.declared.Found.TheVariants.{At, Nowhere}
 use Rattle.join_places.specs.Places.{sum_over, some_with, or_else, first_with}
 
 -- a place below so many and one more is the last of them, or below so many
@@ -99,36 +97,18 @@ module _ (p : ℕ → Bool) where
     pub here : p i ≡ true
     pub below : (j : ℕ) → j < i → p j ≡ false
 
-  abbrev pub FirstOf : ℕ → Found → Type 0
-  FirstOf n (At i) = First n i
-  FirstOf n Nowhere = (i : ℕ) → i < n → p i ≡ false
+  abbrev pub FirstOf : ℕ → Option ℕ → Type 0
+  FirstOf n (Some i) = First n i
+  FirstOf n None = (i : ℕ) → i < n → p i ≡ false
 
   pub first-is : (n : ℕ) → FirstOf n (first_with p n)
   unfolding first_with
   first-is zero = λ i h. absurd (omega arith)
   first-is (suc n) = onward (first_with p n) (first-is n)
     where
-      onward : (found : Found) → FirstOf n found → FirstOf (suc n) (or_else found (cond (p n) (At n) Nowhere))
-      onward (At i) f = let h = f.place in record { place = omega arith; here = f.here; below = f.below }
-      onward Nowhere each =
+      onward : (found : Option ℕ) → FirstOf n found → FirstOf (suc n) (or_else found (cond (p n) (Some n) None))
+      onward (Some i) f = let h = f.place in record { place = omega arith; here = f.here; below = f.below }
+      onward None each =
           chosen (FirstOf (suc n)) (p n) _ _
           (λ e. record { place = omega arith; here = e; below = each })
           (λ e i h. last-or-below i n h (λ s. ap p s ∙ e) (each i))
-
-  -- a search that passed over the places below finds the next one that has the property
-  pub first-here : (n i : ℕ) → i < n → first_with p i ≡ Nowhere → p i ≡ true → first_with p n ≡ At i
-  unfolding first_with
-  first-here zero i h none e = absurd (omega arith)
-  first-here (suc n) i h none e =
-      last-or-below i n h
-      (λ s. rw (sym (ap (first_with p) s) ∙ none, sym (ap p s) ∙ e, s))
-      (λ l. rw (first-here n i l none e))
-
-  -- one more place that has not the property
-  pub first-passed : (i : ℕ) → first_with p i ≡ Nowhere → p i ≡ false → first_with p (i + 1) ≡ Nowhere
-  unfolding first_with
-  first-passed i none e = rw (add-one, none, e)
-
-  pub some-passed : (i : ℕ) → some_with p i ≡ false → p i ≡ false → some_with p (i + 1) ≡ false
-  unfolding some_with
-  some-passed i none e = rw add-one (or-false (some_with p i) (p i) none e)

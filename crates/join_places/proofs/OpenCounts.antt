@@ -1,25 +1,17 @@
 -- The messages open and the sum of their lengths: how a place that is opened, lengthened or freed changes them, and when all are open.
+use Rattle.std.specs.Prelude.{Option, Some, None}
 use mathlib.Core.Path.{◌≡◌, refl, ap}
 use mathlib.Core.Bool.{Bool, true, false, cond, not}
 use Prim.Native.Nat.{ℕ, ◌+◌, ◌≤◌, ◌<◌}
-use native.Mathlib.Numerals.{add-one}
 use native.Mathlib.Omega.{arith}
 use lib.ListN.{length}
 use lib.Seq.{get_or-set_same, get_or-set_other}
 use borrow.Author.Tests.{not-false}
-use mir.Val.{bool_byte}
 use Rattle.choices.proofs.Choices.{clash}
 use Rattle.join_places.specs.declared.Record.{Record}
-use Rattle.join_places.specs.declared.Found.{Found}
-use Rattle.join_places.specs.declared.Found.TheVariants.{At, Nowhere}
-use Rattle.join_places.specs.Places.{places_count, is_open, length_of, sum_over, first_with, lowest_free, open_at, open_count, open_length, open_lengths}
+use Rattle.join_places.specs.Places.{places_count, is_open, length_of, first_with, lowest_free, open_at, open_count, open_length, open_lengths}
 use Rattle.join_places.specs.Places.{closed, opened, lengthened}
-use Rattle.join_places.proofs.FoldsChanged.{sum-changed, sum-most, sum-full, sum-of-ones, FirstOf, first-is}
-
--- a flag as a number
-pub flag_is : (b : Bool) → bool_byte b ≡ cond b 1 0
-flag_is true = refl
-flag_is false = refl
+use Rattle.join_places.proofs.FoldsChanged.{sum-changed, sum-full, sum-of-ones, FirstOf, first-is}
 
 flag-most : (r : Record) (i : ℕ) → open_at r i ≤ 1
 flag-most r i = by (is_open r i)
@@ -32,14 +24,6 @@ flag-full : (b : Bool) → ◌≡◌ {A = ℕ} (cond b 1 0) 1 → b ≡ true
 flag-full true e = refl
 flag-full false e = clash cc
 
--- one place more is counted
-pub count-more : (r : Record) (i : ℕ) → sum_over (open_at r) (i + 1) ≡ sum_over (open_at r) i + open_at r i
-unfolding sum_over
-count-more r i = rw add-one
-
-pub count-below : (r : Record) (i : ℕ) → sum_over (open_at r) i ≤ i
-count-below r i = sum-most (open_at r) i (flag-most r)
-
 -- all are open exactly where as many are open as there are places
 pub count-full : (r : Record) → places_count ≤ open_count r → (i : ℕ) → i < places_count → is_open r i ≡ true
 unfolding open_count
@@ -50,7 +34,7 @@ unfolding open_count
 full-count r all = sum-of-ones (open_at r) places_count (λ i h. ap (λ (b : Bool). cond b 1 0) (all i h))
 
 -- where no place is free, as many are open as there are places
-pub none_free : (r : Record) → lowest_free r ≡ Nowhere → places_count ≤ open_count r
+pub none_free : (r : Record) → lowest_free r ≡ None → places_count ≤ open_count r
 unfolding lowest_free
 none_free r e =
     let full = full-count r (by_first (first_with free places_count) (first-is free places_count) e) in
@@ -59,9 +43,9 @@ none_free r e =
     free : ℕ → Bool
     free i = not (is_open r i)
 
-    by_first : (f : Found) → FirstOf free places_count f → f ≡ Nowhere → (i : ℕ) → i < places_count → is_open r i ≡ true
-    by_first (At j) f s = clash cc
-    by_first Nowhere each s = λ i h. not-false (is_open r i) (each i h)
+    by_first : (f : Option ℕ) → FirstOf free places_count f → f ≡ None → (i : ℕ) → i < places_count → is_open r i ≡ true
+    by_first (Some j) f s = clash cc
+    by_first None each s = λ i h. not-false (is_open r i) (each i h)
 
 -- a record that differs from another at one place
 module _ (r q : Record) (i : ℕ) (place : i < places_count)

@@ -1,4 +1,5 @@
 -- What holds of a record that is not refused, and of the lowest free place.
+use Rattle.std.specs.Prelude.{Option, Some, None}
 use mathlib.Core.Path.{◌≡◌, refl}
 use mathlib.Core.Bool.{Bool, true, false, not, ◌&&◌, ◌||◌}
 use Prim.Native.Nat.{ℕ, ◌≤◌, ◌<◌}
@@ -6,15 +7,13 @@ use lib.Dec.{ltb}
 use borrow.Author.Tests.{ltb-false}
 use Rattle.choices.proofs.Choices.{clash, neither}
 use Rattle.join_places.specs.declared.Record.{Record}
-use Rattle.join_places.specs.declared.Found.{Found}
-use Rattle.join_places.specs.declared.Found.TheVariants.{At, Nowhere}
 use Rattle.join_places.specs.Places.{places_count, place_size, places_size, least_length, is_open, length_of, is_at, IsPlace}
 use Rattle.join_places.specs.Places.{first_with, lowest_free, id_open_twice, place_short, length_wrong, some_length_wrong, bad_record}
 use Rattle.join_places.proofs.FoldsChanged.{some-none, FirstOf, first-is}
 
-pub is-at : (f : Found) → is_at f ≡ false → f ≡ Nowhere
-is-at (At i) e = clash cc
-is-at Nowhere e = refl
+pub is-at : (f : Option ℕ) → is_at f ≡ false → f ≡ None
+is-at (Some i) e = clash cc
+is-at None e = refl
 
 -- a place that is free is one of the places
 pub free-within : (r : Record) → IsPlace (lowest_free r)
@@ -24,9 +23,9 @@ free-within r = by_first (first_with free places_count) (first-is free places_co
     free : ℕ → Bool
     free i = not (is_open r i)
 
-    by_first : (f : Found) → FirstOf free places_count f → IsPlace f
-    by_first (At i) f = f.place
-    by_first Nowhere f = tt
+    by_first : (f : Option ℕ) → FirstOf free places_count f → IsPlace f
+    by_first (Some i) f = f.place
+    by_first None f = tt
 
 -- of a record that is not refused, the places have their octets and the open lengths are in their range
 pub sound-lent : (r : Record) (lent : ℕ) → bad_record r lent ≡ false → places_size ≤ lent

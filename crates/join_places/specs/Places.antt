@@ -32,10 +32,9 @@
 --   closed         the record with a place freed,
 --   opened         with a place opened for a request id,
 --   lengthened     and with the length of its message changed
-use Rattle.std.specs.Prelude.{ℕ, zero, suc, ◌+◌, ◌*◌, ◌<◌, List, Bool, true, false, cond, not, ◌&&◌, ◌||◌, ltb, eqb, get_or, take, drop, set, replicate}
+use Rattle.std.specs.Prelude.{ℕ, zero, suc, ◌+◌, ◌*◌, ◌<◌, List, Bool, true, false, cond, not, ◌&&◌, ◌||◌, ltb, eqb, get_or, take, drop, set}
+use Rattle.std.specs.Prelude.{replicate, Option, Some, None}
 use Rattle.join_places.specs.declared.Record.{Record}
-use Rattle.join_places.specs.declared.Found.{Found}
-use Rattle.join_places.specs.declared.Found.TheVariants.{At, Nowhere}
 
 abbrev pub places_count : ℕ
 places_count = 4
@@ -76,29 +75,29 @@ unfoldable pub some_with : (ℕ → Bool) → ℕ → Bool
 some_with p zero = false
 some_with p (suc n) = some_with p n || p n
 
-abbrev pub or_else : Found → Found → Found
-or_else (At i) other = At i
-or_else Nowhere other = other
+abbrev pub or_else : Option ℕ → Option ℕ → Option ℕ
+or_else (Some i) other = Some i
+or_else None other = other
 
-unfoldable pub first_with : (ℕ → Bool) → ℕ → Found
-first_with p zero = Nowhere
-first_with p (suc n) = or_else (first_with p n) (cond (p n) (At n) Nowhere)
+unfoldable pub first_with : (ℕ → Bool) → ℕ → Option ℕ
+first_with p zero = None
+first_with p (suc n) = or_else (first_with p n) (cond (p n) (Some n) None)
 
 unfoldable pub is_open_with : Record → ℕ → ℕ → Bool
 is_open_with r id i = is_open r i && eqb (id_of r i) id
 
-unfoldable pub place_of_id : Record → ℕ → Found
+unfoldable pub place_of_id : Record → ℕ → Option ℕ
 place_of_id r id = first_with (is_open_with r id) places_count
 
-abbrev pub is_at : Found → Bool
-is_at (At i) = true
-is_at Nowhere = false
+abbrev pub is_at : Option ℕ → Bool
+is_at (Some i) = true
+is_at None = false
 
-abbrev pub IsPlace : Found → Type 0
-IsPlace (At i) = i < places_count
-IsPlace Nowhere = Unit {0}
+abbrev pub IsPlace : Option ℕ → Type 0
+IsPlace (Some i) = i < places_count
+IsPlace None = Unit {0}
 
-unfoldable pub lowest_free : Record → Found
+unfoldable pub lowest_free : Record → Option ℕ
 lowest_free r = first_with (λ i. not (is_open r i)) places_count
 
 abbrev pub open_at : Record → ℕ → ℕ

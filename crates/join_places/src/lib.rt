@@ -30,13 +30,6 @@ impl Record {
     }
 }
 
-// One of the places, or none of them.
-#[derive(Clone, Copy)]
-pub enum Found {
-    At(usize),
-    Nowhere,
-}
-
 // The octets of a place.
 pub const PLACE_SIZE: usize = 16384;
 
@@ -47,147 +40,121 @@ pub const PLACES_SIZE: usize = PLACES_COUNT * PLACE_SIZE;
 const LEAST: usize = 16;
 
 // Whether a place was found.
-pub fn is_at(found: Found) -> bool
+pub fn is_at(found: Option<usize>) -> bool
     ensures { result ≡ is_at found }
 {
-    match found {
-        Found::At(_) => true,
-        Found::Nowhere => false,
-    }
+    found.is_some()
 }
 
 // Whether a place has the open message of a request id.
+#[tactic(auto, unfolding(crate::specs::Places::is_open_with))]
 fn is_open_with(r: Record, i: usize, id: u32) -> bool
     requires { i < places_count }
     ensures { result ≡ is_open_with r id i }
 {
-    if !r.opened[i] {
-        return false;
-    }
-    r.ids[i] == id
+    r.opened[i] && r.ids[i] == id
 }
 
 // The place of the open message of a request id.
-pub fn place_of(r: Record, id: u32) -> Found
+#[tactic(auto, unfolding(crate::specs::Places::place_of_id, crate::specs::Places::first_with))]
+pub fn place_of(r: Record, id: u32) -> Option<usize>
     ensures { result ≡ place_of_id r id }
 {
-    let mut i = 0;
-    while i < PLACES_COUNT {
+    for i in 0..PLACES_COUNT {
         if is_open_with(r, i, id) {
-            return Found::At(i);
+            return Some(i);
         }
-        i += 1;
     }
-    Found::Nowhere
+    None
 }
 
 // The lowest place that has no open message, if one has none.
-pub fn lowest_free(r: Record) -> Found
+#[tactic(auto, unfolding(crate::specs::Places::lowest_free, crate::specs::Places::first_with))]
+pub fn lowest_free(r: Record) -> Option<usize>
     ensures { result ≡ lowest_free r }
 {
-    let mut i = 0;
-    while i < PLACES_COUNT {
-        if !r.opened[i] {
-            return Found::At(i);
+    for (i, open) in r.opened.iter().enumerate() {
+        if !*open {
+            return Some(i);
         }
-        i += 1;
     }
-    Found::Nowhere
+    None
 }
 
 // The messages open.
+#[tactic(auto, unfolding(crate::specs::Places::open_count, crate::specs::Places::sum_over))]
 pub fn open_count(r: Record) -> u64
     ensures { result ≡ open_count r }
 {
     let mut count = 0;
-    let mut i = 0;
-    while i < PLACES_COUNT {
-        count += r.opened[i] as u64;
-        i += 1;
+    for open in r.opened.iter() {
+        count += *open as u64;
     }
     count
 }
 
 // Whether two places have open messages of the same id.
+#[tactic(auto, unfolding(crate::specs::Places::both_open))]
 fn both_open(r: Record, i: usize, j: usize) -> bool
     requires { (i < places_count) × (j < places_count) }
     ensures { result ≡ both_open r i j }
 {
-    if !r.opened[i] {
-        return false;
-    }
-    if !r.opened[j] {
-        return false;
-    }
-    r.ids[i] == r.ids[j]
+    r.opened[i] && r.opened[j] && r.ids[i] == r.ids[j]
 }
 
 // Whether an earlier place has an open message of the same id.
+#[tactic(auto, unfolding(crate::specs::Places::open_before, crate::specs::Places::some_with))]
 fn open_before(r: Record, i: usize) -> bool
     requires { i < places_count }
     ensures { result ≡ open_before r i }
 {
-    let mut j = 0;
-    while j < i {
+    for j in 0..i {
         if both_open(r, i, j) {
             return true;
         }
-        j += 1;
     }
     false
 }
 
 // Whether one id is open twice.
+#[tactic(auto, unfolding(crate::specs::Places::id_open_twice, crate::specs::Places::some_with))]
 fn id_open_twice(r: Record) -> bool
     ensures { result ≡ id_open_twice r }
 {
-    let mut i = 0;
-    while i < PLACES_COUNT {
+    for i in 0..PLACES_COUNT {
         if open_before(r, i) {
             return true;
         }
-        i += 1;
     }
     false
 }
 
 // Whether the length of a place's open message is out of its range.
+#[tactic(auto, unfolding(crate::specs::Places::length_wrong))]
 fn length_wrong(r: Record, i: usize) -> bool
     requires { i < places_count }
     ensures { result ≡ length_wrong r i }
 {
-    if !r.opened[i] {
-        return false;
-    }
-    if r.lengths[i] < LEAST {
-        return true;
-    }
-    PLACE_SIZE < r.lengths[i]
+    r.opened[i] && (r.lengths[i] < LEAST || PLACE_SIZE < r.lengths[i])
 }
 
 // Whether one of the open lengths is out of its range.
+#[tactic(auto, unfolding(crate::specs::Places::some_length_wrong, crate::specs::Places::some_with))]
 fn some_length_wrong(r: Record) -> bool
     ensures { result ≡ some_length_wrong r }
 {
-    let mut i = 0;
-    while i < PLACES_COUNT {
+    for i in 0..PLACES_COUNT {
         if length_wrong(r, i) {
             return true;
         }
-        i += 1;
     }
     false
 }
 
 // Whether a record with so many octets of places is refused.
+#[tactic(auto, unfolding(crate::specs::Places::bad_record))]
 pub fn bad_record(r: Record, lent: usize) -> bool
     ensures { result ≡ bad_record r lent }
 {
-    if id_open_twice(r) {
-        return true;
-    }
-    if lent < PLACES_SIZE {
-        return true;
-    }
-    some_length_wrong(r)
+    id_open_twice(r) || lent < PLACES_SIZE || some_length_wrong(r)
 }

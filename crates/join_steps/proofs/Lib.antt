@@ -1,3 +1,3 @@
--- The ways of a step's definition, and what each step says of its line.
+-- What a fragment's function asks, and what each step says of its line.
 pub mod StepIs
 pub mod StepNeeds

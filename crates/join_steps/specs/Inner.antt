@@ -2,16 +2,15 @@
 --   Sound       an accepted message, a record that is not refused, and places that have their octets
 --   Opening     a first fragment's octets, the place that it opens, and places that have theirs
 --   Continues   a fragment's octets, and the place of its open message
-use Rattle.std.specs.Prelude.{◌≡◌, false, List, ℕ, ◌≤◌, ◌<◌, length}
+use Rattle.std.specs.Prelude.{◌≡◌, false, List, ℕ, ◌≤◌, ◌<◌, length, Ok}
 use Rattle.frame.specs.declared.Header.{Header}
-use Rattle.frame.specs.declared.Frame.TheVariants.{Accepted}
 use Rattle.frame.specs.Frames.{message_limit, frame_of}
 use Rattle.join_places.specs.declared.Record.{Record}
 use Rattle.join_places.specs.Places.{places_count, place_size, places_size, length_of, bad_record}
 use Rattle.join_message.specs.Message.{id_end}
 
 pub record Sound (v : List ℕ) (h : Header) (r : Record) (places : List ℕ) : Type 0 where
-  pub accepted : frame_of v ≡ Accepted h
+  pub accepted : frame_of v ≡ Ok h
   pub sound : bad_record r (length places) ≡ false
 
 pub record Opening (v places : List ℕ) (i : ℕ) : Type 0 where

@@ -1,22 +1,21 @@
 // What a line does, by the record of the messages that are open: the decision alone, refusal by refusal in 01's order. Nothing is written.
 #![tactic(auto)]
 
-ghost use Rattle.std.specs.Prelude.{◌≡◌, length};
-ghost use Rattle.frame.specs.declared.Frame.TheVariants.{Accepted};
+ghost use Rattle.std.specs.Prelude.{◌≡◌, length, Ok};
 ghost use Rattle.frame.specs.Frames.{frame_of};
-ghost use Rattle.join_steps.specs.Steps.{cancelled, continued, opens_at, starting_of, with_id, message_step, step_of};
+ghost use Rattle.join_steps.specs.Steps.{cancelled, continued, starting_of, with_id, message_step, step_of};
 ghost use Rattle.join_steps.specs.Inner.{Sound, Continues};
 
-use frame::{Frame, Header, RequestId};
+use frame::Header;
 use join_answers::Refusal;
-use join_places::{Found, Record};
+use join_places::Record;
 
 mod message;
 
 pub use message::ID_END;
 
-// The message passes as it is; a place is opened for a request id; lengthened by a fragment; joined and freed by its last one; freed by a
-// cancel; or the line is refused.
+// What a line does that is not refused: the message passes as it is; a place is opened for a request id; lengthened by a fragment; joined and freed by
+// its last one; or freed by a cancel.
 #[derive(Clone, Copy)]
 pub enum LineStep {
     Passes,
@@ -24,36 +23,41 @@ pub enum LineStep {
     Extends(usize),
     Completes(usize),
     Frees(usize),
-    Refuses(Refusal),
 }
 
 // What a line's octets do, by the record and the octets of its places, where the output has room for what they write.
-pub fn step_of(octets: &[u8], before: Record, places: &[u8]) -> LineStep
+#[tactic(auto, unfolding(crate::specs::Steps::step_of))]
+pub fn step_of(octets: &[u8], before: Record, places: &[u8]) -> Result<LineStep, Refusal>
     ensures { result ≡ step_of octets.now before places.now }
 {
-    match frame::judge(octets) {
-        Frame::Accepted(h) => accepted(octets, h, before, places),
-        Frame::Refused(row) => LineStep::Refuses(Refusal::Frame(row)),
-    }
+    let h = frame::judge(octets)?;
+    accepted(octets, h, before, places)
 }
 
 // What an accepted message does.
-fn accepted(octets: &[u8], h: Header, before: Record, places: &[u8]) -> LineStep
-    requires { frame_of octets.now ≡ Accepted h }
+#[tactic(auto, unfolding(crate::specs::Steps::message_step))]
+fn accepted(octets: &[u8], h: Header, before: Record, places: &[u8]) -> Result<LineStep, Refusal>
+    requires { frame_of octets.now ≡ Ok h }
     ensures { result ≡ message_step before places.now (length octets.now) h }
 {
     if join_places::bad_record(before, places.len()) {
-        return LineStep::Refuses(Refusal::BadRecord);
+        return Err(Refusal::BadRecord);
     }
-    let id = h.id;
-    match id {
-        RequestId::Id(x) => identified(octets, h, x, before, places),
-        RequestId::NoId => LineStep::Passes,
+    match h.id {
+        Some(id) => identified(octets, h, id, before, places),
+        None => Ok(LineStep::Passes),
     }
 }
 
 // What a message does that has a request id.
-fn identified(octets: &[u8], h: Header, id: u32, before: Record, places: &[u8]) -> LineStep
+#[tactic(auto, unfolding(crate::specs::Steps::with_id))]
+fn identified(
+    octets: &[u8],
+    h: Header,
+    id: u32,
+    before: Record,
+    places: &[u8],
+) -> Result<LineStep, Refusal>
     requires { Sound octets.now h before places.now }
     ensures { result ≡ with_id before places.now (length octets.now) h id }
 {
@@ -62,71 +66,64 @@ fn identified(octets: &[u8], h: Header, id: u32, before: Record, places: &[u8]) 
         return cancel(found);
     }
     if h.kind == frame::FRAGMENT {
-        let Found::At(i) = found else {
-            return LineStep::Refuses(Refusal::IdNotOpen);
-        };
+        let i = found.ok_or(Refusal::IdNotOpen)?;
         return fragment(octets, h, i, before, places);
     }
     start(h, id, found, before)
 }
 
 // A CancelRequest frees the place of its id, where there is one.
-fn cancel(found: Found) -> LineStep
+fn cancel(found: Option<usize>) -> Result<LineStep, Refusal>
     ensures { result ≡ cancelled found }
 {
     match found {
-        Found::At(i) => LineStep::Frees(i),
-        Found::Nowhere => LineStep::Passes,
+        Some(i) => Ok(LineStep::Frees(i)),
+        None => Ok(LineStep::Passes),
     }
 }
 
 // What a message does that starts, whole or as a first fragment.
-fn start(h: Header, id: u32, found: Found, before: Record) -> LineStep
+#[tactic(auto, unfolding(crate::specs::Steps::first_of))]
+fn start(h: Header, id: u32, found: Option<usize>, before: Record) -> Result<LineStep, Refusal>
     ensures { result ≡ starting_of before h id found }
 {
-    let open = join_places::is_at(found);
-    let full = join_places::PLACES_COUNT as u64 <= join_places::open_count(before);
-    if open {
-        return LineStep::Refuses(Refusal::IdOpen);
+    if join_places::is_at(found) {
+        return Err(Refusal::IdOpen);
     }
     if !h.more {
-        return LineStep::Passes;
+        return Ok(LineStep::Passes);
     }
-    if full {
-        return LineStep::Refuses(Refusal::NoPlaceFree);
+    if join_places::PLACES_COUNT as u64 <= join_places::open_count(before) {
+        return Err(Refusal::NoPlaceFree);
     }
-    opens(id, join_places::lowest_free(before))
-}
-
-// A first fragment opens the place that is free.
-fn opens(id: u32, found: Found) -> LineStep
-    ensures { result ≡ opens_at id found }
-{
-    match found {
-        Found::At(place) => LineStep::Opens { place, id },
-        // Never here: fewer open messages than places leave a place free.
-        Found::Nowhere => LineStep::Refuses(Refusal::NoPlaceFree),
-    }
+    // Never refused here: fewer open messages than places leave a place free.
+    let place = join_places::lowest_free(before).ok_or(Refusal::NoPlaceFree)?;
+    Ok(LineStep::Opens { place, id })
 }
 
 // What a fragment of the message does that is open in a place.
-fn fragment(octets: &[u8], h: Header, i: usize, before: Record, places: &[u8]) -> LineStep
+#[tactic(auto, unfolding(crate::specs::Steps::continued))]
+fn fragment(
+    octets: &[u8],
+    h: Header,
+    i: usize,
+    before: Record,
+    places: &[u8],
+) -> Result<LineStep, Refusal>
     requires { Continues octets.now before places.now i }
     ensures { result ≡ continued before places.now (length octets.now) h i }
 {
     let begin = i * join_places::PLACE_SIZE;
     let held = before.lengths[i];
-    let total = held + (octets.len() - message::ID_END);
-    let differs = message::differs(&places[begin..begin + held], h);
-    let long = join_places::PLACE_SIZE < total;
-    if differs {
-        return LineStep::Refuses(Refusal::FirstDiffers);
+    if message::differs(&places[begin..begin + held], h) {
+        return Err(Refusal::FirstDiffers);
     }
-    if long {
-        return LineStep::Refuses(Refusal::TooLong);
+    if join_places::PLACE_SIZE < held + (octets.len() - message::ID_END) {
+        return Err(Refusal::TooLong);
     }
     if h.more {
-        return LineStep::Extends(i);
+        Ok(LineStep::Extends(i))
+    } else {
+        Ok(LineStep::Completes(i))
     }
-    LineStep::Completes(i)
 }

@@ -9,14 +9,11 @@ use frame::Header;
 pub const ID_END: usize = frame::HEADER_SIZE + 4;
 
 // Whether a fragment has another minor version or byte order than the first one.
+#[tactic(auto, unfolding(crate::specs::Steps::differs))]
 pub(crate) fn differs(first: &[u8], h: Header) -> bool
     requires { id_end ≤ length first.now }
     ensures { result ≡ differs first.now h }
 {
     let order = frame::order_flag(first[frame::FLAGS_OFFSET]);
-    let other = h.order;
-    if first[frame::MINOR_OFFSET] != h.minor {
-        return true;
-    }
-    order.octet() != other.octet()
+    first[frame::MINOR_OFFSET] != h.minor || order.octet() != h.order.octet()
 }

@@ -1,4 +1,5 @@
 -- A line is answered by what it asks about: how long the answer is, and what is left in the lent memory.
+use Rattle.std.specs.Prelude.{Option, Some, None}
 use mathlib.Core.Path.{◌≡◌, refl, sym, ap, ◌∙◌}
 use mathlib.Core.Bool.{true, false, not}
 use mathlib.Core.List.{List, [], ◌∷◌}
@@ -10,8 +11,6 @@ use lib.Seq.{sets}
 use borrow.Author.Tests.{eqb-true}
 use Rattle.choices.proofs.Choices.{by-test, and-true, clash}
 use Rattle.choices.specs.Branch.{choose}
-use Rattle.cdr_write.specs.declared.Written.{Written}
-use Rattle.cdr_write.specs.declared.Written.TheVariants.{Upto, NoRoom}
 use Rattle.cdr_write.specs.Write.{Stored}
 use Rattle.cdr_write.proofs.BufferHolds.{stored-upto, stored-fits}
 use Rattle.value_meaning.specs.Value.{item_rows}
@@ -113,13 +112,13 @@ table_kept line table e = rw (question-none line e)
 -- what answering a line gives
 module _ (line out table : List ℕ) (at : ℕ) where
   pub reply-roomed : true ≡ answer_room (length table) (length out) at
-      → LineReplied line out table at (Upto (at + length (line_reply line))) (sets out at (line_reply line)) (table_for (question_of line) table)
+      → LineReplied line out table at (Some (at + length (line_reply line))) (sets out at (line_reply line)) (table_for (question_of line) table)
   reply-roomed e = record { written = rw (← e); output = rw (← e); tabled = rw (← e) }
 
-  pub reply-left : false ≡ answer_room (length table) (length out) at → LineReplied line out table at NoRoom out table
+  pub reply-left : false ≡ answer_room (length table) (length out) at → LineReplied line out table at None out table
   reply-left e = record { written = rw (← e); output = rw (← e); tabled = rw (← e) }
 
-  pub header-written : asks_header line ≡ true → true ≡ answer_room (length table) (length out) at → (r : Written) (out_last : List ℕ)
+  pub header-written : asks_header line ≡ true → true ≡ answer_room (length table) (length out) at → (r : Option ℕ) (out_last : List ℕ)
       → Stored out at (header_line line) r out_last → LineReplied line out table at r out_last table
   header-written a e r out_last s =
       let fits : at + length (header_line line) ≤ length out =
@@ -131,7 +130,7 @@ module _ (line out table : List ℕ) (at : ℕ) where
         tabled = rw (← e) (sym (table_kept line table a));
       }
 
-  pub other-written : asks_header line ≡ false → (r : Written) (out_last table_last : List ℕ) → LineAnswered line out table at r out_last table_last
+  pub other-written : asks_header line ≡ false → (r : Option ℕ) (out_last table_last : List ℕ) → LineAnswered line out table at r out_last table_last
       → LineReplied line out table at r out_last table_last
   other-written a r out_last table_last s = record {
     written = rw (other-reply line a) s.written;

@@ -1,4 +1,5 @@
 -- What the steps of the search for the LF and of `take_line` amount to.
+use Rattle.std.specs.Prelude.{Option}
 use mathlib.Core.Path.{◌≡◌, refl, sym, ap, ◌∙◌}
 use mathlib.Core.List.{List, ◌∷◌}
 use mathlib.Core.Bool.{Bool, true, false, ◌||◌}
@@ -12,7 +13,6 @@ use lib.Seq.{sets, length-take-le, drop-cons, drop-drop, take_all, take-take}
 use borrow.Author.Tests.{eq-eqb, ne_eqb, lt-ltb, le-ltb, ltb-true, ltb-false}
 use Rattle.choices.proofs.Choices.{by-test}
 use Rattle.choices.specs.Branch.{choose}
-use Rattle.cdr_write.specs.declared.Written.{Written}
 use Rattle.cdr_write.specs.Write.{Stored}
 use Rattle.cdr_write.proofs.BufferHolds.{stored-fits}
 use Rattle.lines.specs.Lines.{lf, up_to_lf, has_lf, taken_of, kept_into, LineTaken}
@@ -105,7 +105,7 @@ held_fits kept size held n count h c = omega arith
 pub count_fits : (start stop end room count : ℕ) → start ≤ stop → stop ≤ end → count ≡ min (stop - start) room → start + count ≤ end
 count_fits start stop end room count a b c = omega arith
 
-pub kept-as : (block line : List ℕ) (start held count : ℕ) (r : Written) (last : List ℕ) → held + count ≤ length line → start + count ≤ length block
+pub kept-as : (block line : List ℕ) (start held count : ℕ) (r : Option ℕ) (last : List ℕ) → held + count ≤ length line → start + count ≤ length block
     → Stored line held (take (start + count - start) (drop start block)) r last → last ≡ sets line held (take count (drop start block))
 kept-as block line start held count r last a b s =
     let e : start + count - start ≡ count = omega arith in

@@ -27,11 +27,11 @@ pub fn take_line(block: &[u8], from: usize, line: &mut [u8], kept: usize) -> Tak
 {
     let end = block.len();
     let size = line.len();
-    let start = least(from, end);
-    let held = least(kept, size);
+    let start = from.min(end);
+    let held = kept.min(size);
     let stop = find_lf(block, start);
-    let next = least(stop + 1, end);
-    let count = least(stop - start, size - held);
+    let next = (stop + 1).min(end);
+    let count = (stop - start).min(size - held);
     cdr_write::write_octets(line, held, &block[start..start + count]);
     Taken {
         next,
@@ -45,14 +45,13 @@ fn find_lf(block: &[u8], from: usize) -> usize
     requires { from ≤ length block.now }
     ensures { result ≡ from + length (up_to_lf (drop from block.now)) }
 {
-    let mut i = past_runs(block, from);
-    while i < block.len() {
+    let start = past_runs(block, from);
+    for i in start..block.len() {
         if block[i] == LF {
             return i;
         }
-        i += 1;
     }
-    i
+    block.len()
 }
 
 // Passes over runs of characters that have no LF among them: from there on, the search comes to the same place.
@@ -61,6 +60,7 @@ fn past_runs(block: &[u8], from: usize) -> usize
     ensures { SameLF block.now from result }
 {
     let mut i = from;
+    // No `for`: it stops within a run, and where it stands is the answer.
     while RUN <= block.len() - i {
         if has_lf(&block[i..i + RUN]) {
             return i;
@@ -75,17 +75,8 @@ fn has_lf(characters: &[u8]) -> bool
     ensures { result ≡ has_lf characters.now }
 {
     let mut met = false;
-    let mut k = 0;
-    while k < characters.len() {
-        met = met | (characters[k] == LF);
-        k += 1;
+    for c in characters {
+        met |= *c == LF;
     }
     met
-}
-
-// The lesser of two numbers.
-fn least(a: usize, b: usize) -> usize
-    ensures { result ≡ min a b }
-{
-    if a < b { a } else { b }
 }

@@ -3,16 +3,13 @@
 #![tactic(auto)]
 
 ghost use Rattle.std.specs.Prelude.{◌≡◌};
-ghost use Rattle.profile.specs.Profile.{profile_number, component_number, profile_of, component_of, component_then};
-ghost use Rattle.profile.specs.Inner.{version_then, host_then, port_then, key_then, list_then};
+ghost use Rattle.profile.specs.Profile.{profile_number, component_number, profile_of, component_of};
 
 use cdr::{Index, Order};
 use cdr_fields::Extent;
-use profile_parts::{ComponentPart, NumberPart, OctetsPart, OrderPart, Refusal, VersionPart};
+use profile_parts::Refusal;
 
 mod list;
-
-use list::Components;
 
 // The most octets of a body.
 const LIMIT: usize = cdr::OCTETS_LIMIT;
@@ -38,157 +35,62 @@ pub struct Profile {
     pub extra: usize,
 }
 
-// What the reading of a body answers.
-#[derive(Clone, Copy)]
-pub enum ProfileAnswer {
-    Read(Profile),
-    Refused(Refusal),
-}
-
-impl ProfileAnswer {
-    // 01's number of the answer, 0 for a body that was read.
-    pub fn number(self) -> u32
-        ensures { result ≡ profile_number self }
-    {
-        match self {
-            ProfileAnswer::Read(_) => 0,
-            ProfileAnswer::Refused(refusal) => refusal.number(),
-        }
+// 01's number of what the reading of a body answers, 0 for a body that was read.
+pub fn profile_number(answer: Result<Profile, Refusal>) -> u32
+    ensures { result ≡ profile_number answer }
+{
+    match answer {
+        Ok(_) => 0,
+        Err(refusal) => refusal.number(),
     }
 }
 
-// A component of a body: its tag and octets.
-#[derive(Clone, Copy)]
-pub enum ComponentAnswer {
-    Found { tag: u64, octets: Extent },
-    Refused(Refusal),
-}
-
-impl ComponentAnswer {
-    // 01's number of the answer, 0 for a component that is there.
-    pub fn number(self) -> u32
-        ensures { result ≡ component_number self }
-    {
-        match self {
-            ComponentAnswer::Found { tag: _, octets: _ } => 0,
-            ComponentAnswer::Refused(refusal) => refusal.number(),
-        }
+// 01's number of what is answered about a component, 0 for one that is there.
+pub fn component_number(answer: Result<(u64, Extent), Refusal>) -> u32
+    ensures { result ≡ component_number answer }
+{
+    match answer {
+        Ok((_, _)) => 0,
+        Err(refusal) => refusal.number(),
     }
 }
 
 // Reads a body.
-pub fn read(s: &[u8]) -> ProfileAnswer
+pub fn read(s: &[u8]) -> Result<Profile, Refusal>
     ensures { result ≡ profile_of s.now }
 {
     if LIMIT < s.len() {
-        return ProfileAnswer::Refused(Refusal::TooLong);
+        return Err(Refusal::TooLong);
     }
-    match profile_parts::order_at(s, Index::START) {
-        OrderPart::InOrder { order, next } => version_then(s, order, next),
-        OrderPart::Refused(refusal) => ProfileAnswer::Refused(refusal),
-    }
-}
-
-// The version, and all behind it.
-fn version_then(s: &[u8], order: Order, at: Index) -> ProfileAnswer
-    ensures { result ≡ version_then s.now order at }
-{
-    match profile_parts::version_at(s, at) {
-        VersionPart::Version { major, minor, next } => host_then(
-            s,
-            Head {
-                order,
-                major,
-                minor,
-            },
-            next,
-        ),
-        VersionPart::Refused(refusal) => ProfileAnswer::Refused(refusal),
-    }
-}
-
-// The host, and all behind it.
-fn host_then(s: &[u8], head: Head, at: Index) -> ProfileAnswer
-    ensures { result ≡ host_then s.now head at }
-{
-    let order = head.order;
-    match profile_parts::host_at(s, at, order) {
-        OctetsPart::Span { octets, next } => port_then(s, head, octets, next),
-        OctetsPart::Refused(refusal) => ProfileAnswer::Refused(refusal),
-    }
-}
-
-// The port, and all behind it.
-fn port_then(s: &[u8], head: Head, host: Extent, at: Index) -> ProfileAnswer
-    ensures { result ≡ port_then s.now head host at }
-{
-    let order = head.order;
-    match profile_parts::port_at(s, at, order) {
-        NumberPart::Number { value, next } => key_then(s, head, host, value, next),
-        NumberPart::Refused(refusal) => ProfileAnswer::Refused(refusal),
-    }
-}
-
-// The key, and all behind it.
-fn key_then(s: &[u8], head: Head, host: Extent, port: u64, at: Index) -> ProfileAnswer
-    ensures { result ≡ key_then s.now head host port at }
-{
-    let order = head.order;
-    match profile_parts::key_at(s, at, order) {
-        OctetsPart::Span { octets, next } => list_then(s, head, host, port, octets, next),
-        OctetsPart::Refused(refusal) => ProfileAnswer::Refused(refusal),
-    }
-}
-
-// The components, and the octets after them.
-fn list_then(s: &[u8], head: Head, host: Extent, port: u64, key: Extent, at: Index) -> ProfileAnswer
-    ensures { result ≡ list_then s.now head host port key at }
-{
-    let order = head.order;
-    match list::list_at(s, at, head.minor, order) {
-        Components::Listed {
-            count,
-            first,
-            extra,
-        } => ProfileAnswer::Read(Profile {
-            head,
-            host,
-            port,
-            key,
-            components: count,
-            first,
-            extra,
-        }),
-        Components::Refused(refusal) => ProfileAnswer::Refused(refusal),
-    }
+    let (order, at) = profile_parts::order_at(s, Index::START)?;
+    let (major, minor, at) = profile_parts::version_at(s, at)?;
+    let (host, at) = profile_parts::host_at(s, at, order)?;
+    let (port, at) = profile_parts::port_at(s, at, order)?;
+    let (key, at) = profile_parts::key_at(s, at, order)?;
+    let (components, first, extra) = list::list_at(s, at, minor, order)?;
+    Ok(Profile {
+        head: Head {
+            order,
+            major,
+            minor,
+        },
+        host,
+        port,
+        key,
+        components,
+        first,
+        extra,
+    })
 }
 
 // The component of a body that has a number, the first one 0.
-pub fn component(s: &[u8], number: u64) -> ComponentAnswer
+pub fn component(s: &[u8], number: u64) -> Result<(u64, Extent), Refusal>
     ensures { result ≡ component_of s.now number }
 {
-    match read(s) {
-        ProfileAnswer::Read(profile) => component_then(s, profile, number),
-        ProfileAnswer::Refused(refusal) => ComponentAnswer::Refused(refusal),
-    }
-}
-
-// The component of a body that was read.
-fn component_then(s: &[u8], profile: Profile, number: u64) -> ComponentAnswer
-    ensures { result ≡ component_then s.now profile number }
-{
+    let profile = read(s)?;
     if profile.components <= number {
-        return ComponentAnswer::Refused(Refusal::NoSuchComponent);
+        return Err(Refusal::NoSuchComponent);
     }
-    let head = profile.head;
-    let order = head.order;
-    let first = profile.first;
-    match list::component_from(s, first, number, order) {
-        ComponentPart::Component {
-            tag,
-            octets,
-            next: _,
-        } => ComponentAnswer::Found { tag, octets },
-        ComponentPart::Refused(refusal) => ComponentAnswer::Refused(refusal),
-    }
+    let (tag, octets, _) = list::component_from(s, profile.first, number, profile.head.order)?;
+    Ok((tag, octets))
 }

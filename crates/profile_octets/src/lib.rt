@@ -4,34 +4,32 @@
 ghost use Rattle.cdr_fields.specs.Extents.{PartOf};
 ghost use Rattle.profile_octets.specs.Octets.{host_extent, key_extent, component_extent};
 
-use profile::{ComponentAnswer, ProfileAnswer};
-
 // The host of a body, without its final zero; no octets of a refused body.
-pub fn host<'a>(s: &'a [u8]) -> &'a [u8]
+pub fn host(s: &[u8]) -> &[u8]
     ensures { PartOf s.entry (host_extent s.now) result }
 {
     match profile::read(s) {
-        ProfileAnswer::Read(profile) => cdr_fields::octets_in(s, profile.host),
-        ProfileAnswer::Refused(_) => &s[0..0], // no host
+        Ok(profile) => cdr_fields::octets_in(s, profile.host),
+        Err(_) => &s[0..0],
     }
 }
 
 // The key of a body; no octets of a refused body.
-pub fn key<'a>(s: &'a [u8]) -> &'a [u8]
+pub fn key(s: &[u8]) -> &[u8]
     ensures { PartOf s.entry (key_extent s.now) result }
 {
     match profile::read(s) {
-        ProfileAnswer::Read(profile) => cdr_fields::octets_in(s, profile.key),
-        ProfileAnswer::Refused(_) => &s[0..0], // no key
+        Ok(profile) => cdr_fields::octets_in(s, profile.key),
+        Err(_) => &s[0..0],
     }
 }
 
 // The octets of the component of a body that has a number; none where it is refused.
-pub fn component_octets<'a>(s: &'a [u8], number: u64) -> &'a [u8]
+pub fn component_octets(s: &[u8], number: u64) -> &[u8]
     ensures { PartOf s.entry (component_extent s.now number) result }
 {
     match profile::component(s, number) {
-        ComponentAnswer::Found { tag: _, octets } => cdr_fields::octets_in(s, octets),
-        ComponentAnswer::Refused(_) => &s[0..0],
+        Ok((_, octets)) => cdr_fields::octets_in(s, octets),
+        Err(_) => &s[0..0],
     }
 }

@@ -1,4 +1,5 @@
 -- Each turn writes the text that its line owes, and so does a whole call.
+use Rattle.std.specs.Prelude.{Option, Some, None}
 use mathlib.Core.Path.{◌≡◌, refl, sym, ap, subst, ◌∙◌}
 use mathlib.Core.Bool.{true, false}
 use mathlib.Core.List.{List, ◌∷◌, ◌++◌, append_assoc}
@@ -13,8 +14,6 @@ use Rattle.lines.specs.declared.Taken.{Taken}
 use Rattle.lines.specs.Lines.{up_to_lf, lines_of, taken_of, kept_into, LineTaken}
 use Rattle.lines.proofs.BegunCut.{begun-cut}
 use Rattle.lines.proofs.LinesOfBlocks.{block-ended, block-open, next-open, next_more, next-most, kept-most, kept-is, drop-within}
-use Rattle.cdr_write.specs.declared.Written.{Written}
-use Rattle.cdr_write.specs.declared.Written.TheVariants.{Upto, NoRoom}
 use Rattle.cdr_write.proofs.BufferHolds.{take-stored, drop-stored}
 use Rattle.questions.specs.declared.Progress.{Progress}
 use Rattle.ask_octets.specs.Octets.{line_most}
@@ -146,14 +145,14 @@ module _ (block : List ℕ) (at : Progress) (line out table : List ℕ) (g : Goe
       pub has_room : true ≡ answer_room (length table) (length out) at.filled
       has_room = roomy (length table) (length out) at.filled g.tabled g.room
 
-      module _ (r : Written) (out_last table_last : List ℕ) (s : LineAnswered (take t.kept l) out table at.filled r out_last table_last) where
-        upto : r ≡ Upto (at.filled + length text)
+      module _ (r : Option ℕ) (out_last table_last : List ℕ) (s : LineAnswered (take t.kept l) out table at.filled r out_last table_last) where
+        upto : r ≡ Some (at.filled + length text)
         upto = s.written ∙ rw (← has_room)
 
-        pub turn-always : {G : Type 0} → r ≡ NoRoom → G
+        pub turn-always : {G : Type 0} → r ≡ None → G
         turn-always u = let w = upto in clash cc
 
-        pub turn-ended : (end : ℕ) → r ≡ Upto end → Turned block before (ask_work (record { kept = 0; next = t.next; filled = end }) l out_last table_last)
+        pub turn-ended : (end : ℕ) → r ≡ Some end → Turned block before (ask_work (record { kept = 0; next = t.next; filled = end }) l out_last table_last)
         turn-ended end u =
             let w = upto in
             let f : end ≡ at.filled + length text = cc in

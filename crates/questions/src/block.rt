@@ -1,22 +1,15 @@
 // The lines of a block, answered one after the other.
-ghost use Rattle.std.specs.Prelude.{◌≡◌, true, false, ◌<◌, min, length};
+ghost use Rattle.std.specs.Prelude.{◌≡◌, true, false, ◌<◌, length};
 ghost use Rattle.questions.specs.Blocks.{ask_work};
 ghost use Rattle.questions.specs.Turns.{Goes, Turned};
 
 use crate::{LINE_ROOM, Progress};
-use cdr_write::Written;
 
 // Whether characters are left in the block, and there is room for any line, its items and its answer.
 pub(crate) fn goes_on(block: usize, line: usize, out: usize, table: usize, at: Progress) -> bool
     ensures { (result ≡ true → Goes block line out table at) × (result ≡ false → Goes block line out table at → ⊥) }
 {
-    if block <= at.next {
-        return false;
-    }
-    if line < LINE_ROOM {
-        return false;
-    }
-    ask_room::has_room(table, out, at.filled)
+    at.next < block && LINE_ROOM <= line && ask_room::has_room(table, out, at.filled)
 }
 
 // Takes the characters up to the next LF, and answers the line if the LF was met.
@@ -32,16 +25,14 @@ pub(crate) fn turn(
         (ask_work result line.new out.new table.new) }
 {
     let taken = lines::take_line(block, at.next, line, at.kept);
-    let kept = taken.kept;
-    let filled = at.filled;
     if !taken.ended {
         return Progress {
-            kept,
+            kept: taken.kept,
             next: taken.next,
-            filled,
+            filled: at.filled,
         };
     }
-    let Written::Upto(end) = ask_answers::answer_line(&line[..kept], out, table, filled) else {
+    let Some(end) = ask_answers::answer_line(&line[..taken.kept], out, table, at.filled) else {
         return at;
     };
     Progress {
@@ -49,11 +40,4 @@ pub(crate) fn turn(
         next: taken.next,
         filled: end,
     }
-}
-
-// The lesser of two numbers.
-pub(crate) fn least(a: usize, b: usize) -> usize
-    ensures { result ≡ min a b }
-{
-    if a < b { a } else { b }
 }

@@ -34,9 +34,10 @@ pub fn answer_block(
 {
     let mut at = Progress {
         kept,
-        next: block::least(from, block.len()),
+        next: from.min(block.len()),
         filled: 0,
     };
+    // No `for`: what a turn leaves says whether there is another.
     while block::goes_on(block.len(), line.len(), out.len(), table.len(), at) {
         at = block::turn(block, line, out, table, at);
     }

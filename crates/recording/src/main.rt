@@ -3,7 +3,6 @@
 // no `end` is written, and the exit status is 1.
 #![tactic(auto)]
 
-use cdr_write::Written;
 use join_places::PLACES_SIZE;
 use program::READS;
 use recording_state::State;
@@ -17,12 +16,9 @@ const BLOCK: usize = 65536;
 // The characters of memory for answers, which are written when no more of the longest fit.
 const OUTPUT: usize = 131072;
 
-// Where the recording stands, and whether every read and write has gone well.
+// That the program stops: a read or a write failed, memory has no room, or the input outlasts the reads. Standard error says which.
 #[derive(Clone, Copy)]
-struct Reading {
-    state: State,
-    ok: bool,
-}
+struct Stopped;
 
 fn main(rt: HostRuntime) -> ExitCode {
     let mut block = [0u8; BLOCK];
@@ -31,7 +27,7 @@ fn main(rt: HostRuntime) -> ExitCode {
     let mut out = [0u8; OUTPUT];
     let mut input = rt.stdin();
     let mut output = rt.stdout();
-    let read = read_all(
+    let listed = list(
         &rt,
         &mut input,
         &mut output,
@@ -40,15 +36,25 @@ fn main(rt: HostRuntime) -> ExitCode {
         &mut places,
         &mut out,
     );
-    if !read.ok {
-        return ExitCode::FAILURE;
+    match listed {
+        Ok(()) => ExitCode::SUCCESS,
+        Err(Stopped) => ExitCode::FAILURE,
     }
-    let state = read.state;
-    if close(&rt, &mut output, &mut line, &mut places, &mut out, state) {
-        ExitCode::SUCCESS
-    } else {
-        ExitCode::FAILURE
-    }
+}
+
+// Writes the listing of the input.
+fn list<R: Read, W: Write>(
+    rt: &impl Eprint,
+    input: &mut R,
+    output: &mut W,
+    block: &mut [u8],
+    line: &mut [u8],
+    places: &mut [u8],
+    out: &mut [u8],
+) -> Result<(), Stopped> {
+    let read = read_all(rt, input, output, block, line, places, out)?;
+    let ended = end_line(rt, output, line, places, out, read)?;
+    close(rt, output, line, places, out, ended)
 }
 
 // Reads the input to its end, and writes the answer of every line that ends in an LF.
@@ -60,27 +66,20 @@ fn read_all<R: Read, W: Write>(
     line: &mut [u8],
     places: &mut [u8],
     out: &mut [u8],
-) -> Reading {
+) -> Result<State, Stopped> {
     let mut state = State::fresh();
     for _ in 0..READS {
-        match input.read(block) {
-            Ok(n) => {
-                if n == 0 {
-                    return Reading { state, ok: true };
-                }
-                let taken = take_block(rt, output, &block[..n], line, places, out, state);
-                if !taken.ok {
-                    return taken;
-                }
-                state = taken.state;
-            }
-            Err(e) => {
-                program::say_unread(rt, e);
-                return Reading { state, ok: false };
-            }
+        let n = input.read(block).map_err(|why| {
+            program::say_unread(rt, why);
+            Stopped
+        })?;
+        if n == 0 {
+            return Ok(state);
         }
+        state = take_block(rt, output, &block[..n], line, places, out, state)?;
     }
-    endless(rt, state)
+    program::say_endless(rt);
+    Err(Stopped)
 }
 
 // Writes the answers of a block, as many at a time as there is memory for.
@@ -92,46 +91,21 @@ fn take_block<W: Write>(
     places: &mut [u8],
     out: &mut [u8],
     before: State,
-) -> Reading {
+) -> Result<State, Stopped> {
     let mut state = before;
     let mut from = 0;
+    // No `for`: each call says how far it came.
     while from < block.len() {
         let done = recording_text::answer_block(block, from, line, places, out, state);
-        state = done.state;
-        let next = done.next;
-        if next <= from {
-            return stuck(rt, state);
-        }
-        from = next;
-        if !program::write_text(rt, output, out, done.filled) {
-            return Reading { state, ok: false };
-        }
-    }
-    Reading { state, ok: true }
-}
-
-// Answers a last line that no LF ended, and then writes the closing line by itself: it is begun only where all before it was written. Says
-// whether all of it was.
-fn close<W: Write>(
-    rt: &impl Eprint,
-    output: &mut W,
-    line: &mut [u8],
-    places: &mut [u8],
-    out: &mut [u8],
-    state: State,
-) -> bool {
-    let ended = end_line(rt, output, line, places, out, state);
-    if !ended.ok {
-        return false;
-    }
-    let last = ended.state;
-    match recording_text::answer_end(line, places, out, last) {
-        Written::Upto(end) => program::write_text(rt, output, out, end),
-        Written::NoRoom => {
+        if done.next <= from {
             program::say_full(rt);
-            false
+            return Err(Stopped);
         }
+        write(rt, output, out, done.filled)?;
+        state = done.state;
+        from = done.next;
     }
+    Ok(state)
 }
 
 // Answers the line that was begun, if one was, as an LF would end it.
@@ -142,21 +116,39 @@ fn end_line<W: Write>(
     places: &mut [u8],
     out: &mut [u8],
     state: State,
-) -> Reading {
+) -> Result<State, Stopped> {
     if state.kept == 0 {
-        return Reading { state, ok: true };
+        return Ok(state);
     }
     take_block(rt, output, b"\n", line, places, out, state)
 }
 
-// The reading of a block that is not gone on with: the output's memory has no room for an answer.
-fn stuck(rt: &impl Eprint, state: State) -> Reading {
-    program::say_full(rt);
-    Reading { state, ok: false }
+// Writes the closing line by itself: it is begun only where all before it was written.
+fn close<W: Write>(
+    rt: &impl Eprint,
+    output: &mut W,
+    line: &mut [u8],
+    places: &mut [u8],
+    out: &mut [u8],
+    state: State,
+) -> Result<(), Stopped> {
+    let Some(end) = recording_text::answer_end(line, places, out, state) else {
+        program::say_full(rt);
+        return Err(Stopped);
+    };
+    write(rt, output, out, end)
 }
 
-// The reading of an input that outlasts the reads.
-fn endless(rt: &impl Eprint, state: State) -> Reading {
-    program::say_endless(rt);
-    Reading { state, ok: false }
+// Writes the first characters of the output's memory.
+fn write<W: Write>(
+    rt: &impl Eprint,
+    output: &mut W,
+    out: &[u8],
+    filled: usize,
+) -> Result<(), Stopped> {
+    if program::write_text(rt, output, out, filled) {
+        Ok(())
+    } else {
+        Err(Stopped)
+    }
 }

@@ -1,16 +1,13 @@
 -- Each turn writes the text that its line owes, and so does a whole call.
+use Rattle.std.specs.Prelude.{Option, Some, None, Result, Ok, Err}
 use Rattle.std.proofs.Common.{◌≡◌, ℕ, zero, suc, ◌+◌, ◌-◌, ◌<◌, ◌≤◌, true, false, ltb, List, [], ◌∷◌, ◌++◌, length, take, drop, sym, refl, ap, ◌∙◌, subst, true≢false, append_assoc, arith, length-append, take-take, drop-drop, ltb-false, ltb-true}
 use lib.Seq.{length-sets, drop-length}
 use Rattle.choices.proofs.Choices.{by-test}
-use Rattle.hexline.specs.declared.Decoded.{Decoded}
-use Rattle.hexline.specs.declared.Decoded.TheVariants.{Octets, TooLong, NotDigits, NoRoom}
 use Rattle.hexline.specs.Decoding.{line_octets, decoded_of}
 use Rattle.hexline.proofs.OctetsOfDigits.{digits-length}
 use Rattle.lines.specs.Lines.{lf, up_to_lf, lines_from, lines_of, kept_into}
 use Rattle.lines.proofs.LinesOfBlocks.{block-ended, block-open, next-open, next_more, next-most, kept-is, drop-within}
 use Rattle.join_places.specs.declared.Record.{Record}
-use Rattle.join_answers.specs.declared.Output.{Output}
-use Rattle.join_answers.specs.declared.Output.TheVariants.{Message, Nothing}
 use Rattle.join_answers.specs.Answers.{output_in}
 use Rattle.joining.specs.Answers.{message_written, step_within, answer_to}
 use Rattle.join_laws.proofs.MessageFits.{message-fits}
@@ -24,19 +21,21 @@ use Rattle.recording_text.specs.Blocks.{line_room, Work, goes_on, line_ended, li
 use Rattle.decimals.proofs.CharactersPut.{number-most}
 use Rattle.recording_text.proofs.ListingCut.{entry-same, begun-cut}
 use Rattle.recording_text.proofs.TurnEquations.{Goes, goes, taken, kept, turn-ended, turn-begun, turn-goes, block_on, block-stops, block-done, on-with}
+use Rattle.hexline.specs.declared.Undecoded.TheVariants.{NoRoom, NotDigits, TooLong}
+use Rattle.hexline.specs.declared.Undecoded.{Undecoded}
 
 -- no answer is longer than the longest
-shown-most : (o : Output) (message : List ℕ) → length message ≤ message_most → length (shown_of o message) ≤ 32768
-shown-most (Message n) message h = rw (digits-length message) (omega arith)
-shown-most Nothing message h = omega arith
+shown-most : (o : Option ℕ) (message : List ℕ) → length message ≤ message_most → length (shown_of o message) ≤ 32768
+shown-most (Some n) message h = rw (digits-length message) (omega arith)
+shown-most None message h = omega arith
 
-entry-shown : (d : Decoded) (v : List ℕ) (r : Record) (places : List ℕ) → length (entry_from d v r places).shown ≤ 32768
-entry-shown (Octets n) v r places =
+entry-shown : (d : Result ℕ Undecoded) (v : List ℕ) (r : Record) (places : List ℕ) → length (entry_from d v r places).shown ≤ 32768
+entry-shown (Ok n) v r places =
     let step = step_within v r places message_most in
     shown-most (output_in (answer_to step r v places)) (message_written step r v places) (message-fits v r places message_most)
-entry-shown TooLong v r places = omega arith
-entry-shown NotDigits v r places = omega arith
-entry-shown NoRoom v r places = omega arith
+entry-shown (Err TooLong) v r places = omega arith
+entry-shown (Err NotDigits) v r places = omega arith
+entry-shown (Err NoRoom) v r places = omega arith
 
 line-most : (line answer : ℕ) (shown : List ℕ) → length (line_text line answer shown) ≤ 43 + length shown
 unfolding line_text

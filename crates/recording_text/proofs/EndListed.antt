@@ -1,10 +1,10 @@
 -- The end of a recording: what the steps of the last call amount to, and that its text fits.
+use Rattle.std.specs.Prelude.{Some, None}
 use Rattle.std.proofs.Common.{◌≡◌, ℕ, ◌+◌, ◌<◌, ◌≤◌, min, true, List, [], ◌∷◌, ◌++◌, length, take, sym, refl, ap, ◌∙◌, arith, length-append, length-take-le, take_all, le-leb, leb-true}
 use native.Mathlib.Omega.{min_cases}
 use lib.Seq.{length-sets}
 use borrow.Author.Tests.{lt-leb}
 use Rattle.choices.proofs.Choices.{by-test, clash}
-use Rattle.cdr_write.specs.declared.Written.TheVariants.{Upto, NoRoom}
 use Rattle.lines.specs.Lines.{lf, last_line, lines_from}
 use Rattle.lines.proofs.LinesOfBlocks.{lines_end}
 use Rattle.join_places.specs.declared.Record.{Record}
@@ -47,7 +47,7 @@ module _ (line : List ℕ) (kept n : ℕ) (e : n ≡ min kept (length line)) whe
 
 -- the three answers
 module _ (line places out : List ℕ) (state : State) where
-  pub end-full : length out < longest + closing → EndAnswered line places out state NoRoom places out
+  pub end-full : length out < longest + closing → EndAnswered line places out state None places out
   end-full h =
       let q = lt-leb (longest + closing) (length out) h in
       record { written = rw q; stored = rw q; output = rw q }
@@ -58,12 +58,12 @@ module _ (line places out : List ℕ) (state : State) where
 
     -- no line was begun
     pub end_none : n ≡ 0 → (r : ℕ) (out_last : List ℕ) (count : ℕ) → count ≡ open_count state.messages
-        → Put out 0 (end_text state.lines count) r out_last → EndAnswered line places out state (Upto r) places out_last
+        → Put out 0 (end_text state.lines count) r out_last → EndAnswered line places out state (Some r) places out_last
     unfolding listing_from stored_from
     end_none z r out_last count k p =
         let t : end_of line places state ≡ end_text state.lines (open_count state.messages) = rw (last_none line state.kept n e z) in
         record {
-          written = rw (room, t, ← k) (ap Upto (p.end ∙ omega arith));
+          written = rw (room, t, ← k) (ap Some (p.end ∙ omega arith));
           stored = rw (room, last_none line state.kept n e z);
           output = rw (room, t, ← k) p.contents;
         }
@@ -78,7 +78,7 @@ module _ (line places out : List ℕ) (state : State) where
             omega (arith, q.text.end, entry-most number (take n line) state.messages places)
 
         pub end-one : (r : ℕ) (out_last : List ℕ) (count : ℕ) → count ≡ open_count l.after
-            → Put mid l.end (end_text number count) r out_last → EndAnswered line places out state (Upto r) places_last out_last
+            → Put mid l.end (end_text number count) r out_last → EndAnswered line places out state (Some r) places_last out_last
         unfolding listing_from stored_from
         end-one r out_last count c p =
             let entry = entry_of (take n line) state.messages places in
@@ -88,7 +88,7 @@ module _ (line places out : List ℕ) (state : State) where
             let g : count ≡ open_count entry.after = c ∙ ap open_count q.after in
             let w = put_then q.text (rw g at p) in
             record {
-              written = rw (room, t) (ap Upto (w.end ∙ omega arith));
+              written = rw (room, t) (ap Some (w.end ∙ omega arith));
               stored = rw (room, last_one line state.kept n e z) q.stored;
               output = rw (room, t) w.contents;
             }
@@ -109,7 +109,7 @@ last-most k r places (c ∷ l) =
     rw (length-append (entry_text (number_after k) e) (end_text (number_after k) (open_count e.after)))
     (omega (arith, entry-most (number_after k) (c ∷ l) r places, closing-most (number_after k) (open_count e.after)))
 
-module _ (line places out : List ℕ) (state : State) (n : ℕ) (places_last out_last : List ℕ) (a : EndAnswered line places out state (Upto n) places_last out_last) where
+module _ (line places out : List ℕ) (state : State) (n : ℕ) (places_last out_last : List ℕ) (a : EndAnswered line places out state (Some n) places_last out_last) where
   end-most : length (end_of line places state) ≤ longest + closing
   end-most = rw (lines_end (take state.kept line)) (last-most state.lines state.messages places (take state.kept line))
 
@@ -118,10 +118,10 @@ module _ (line places out : List ℕ) (state : State) (n : ℕ) (places_last out
   had-room =
       by-test (end_room out)
       (λ e. e)
-      (λ e. let q : Upto n ≡ NoRoom = a.written ∙ rw e in clash cc)
+      (λ e. let q : (Some n) ≡ None = a.written ∙ rw e in clash cc)
 
   count_of : n ≡ length (end_of line places state)
-  count_of = let q : Upto n ≡ Upto (length (end_of line places state)) = a.written ∙ rw had-room in cc
+  count_of = let q : (Some n) ≡ Some (length (end_of line places state)) = a.written ∙ rw had-room in cc
 
   pub end-within : n ≤ length out
   end-within = omega (arith, count_of, end-most, leb-true (longest + closing) (length out) had-room)

@@ -1,12 +1,12 @@
 -- The input alone decides a recording's listing: the octets that the places have at first do not matter.
+use Rattle.std.specs.Prelude.{Result, Ok, Err}
 use Rattle.std.proofs.Common.{◌≡◌, ℕ, ◌≤◌, List, [], ◌∷◌, ◌++◌, length, sym, refl, ap, ◌∙◌, subst}
-use Rattle.hexline.specs.declared.Decoded.{Decoded}
-use Rattle.hexline.specs.declared.Decoded.TheVariants.{Octets, TooLong, NotDigits, NoRoom}
 use Rattle.hexline.specs.Decoding.{line_octets, decoded_of}
 use Rattle.lines.specs.Lines.{lines_of}
 use Rattle.join_places.specs.declared.Record.{Record}
 use Rattle.join_places.specs.Places.{places_size, fresh_record}
 use Rattle.join_steps.specs.Steps.{LineStep}
+use Rattle.join_answers.specs.declared.Refusal.{Refusal}
 use Rattle.join_answers.specs.Answers.{output_in, answer_number}
 use Rattle.joining.specs.Answers.{step_within, answer_of_step}
 use Rattle.join_laws.proofs.PartsHeld.{fresh_start}
@@ -15,6 +15,8 @@ use Rattle.recording_text.specs.Listing.{octets_most, message_most, shown_of, Li
 use Rattle.recording_state.specs.States.{fresh_state}
 use Rattle.recording_text.specs.Calls.{Calls}
 use Rattle.recording_text.proofs.RecordingListed.{recording-text}
+use Rattle.hexline.specs.declared.Undecoded.TheVariants.{NoRoom, NotDigits, TooLong}
+use Rattle.hexline.specs.declared.Undecoded.{Undecoded}
 
 -- two entries that say the same, and leave the same record and places that hold the same
 record Agree (e f : LineEntry) : Type 0 where
@@ -28,7 +30,7 @@ module _ (r : Record) (p q : List ℕ) (a : Alike r p q) where
   joined-agree v =
       let step = step_within v r p message_most in
       let m = alike-message r p q a v message_most in
-      subst (λ (s : LineStep). Agree (joined_entry step v r p) (joined_entry s v r q)) (alike-step r p q a v message_most)
+      subst (λ (s : Result LineStep Refusal). Agree (joined_entry step v r p) (joined_entry s v r q)) (alike-step r p q a v message_most)
       (record {
         number = ap (λ (l : List ℕ). answer_number (answer_of_step step (length l))) m;
         shown = ap (λ (l : List ℕ). shown_of (output_in (answer_of_step step (length l))) l) m;
@@ -36,11 +38,11 @@ module _ (r : Record) (p q : List ℕ) (a : Alike r p q) where
         alike = alike-after r p q a v message_most;
       })
 
-  by-decoded : (d : Decoded) (v : List ℕ) → Agree (entry_from d v r p) (entry_from d v r q)
-  by-decoded (Octets n) v = joined-agree v
-  by-decoded TooLong v = record { number = refl; shown = refl; after = refl; alike = a }
-  by-decoded NotDigits v = record { number = refl; shown = refl; after = refl; alike = a }
-  by-decoded NoRoom v = record { number = refl; shown = refl; after = refl; alike = a }
+  by-decoded : (d : Result ℕ Undecoded) (v : List ℕ) → Agree (entry_from d v r p) (entry_from d v r q)
+  by-decoded (Ok n) v = joined-agree v
+  by-decoded (Err TooLong) v = record { number = refl; shown = refl; after = refl; alike = a }
+  by-decoded (Err NotDigits) v = record { number = refl; shown = refl; after = refl; alike = a }
+  by-decoded (Err NoRoom) v = record { number = refl; shown = refl; after = refl; alike = a }
 
   entries-agree : (line : List ℕ) → Agree (entry_of line r p) (entry_of line r q)
   unfolding entry_of

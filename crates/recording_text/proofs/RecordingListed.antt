@@ -1,8 +1,8 @@
 -- Whatever way a recording is cut into blocks and calls, the texts one after the other are its listing.
+use Rattle.std.specs.Prelude.{Some}
 use Rattle.std.proofs.Common.{◌≡◌, ℕ, zero, suc, ◌+◌, ◌≤◌, true, List, [], ◌∷◌, ◌++◌, length, take, drop, sym, refl, ap, ◌∙◌, append-nil, arith, length-drop, le-leb}
 use lib.Seq.{sets}
 use Rattle.choices.specs.Branch.{choose}
-use Rattle.cdr_write.specs.declared.Written.TheVariants.{Upto}
 use Rattle.lines.specs.Lines.{lf, lines_from}
 use Rattle.recording_state.specs.declared.State.{State}
 use Rattle.recording_text.specs.Listing.{longest, listing_of}
@@ -38,7 +38,7 @@ module _ (out : List ℕ) (enough : longest + closing ≤ length out) where
       let text = end_of line places state in
       let stored = stored_from state.messages places (lines_from (take state.kept line) []) in
       let has : end_room out ≡ true = le-leb (longest + closing) (length out) enough in
-      let a : EndAnswered line places out state (Upto (length text)) stored (sets out 0 text) = record { written = rw has; stored = rw has; output = rw has } in
+      let a : EndAnswered line places out state (Some (length text)) stored (sets out 0 text) = record { written = rw has; stored = rw has; output = rw has } in
       record { text = take (length text) (sets out 0 text); calls = list_last state line places out (length text) stored (sets out 0 text) a; onward = refl }
 
   -- every input of at most n characters

@@ -20,10 +20,9 @@
 --   end_room          whether there is room for the longest of both
 --   EndAnswered      what the last call ensures: the text is written from the start on, or everything is as it was
 use Rattle.std.specs.Prelude.{◌≡◌, ℕ, zero, suc, ◌+◌, ◌<◌, ◌≤◌, min, Bool, cond, ◌&&◌, List, [], ◌∷◌, ◌++◌, length, take, drop, nat_le, nat_lt}
+use Rattle.std.specs.Prelude.{Option, Some, None}
 use Rattle.std.proofs.lemmas.List.Edits.{sets}
 use Rattle.choices.specs.Branch.{choose}
-use Rattle.cdr_write.specs.declared.Written.{Written}
-use Rattle.cdr_write.specs.declared.Written.TheVariants.{Upto, NoRoom}
 use Rattle.hexline.specs.Decoding.{line_limit}
 use Rattle.lines.specs.declared.Taken.{Taken}
 use Rattle.lines.specs.Lines.{lines_from, taken_of, kept_into}
@@ -129,7 +128,7 @@ end_of line places state = listing_after state line places []
 abbrev pub end_room : List ℕ → Bool
 end_room out = nat_le (longest + closing) (length out)
 
-pub record EndAnswered (line places out : List ℕ) (state : State) (r : Written) (places_last out_last : List ℕ) : Type 0 where
-  pub written : r ≡ cond (end_room out) (Upto (length (end_of line places state))) NoRoom
+pub record EndAnswered (line places out : List ℕ) (state : State) (r : Option ℕ) (places_last out_last : List ℕ) : Type 0 where
+  pub written : r ≡ cond (end_room out) (Some (length (end_of line places state))) None
   pub stored : places_last ≡ cond (end_room out) (stored_from state.messages places (lines_from (take state.kept line) [])) places
   pub output : out_last ≡ cond (end_room out) (sets out 0 (end_of line places state)) out

@@ -5,8 +5,7 @@
 --                  the last call, which had room for its text (list_last)
 --   ReadsSome      each of the calls but the last takes some of its block, and is lent an output of this length
 --   ReadThrough    calls, with such outputs, that read an input to its end, and the text that they write
-use Rattle.std.specs.Prelude.{◌≡◌, ℕ, ◌<◌, List, [], ◌∷◌, ◌++◌, length, take, drop}
-use Rattle.cdr_write.specs.declared.Written.TheVariants.{Upto}
+use Rattle.std.specs.Prelude.{◌≡◌, ℕ, ◌<◌, List, [], ◌∷◌, ◌++◌, length, take, drop, Some}
 use Rattle.lines.specs.Lines.{lf}
 use Rattle.recording_state.specs.declared.State.{State}
 use Rattle.recording_text.specs.declared.Progress.{Progress}
@@ -20,7 +19,7 @@ pub data Calls : State → List ℕ → List ℕ → List ℕ → List ℕ → T
   list_ended : (state : State) (line places : List ℕ) (c : ℕ) (rest text : List ℕ) → take state.kept line ≡ c ∷ rest
       → Calls state line places (lf ∷ []) text → Calls state line places [] text
   list_last : (state : State) (line places out : List ℕ) (n : ℕ) (places_last out_last : List ℕ)
-      → EndAnswered line places out state (Upto n) places_last out_last → Calls state line places [] (take n out_last)
+      → EndAnswered line places out state (Some n) places_last out_last → Calls state line places [] (take n out_last)
 
 unfoldable pub ReadsSome : {state : State} {line places input text : List ℕ} → (outs : ℕ) → Calls state line places input text → Type 0
 ReadsSome outs (list_next state line places out input block from rest r line_last places_last out_last text e a c) =

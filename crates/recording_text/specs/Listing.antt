@@ -12,21 +12,20 @@
 --   longest         the characters of the longest answer: two numbers of at most 20 digits, the digits of 16,384 octets, two spaces and an LF
 --   listing_from     the text of the lines behind those that were read, then the closing line
 --   listing_of       the text of a whole recording, from a record with nothing open on
-use Rattle.std.specs.Prelude.{ℕ, ◌+◌, ◌%◌, ◌^◌, List, [], ◌∷◌, ◌++◌}
-use Rattle.hexline.specs.declared.Decoded.{Decoded}
-use Rattle.hexline.specs.declared.Decoded.TheVariants.{Octets, TooLong, NotDigits, NoRoom}
+use Rattle.std.specs.Prelude.{ℕ, ◌+◌, ◌%◌, ◌^◌, List, [], ◌∷◌, ◌++◌, Option, Some, None, Result, Ok, Err}
 use Rattle.hexline.specs.Decoding.{line_octets, decoded_of, decoded_number}
 use Rattle.hexline.specs.Encoding.{octet_digits}
 use Rattle.lines.specs.Lines.{lines_of}
 use Rattle.frame.specs.Frames.{message_limit}
 use Rattle.join_places.specs.declared.Record.{Record}
 use Rattle.join_places.specs.Places.{place_size, fresh_record, open_count}
-use Rattle.join_answers.specs.declared.Output.{Output}
-use Rattle.join_answers.specs.declared.Output.TheVariants.{Message, Nothing}
 use Rattle.join_steps.specs.Steps.{LineStep}
+use Rattle.join_answers.specs.declared.Refusal.{Refusal}
 use Rattle.join_answers.specs.Answers.{output_in, answer_number}
 use Rattle.joining.specs.Answers.{message_written, step_within, answer_to, record_after, places_after}
 use Rattle.recording_text.specs.Text.{dash, line_text, end_text}
+use Rattle.hexline.specs.declared.Undecoded.TheVariants.{NoRoom, NotDigits, TooLong}
+use Rattle.hexline.specs.declared.Undecoded.{Undecoded}
 
 abbrev pub octets_most : ℕ
 octets_most = message_limit
@@ -34,9 +33,9 @@ octets_most = message_limit
 abbrev pub message_most : ℕ
 message_most = place_size
 
-abbrev pub shown_of : Output → List ℕ → List ℕ
-shown_of (Message n) message = octet_digits message
-shown_of Nothing message = dash
+abbrev pub shown_of : Option ℕ → List ℕ → List ℕ
+shown_of (Some n) message = octet_digits message
+shown_of None message = dash
 
 pub record LineEntry : Type 0 where
   pub number : ℕ
@@ -47,7 +46,7 @@ pub record LineEntry : Type 0 where
 abbrev pub refused_entry : ℕ → Record → List ℕ → LineEntry
 refused_entry number r places = record { number = number; shown = dash; after = r; stored = places }
 
-abbrev pub joined_entry : LineStep → List ℕ → Record → List ℕ → LineEntry
+abbrev pub joined_entry : Result LineStep Refusal → List ℕ → Record → List ℕ → LineEntry
 joined_entry step v r places =
     record {
       number = answer_number (answer_to step r v places);
@@ -56,12 +55,12 @@ joined_entry step v r places =
       stored = places_after step r v places;
     }
 
-abbrev pub entry_from : Decoded → List ℕ → Record → List ℕ → LineEntry
-entry_from (Octets n) v r places = joined_entry (step_within v r places message_most) v r places
-entry_from TooLong v r places = refused_entry (decoded_number TooLong) r places
-entry_from NotDigits v r places = refused_entry (decoded_number NotDigits) r places
+abbrev pub entry_from : Result ℕ Undecoded → List ℕ → Record → List ℕ → LineEntry
+entry_from (Ok n) v r places = joined_entry (step_within v r places message_most) v r places
+entry_from (Err TooLong) v r places = refused_entry (decoded_number (Err TooLong)) r places
+entry_from (Err NotDigits) v r places = refused_entry (decoded_number (Err NotDigits)) r places
 -- never given: at most 8,192 digits have at most 4,096 octets
-entry_from NoRoom v r places = refused_entry (decoded_number NoRoom) r places
+entry_from (Err NoRoom) v r places = refused_entry (decoded_number (Err NoRoom)) r places
 
 unfoldable pub entry_of : List ℕ → Record → List ℕ → LineEntry
 entry_of line r places = entry_from (decoded_of line octets_most) (line_octets line) r places

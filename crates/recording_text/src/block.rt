@@ -1,5 +1,5 @@
 // The lines of a block, answered one after the other.
-ghost use Rattle.std.specs.Prelude.{◌≡◌, ◌+◌, min, ◌&&◌, length, nat_le, nat_lt};
+ghost use Rattle.std.specs.Prelude.{◌≡◌, ◌+◌, ◌&&◌, length, nat_le, nat_lt};
 ghost use Rattle.recording_text.specs.Listing.{longest};
 ghost use Rattle.recording_text.specs.Blocks.{line_room, work_of, turn_of, block_from};
 ghost use Rattle.recording_text.specs.Inner.{Memory, Room};
@@ -23,6 +23,7 @@ pub(crate) fn answer_lines(
         (work_of start line.old places.old out.old) }
 {
     let mut at = start;
+    // No `for`: what a turn leaves says whether there is another.
     while goes_on(block.len(), line.len(), out.len(), at.next, at.filled) {
         at = turn(block, line, places, out, at, octets, message);
     }
@@ -33,13 +34,7 @@ pub(crate) fn answer_lines(
 fn goes_on(block: usize, line: usize, out: usize, next: usize, filled: usize) -> bool
     ensures { result ≡ (nat_lt next block && (nat_le line_room line && nat_le (filled + longest) out)) }
 {
-    if block <= next {
-        return false;
-    }
-    if line < LINE_ROOM {
-        return false;
-    }
-    line::has_room(out, filled)
+    next < block && LINE_ROOM <= line && line::has_room(out, filled)
 }
 
 // Takes the characters up to the next LF, and answers the line if the LF was met.
@@ -56,49 +51,40 @@ fn turn(
     ensures { work_of result line.new places.new out.new
         ≡ turn_of block.now (work_of at line.old places.old out.old) }
 {
-    let state = at.state;
-    let messages = state.messages;
-    let taken = lines::take_line(block, at.next, line, state.kept);
-    let kept = taken.kept;
+    let Progress {
+        state,
+        next,
+        filled,
+    } = at;
+    let taken = lines::take_line(block, next, line, state.kept);
     if !taken.ended {
-        let begun = State {
-            messages,
-            lines: state.lines,
-            kept,
-        };
         return Progress {
-            state: begun,
+            state: State {
+                kept: taken.kept,
+                ..state
+            },
             next: taken.next,
-            filled: at.filled,
+            filled,
         };
     }
-    let number = std::num::wrapping_add_u64(state.lines, 1);
+    let number = state.lines.wrapping_add(1);
     let listed = line::list_line(
-        &line[..kept],
+        &line[..taken.kept],
         number,
-        messages,
+        state.messages,
         places,
         out,
-        at.filled,
+        filled,
         octets,
         message,
     );
-    let after = listed.after;
-    let ended = State {
-        messages: after,
-        lines: number,
-        kept: 0,
-    };
     Progress {
-        state: ended,
+        state: State {
+            messages: listed.after,
+            lines: number,
+            kept: 0,
+        },
         next: taken.next,
         filled: listed.end,
     }
-}
-
-// The lesser of two numbers.
-pub(crate) fn least(a: usize, b: usize) -> usize
-    ensures { result ≡ min a b }
-{
-    if a < b { a } else { b }
 }

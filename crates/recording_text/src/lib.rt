@@ -3,7 +3,6 @@
 
 ghost use Rattle.recording_text.specs.Blocks.{BlockAnswered, EndAnswered};
 
-use cdr_write::Written;
 use recording_state::State;
 
 mod block;
@@ -44,39 +43,37 @@ pub fn answer_block(
     let mut message = line::message_memory();
     let start = Progress {
         state,
-        next: block::least(from, block.len()),
+        next: from.min(block.len()),
         filled: 0,
     };
     block::answer_lines(block, line, places, out, start, &mut octets, &mut message)
 }
 
 // Answers the line that no LF ended, if one was begun, and writes the closing line; nothing where there is no room for the longest of both.
-pub fn answer_end(line: &[u8], places: &mut [u8], out: &mut [u8], state: State) -> Written
+pub fn answer_end(line: &[u8], places: &mut [u8], out: &mut [u8], state: State) -> Option<usize>
     ensures { EndAnswered line.now places.old out.old state result places.new out.new }
 {
     if out.len() < LONGEST + CLOSING {
-        return Written::NoRoom;
+        return None;
     }
-    let kept = block::least(state.kept, line.len());
-    let messages = state.messages;
+    let kept = state.kept.min(line.len());
     if kept == 0 {
-        let none = text::put_end(out, 0, state.lines, join_places::open_count(messages));
-        return Written::Upto(none);
+        let count = join_places::open_count(state.messages);
+        return Some(text::put_end(out, 0, state.lines, count));
     }
     let mut octets = line::octets_memory();
     let mut message = line::message_memory();
-    let number = std::num::wrapping_add_u64(state.lines, 1);
+    let number = state.lines.wrapping_add(1);
     let listed = line::list_line(
         &line[..kept],
         number,
-        messages,
+        state.messages,
         places,
         out,
         0,
         &mut octets,
         &mut message,
     );
-    let after = listed.after;
-    let end = text::put_end(out, listed.end, number, join_places::open_count(after));
-    Written::Upto(end)
+    let count = join_places::open_count(listed.after);
+    Some(text::put_end(out, listed.end, number, count))
 }

@@ -5,9 +5,8 @@ ghost use Rattle.recording_text.specs.Listing.{octets_most, message_most, entry_
 ghost use Rattle.recording_text.specs.Inner.{Room, Lists};
 
 use crate::{LONGEST, text};
-use hexline::Decoded;
-use join_answers::Output;
 use join_places::Record;
+use joining::Outcome;
 
 // The most octets of a line.
 const OCTETS: usize = frame::MESSAGE_LIMIT;
@@ -40,10 +39,7 @@ pub(crate) fn message_memory() -> [u8; MESSAGE]
 pub(crate) fn has_room(size: usize, at: usize) -> bool
     ensures { result ≡ nat_le (at + longest) size }
 {
-    if size < LONGEST {
-        return false;
-    }
-    at <= size - LONGEST
+    LONGEST <= size && at <= size - LONGEST
 }
 
 // Answers a line whose text has room.
@@ -62,11 +58,13 @@ pub(crate) fn list_line(
         number out.old at result places.new out.new }
 {
     let decoded = hexline::decode(characters, octets);
-    let Decoded::Octets(n) = decoded else {
-        let end = text::put_unshown(out, at, number, decoded.number());
-        return Listed { after: before, end };
-    };
-    list_octets(&octets[..n], number, before, places, out, at, message)
+    match decoded {
+        Ok(n) => list_octets(&octets[..n], number, before, places, out, at, message),
+        Err(_) => Listed {
+            after: before,
+            end: text::put_unshown(out, at, number, hexline::decoded_number(decoded)),
+        },
+    }
 }
 
 // Answers a line's octets.
@@ -84,13 +82,11 @@ fn list_octets(
         octets.now before places.old)
         number out.old at result places.new out.new }
 {
-    let outcome = joining::join(octets, before, places, message);
-    let answer = outcome.answer;
-    let after = outcome.after;
-    let Output::Message(n) = answer.output() else {
-        let end = text::put_unshown(out, at, number, answer.number());
-        return Listed { after, end };
+    let Outcome { answer, after } = joining::join(octets, before, places, message);
+    let code = join_answers::answer_number(answer);
+    let end = match join_answers::output_in(answer) {
+        Some(n) => text::put_shown(out, at, number, code, &message[..n]),
+        None => text::put_unshown(out, at, number, code),
     };
-    let end = text::put_shown(out, at, number, answer.number(), &message[..n]);
     Listed { after, end }
 }

@@ -6,8 +6,6 @@ ghost use Rattle.hexline.specs.Encoding.{octet_digits};
 ghost use Rattle.lines.specs.Lines.{lf};
 ghost use Rattle.recording_text.specs.Text.{space, dash, line_text, end_text};
 
-use cdr_write::Written;
-
 const SPACE: u8 = b' ';
 
 const DASH: u8 = b'-';
@@ -19,10 +17,7 @@ fn put_number(out: &mut [u8], at: usize, x: u64, behind: u8) -> usize
     requires { at + 21 ≤ length out.old }
     ensures { Put out.old at (decimal x ++ (behind ∷ [])) result out.new }
 {
-    let Written::Upto(end) = decimals::write_decimal(out, at, x, behind) else {
-        return at;
-    };
-    end
+    decimals::write_decimal(out, at, x, behind).unwrap_or(at)
 }
 
 // Puts `LINE ANSWER `.

@@ -1,4 +1,5 @@
 -- Items that are written one after the other: where each ends, and what stands in the output.
+use Rattle.std.specs.Prelude.{Option}
 use mathlib.Core.Path.{◌≡◌, refl, sym, ap, subst, ◌∙◌}
 use mathlib.Core.List.{List, [], ◌++◌}
 use Prim.Native.Nat.{ℕ, zero, suc, ◌+◌, ◌-◌, ◌*◌, ◌%◌, ◌<◌, ◌≤◌}
@@ -20,7 +21,6 @@ use Rattle.cdr.proofs.GapsBounded.{octets-small, gap-small}
 use Rattle.cdr.proofs.NumbersGivenBack.{octets-length}
 use Rattle.cdr.specs.Limit.{octets_limit}
 use Rattle.value_meaning.specs.Sinks.{Item, item}
-use Rattle.cdr_write.specs.declared.Written.{Written}
 use Rattle.cdr_write.specs.Write.{Stored}
 use Rattle.cdr_write.proofs.BufferHolds.{sets-append, one-octet, stored-fits}
 use Rattle.rewrite_meaning.specs.Written.{Target}
@@ -135,7 +135,7 @@ module _ (to : Target) (v out : List ℕ) (at kind place content : ℕ) (z : Siz
       ∙ ap (λ (y : Size). behind_gap to.start at (octets y) + octets y + tail_of kind content) wide
 
   pub item-written : (room : item_end to.start at kind content ≤ length out) (tail end : ℕ) → tail ≡ tail_of kind content → end ≡ octets z
-      → (r s : Written) (a b c : List ℕ) → Stored out at (replicate (p - at) 0) r a → Stored a p (octets_of to.order (octets z) head) s b
+      → (r s : Option ℕ) (a b c : List ℕ) → Stored out at (replicate (p - at) 0) r a → Stored a p (octets_of to.order (octets z) head) s b
       → c ≡ sets b (p + end) (take tail (drop place v)) → c ≡ sets out at (item_octets to v at (item kind place content))
   item-written room tail end t e r s a b c f g h =
       let fits = item-fits (length out) room in
@@ -164,7 +164,7 @@ module _ (to : Target) (v out : List ℕ) (at kind place content : ℕ) (z : Siz
 
   -- the octets behind the number fit too
   pub tail_written : (room : item_end to.start at kind content ≤ length out) → place + tail_of kind content ≤ length v → (tail end : ℕ)
-      → tail ≡ tail_of kind content → end ≡ octets z → (r : Written) (b c : List ℕ) → length b ≡ length out
+      → tail ≡ tail_of kind content → end ≡ octets z → (r : Option ℕ) (b c : List ℕ) → length b ≡ length out
       → Stored b (p + end) (take (place + tail - place) (drop place v)) r c → c ≡ sets b (p + end) (take tail (drop place v))
   tail_written room inside tail end t e r b c same h =
       let n : place + tail - place ≡ tail = omega arith in
@@ -179,10 +179,6 @@ pub no-tail : (l b : List ℕ) (at n : ℕ) → n ≡ 0 → b ≡ sets b at (tak
 no-tail l b at n e = ap (λ (k : ℕ). sets b at (take k l)) (sym e)
 
 -- a text has a final zero
-pub tail-text : (kind content : ℕ) → kind ≡ 18 → tail_of kind content ≡ content + 1
-unfolding tail_of
-tail-text kind content e = simp (eq-eqb _ _ e)
-
 -- a boolean, a char and an octet are an octet by themselves
 octet-8 : Octet 8
 unfolding width_of head_of tail_of size_of

@@ -1,4 +1,5 @@
 -- An accepted reading's octets are those of its items, one after the other.
+use Rattle.std.specs.Prelude.{Option, Some, None}
 use mathlib.Core.Path.{◌≡◌, refl, sym, ap, subst, ◌∙◌}
 use mathlib.Core.List.{List, [], ◌∷◌, ◌++◌, append_assoc, append-nil}
 use mathlib.Core.Bool.{Bool, true, false, cond}
@@ -12,8 +13,6 @@ use Rattle.cdr.specs.declared.Order.{Order}
 use Rattle.type_kinds.specs.Parts.{place_of}
 use Rattle.cdr.specs.declared.Size.{Size}
 use Rattle.cdr.specs.declared.Size.TheVariants.{Four}
-use Rattle.cdr.specs.declared.Read.{Read}
-use Rattle.cdr.specs.declared.Read.TheVariants.{Number, Ends}
 use Rattle.cdr.specs.Align.{octets, gap}
 use Rattle.cdr.specs.Number.{Octets, octets_of, sign_extended}
 use Rattle.cdr.proofs.GapsBounded.{read-facts}
@@ -191,19 +190,19 @@ module _ (to : Target) (full : ℕ → Bool) (x : Source) (ok : Octets x.octets)
   module _ (s : St Log) (h : Tells s) where
     -- what follows a number, or its lack
     read-tells : (z : Size) (f : ℕ → ℕ → St Log → St Log)
-        → ((p n : ℕ) → read_at (logging full) x z s ≡ Number p n → Tells (f p n (took_number (logging full) z p n s)))
-        → (r : Read) → read_at (logging full) x z s ≡ r → Tells (on_read r s (λ p n. f p n (took_number (logging full) z p n s)))
-    read-tells z f g (Number p n) e = g p n e
-    read-tells z f g Ends e = refused 50 s (omega arith)
+        → ((p n : ℕ) → read_at (logging full) x z s ≡ Some (p, n) → Tells (f p n (took_number (logging full) z p n s)))
+        → (r : Option (ℕ × ℕ)) → read_at (logging full) x z s ≡ r → Tells (on_read r s (λ p n. f p n (took_number (logging full) z p n s)))
+    read-tells z f g (Some (p, n)) e = g p n e
+    read-tells z f g None e = refused 50 s (omega arith)
 
     number-tells : (z : Size) (f : ℕ → ℕ → St Log → St Log)
-        → ((p n : ℕ) → read_at (logging full) x z s ≡ Number p n → Tells (f p n (took_number (logging full) z p n s)))
+        → ((p n : ℕ) → read_at (logging full) x z s ≡ Some (p, n) → Tells (f p n (took_number (logging full) z p n s)))
         → Tells (number_taken (logging full) x z f s)
     unfolding number_taken
     number-tells z f g = read-tells z f g (read_at (logging full) x z s) refl
 
     -- a number that is an item of its own
-    alone-tells : (z : Size) (kind content p n : ℕ) → read_at (logging full) x z s ≡ Number p n → width_of kind ≡ z → tail_of kind content ≡ 0
+    alone-tells : (z : Size) (kind content p n : ℕ) → read_at (logging full) x z s ≡ Some (p, n) → width_of kind ≡ z → tail_of kind content ≡ 0
         → octets_of to.order (octets z) (head_of kind content) ≡ octets_of to.order (octets z) n
         → Tells (done (logging full) (item kind p content) (took_number (logging full) z p n s))
     unfolding taken
@@ -217,7 +216,7 @@ module _ (to : Target) (full : ℕ → Bool) (x : Source) (ok : Octets x.octets)
         fits (h y))
 
     -- a length and its octets, which are an item
-    tail-tells : (kind content p n : ℕ) → read_at (logging full) x Four s ≡ Number p n → width_of kind ≡ Four → head_of kind content ≡ n → tail_of kind content ≡ n
+    tail-tells : (kind content p n : ℕ) → read_at (logging full) x Four s ≡ Some (p, n) → width_of kind ≡ Four → head_of kind content ≡ n → tail_of kind content ≡ n
         → p + 4 + n ≤ length v
         → Tells (done (logging full) (item kind (p + 4) content) (took_octets (logging full) x n (took_number (logging full) Four p n s)))
     unfolding taken
@@ -242,7 +241,7 @@ module _ (to : Target) (full : ℕ → Bool) (x : Source) (ok : Octets x.octets)
         (ap (octets_of to.order (octets (size_of kind))) (plain-head kind plain (content_of kind n))
         ∙ content-octets to.order kind n (small (size_of kind) p n e)))))
       where
-        small : (z : Size) (p n : ℕ) → read_at (logging full) x z s ≡ Number p n → n < 256 ^ octets z
+        small : (z : Size) (p n : ℕ) → read_at (logging full) x z s ≡ Some (p, n) → n < 256 ^ octets z
         small z p n e =
             let r = read-facts v x.start s.at z x.order p n e in
             subst (λ (m : ℕ). m < 256 ^ octets z) (sym r.value) (number_small v p (octets z) x.order ok r.fits)

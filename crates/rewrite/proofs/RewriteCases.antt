@@ -1,4 +1,5 @@
 -- The ways to an answer: a refusal before any visit, or a reading under an accepted type.
+use Rattle.std.specs.Prelude.{Option, Some, None, Result, Ok, Err}
 use mathlib.Core.Path.{◌≡◌, sym, ap, ◌∙◌}
 use mathlib.Core.List.{List}
 use Prim.Native.Nat.{ℕ}
@@ -14,8 +15,6 @@ use Rattle.type_parameters.specs.declared.Parameters.{Parameters}
 use Rattle.type_parameters.specs.declared.Parameters.TheVariants.{Fault, Flat, Struct, Exception, Union, Sequence, Array, Alias}
 use Rattle.type_kinds.specs.Forms.{form_of}
 use Rattle.type_parameters.proofs.LeafPlain.{leaf-plain}
-use Rattle.type_list.specs.declared.Position.{Position}
-use Rattle.type_list.specs.declared.Position.TheVariants.{IsAt, NoPosition}
 use Rattle.type_list.specs.Met.{kind_no, position_of, parameters_of, at_position, found_at, inside_of}
 use Rattle.type_unions.specs.Shapes.{shape_of, look}
 use Rattle.type_unions.specs.Shapes.Shape.{flat}
@@ -24,8 +23,6 @@ use Rattle.value_meaning.specs.Visit.{checked}
 use Rattle.value_meaning.specs.Reading.{any_room, reading}
 use Rattle.value_meaning.specs.Value.{reading_of}
 use Rattle.value_meaning.proofs.VisitsBounded.{items-bound}
-use Rattle.value_typed.specs.declared.Judged.{Judged}
-use Rattle.value_typed.specs.declared.Judged.TheVariants.{Accepted as accepted_type, Refused as refused_type}
 use Rattle.value_typed.specs.Typed.{Typed, typed_for}
 use Rattle.value_typed.proofs.TypedCases.{on_judged, under, answer-judged, bounded}
 use Rattle.rewrite_meaning.specs.declared.RewriteAnswer.{RewriteAnswer}
@@ -36,10 +33,10 @@ use Rattle.rewrite.specs.Inner.{Readable, Rewrites}
 
 -- kinds without parameters are primitives
 module _ (v : List ℕ) (ks : List Kind) where
-  position-plain : (a : Position) (kind : ℕ) → at_position v ks a ≡ Flat (Leaf kind) → form_of kind ≡ Plain
+  position-plain : (a : Option ℕ) (kind : ℕ) → at_position v ks a ≡ Flat (Leaf kind) → form_of kind ≡ Plain
   unfolding parameters_of
-  position-plain (IsAt j) kind e = leaf-plain v (kind_no ks j) kind e
-  position-plain NoPosition kind e = clash cc
+  position-plain (Some j) kind e = leaf-plain v (kind_no ks j) kind e
+  position-plain None kind e = clash cc
 
   inside-plain : (y : Inner) (kind : ℕ) → inside_of v ks y ≡ Flat (Leaf kind) → form_of kind ≡ Plain
   unfolding inside_of found_at
@@ -63,7 +60,7 @@ module _ (v : List ℕ) (ks : List Kind) where
   look-plain y kind e = inside-plain y kind (shape-flat (inside_of v ks y) kind e)
 
 module _ (v : List ℕ) (order : Order) (x : Source) (r : Typed) (e : r ≡ typed_for v order (length x.octets)) where
-  pub readable : r.judged ≡ accepted_type → Readable (checked v r.kinds) x
+  pub readable : r.judged ≡ Ok tt → Readable (checked v r.kinds) x
   readable s =
       let u = under v order (length x.octets) r e s in
       record {
@@ -77,7 +74,7 @@ module _ (v : List ℕ) (order : Order) (x : Source) (r : Typed) (e : r ≡ type
     abbrev answer : RewriteAnswer
     answer = rewrite_answer v order x to (length out)
 
-    abbrev on_output : Judged → RewriteAnswer
+    abbrev on_output : Result (Unit {0}) ℕ → RewriteAnswer
     on_output j = on_judged j (λ _. rewrite_of (reading_of any_room v order x) to (length out)) Refused
 
     judged : answer ≡ on_output r.judged
@@ -85,14 +82,14 @@ module _ (v : List ℕ) (order : Order) (x : Source) (r : Typed) (e : r ≡ type
     judged = answer-judged v order (length x.octets) (rewrite_of (reading_of any_room v order x) to (length out)) Refused r e
 
     -- a refusal before any visit leaves the output
-    pub refused-before : (number : ℕ) → r.judged ≡ refused_type number → (Refused number ≡ answer) × (out ≡ output_after v order x to out)
+    pub refused-before : (number : ℕ) → r.judged ≡ Err number → (Refused number ≡ answer) × (out ≡ output_after v order x to out)
     unfolding output_after
     refused-before number s =
         let a : Refused number ≡ answer = sym (judged ∙ ap on_output s) in
         (a, ap (λ (y : RewriteAnswer). written_by y out (rewritten v order x to)) a)
 
     -- the answer under an accepted type, and the output after it
-    pub read_under : r.judged ≡ accepted_type → (y : RewriteAnswer) (last : List ℕ) → Rewrites (checked v r.kinds) x to out y last
+    pub read_under : r.judged ≡ Ok tt → (y : RewriteAnswer) (last : List ℕ) → Rewrites (checked v r.kinds) x to out y last
         → (y ≡ answer) × (last ≡ output_after v order x to out)
     unfolding output_after reading_of
     read_under s y last done =

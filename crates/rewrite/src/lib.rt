@@ -14,7 +14,6 @@ use cdr::{Index, Order};
 use rewrite_meaning::RewriteAnswer;
 use type_list::Met;
 use value_cursor::Mode;
-use value_typed::Judged;
 
 mod rows;
 
@@ -42,11 +41,9 @@ pub fn rewrite(
         out.old) }
 {
     let c = value_typed::check(types, torder, value.len());
-    let met = c.met;
-    let judged = c.judged;
-    match judged {
-        Judged::Accepted => rewrite_read(types, met, value, order, start, chosen, index, out),
-        Judged::Refused(number) => RewriteAnswer::Refused(number),
+    match c.judged {
+        Ok(()) => rewrite_read(types, c.met, value, order, start, chosen, index, out),
+        Err(number) => RewriteAnswer::Refused(number),
     }
 }
 

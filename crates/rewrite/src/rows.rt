@@ -9,39 +9,30 @@ ghost use Rattle.rewrite.specs.Inner.{width_of, Octet, head_of, tail_of, item_en
 
 use cdr::{Index, Order, Size};
 
-// The number behind boolean, char and octet.
-const OCTETS_END: u64 = type_numbers::OCTET + 1;
-
 // The size of an item's number.
+#[tactic(auto, unfolding(crate::specs::Inner::width_of))]
 fn width_of(kind: u64) -> Size
     ensures { result ≡ width_of kind }
 {
-    if kind == type_numbers::ENUM {
-        return Size::Four;
+    match kind {
+        type_numbers::ENUM | type_numbers::STRING | type_numbers::SEQUENCE | type_numbers::RUN =>
+            Size::Four,
+        _ => value_cursor::size_of(kind),
     }
-    if kind == type_numbers::STRING {
-        return Size::Four;
-    }
-    if kind == type_numbers::SEQUENCE {
-        return Size::Four;
-    }
-    if kind == type_numbers::RUN {
-        return Size::Four;
-    }
-    value_cursor::size_of(kind)
 }
 
 // Whether an item is an octet by itself: a boolean, a char or an octet.
 fn is_octet(kind: u64) -> bool
     ensures { result ≡ true → Octet kind }
 {
-    if kind < type_numbers::BOOLEAN {
-        return false;
-    }
-    kind < OCTETS_END
+    matches!(
+        kind,
+        type_numbers::BOOLEAN | type_numbers::CHAR | type_numbers::OCTET
+    )
 }
 
 // The number that stands for an item.
+#[tactic(auto, unfolding(crate::specs::Inner::head_of, crate::specs::Inner::tail_of))]
 fn head_of(kind: u64, content: u64) -> u64
     requires { tail_of kind content ≤ octets_limit }
     ensures { result ≡ head_of kind content }
@@ -54,17 +45,16 @@ fn head_of(kind: u64, content: u64) -> u64
 }
 
 // How many octets stand behind an item's number as they are.
+#[tactic(auto, unfolding(crate::specs::Inner::tail_of))]
 fn tail_of(kind: u64, content: u64) -> usize
     requires { tail_of kind content ≤ octets_limit }
     ensures { result ≡ tail_of kind content }
 {
-    if kind == type_numbers::STRING {
-        return content as usize + 1;
+    match kind {
+        type_numbers::STRING => content as usize + 1,
+        type_numbers::RUN => content as usize,
+        _ => 0,
     }
-    if kind == type_numbers::RUN {
-        return content as usize;
-    }
-    0
 }
 
 // Where a number of a size starts that is written at or after `at`.
@@ -95,10 +85,8 @@ pub(crate) fn count(rows: &[u64], n: usize, index: Index) -> usize
     ensures { result ≡ reach index (row_of rows.now) n }
 {
     let mut at: usize = 0;
-    let mut k: usize = 0;
-    while k < n {
+    for k in 0..n {
         at = item_end(index, at, rows[k * 3], rows[k * 3 + 2]);
-        k += 1;
     }
     at
 }
@@ -170,8 +158,7 @@ pub(crate) fn write(
     ensures { out.new ≡ sets out.old 0 (up_to (target order index) value.now (row_of rows.now) n) }
 {
     let mut at: usize = 0;
-    let mut k: usize = 0;
-    while k < n {
+    for k in 0..n {
         let place = rows[k * 3 + 1] as usize;
         at = write_item(
             value,
@@ -183,6 +170,5 @@ pub(crate) fn write(
             place,
             rows[k * 3 + 2],
         );
-        k += 1;
     }
 }

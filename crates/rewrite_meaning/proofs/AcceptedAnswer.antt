@@ -1,4 +1,5 @@
 -- What an accepted answer tells of the type, of the octets and of the reading, and where the answer is accepted.
+use Rattle.std.specs.Prelude.{Result, Ok, Err}
 use mathlib.Core.Path.{◌≡◌, refl, subst}
 use mathlib.Core.List.{List}
 use mathlib.Core.Bool.{Bool, true, false}
@@ -10,8 +11,6 @@ use Rattle.choices.specs.Branch.{choose}
 use Rattle.choices.proofs.Choices.{clash, or-false, neither}
 use Rattle.cdr.specs.declared.Order.{Order}
 use Rattle.cdr.specs.Limit.{octets_limit}
-use Rattle.typecode.specs.declared.TypeAnswer.{TypeAnswer}
-use Rattle.typecode.specs.declared.TypeAnswer.TheVariants.{Accepted as accepted_type, Refused as refused_type, Loop}
 use Rattle.typecode.specs.TypeCode.{checked_type}
 use Rattle.value_meaning.specs.declared.ValueAnswer.TheVariants.{Accepted, Refused}
 use Rattle.value_meaning.specs.Sinks.{Source, St}
@@ -20,6 +19,8 @@ use Rattle.value_meaning.specs.Value.{reading_answer, overlong, on_type, reading
 use Rattle.rewrite_meaning.specs.declared.RewriteAnswer.TheVariants.{Accepted as accepted, Refused as refused}
 use Rattle.rewrite_meaning.specs.Written.{Target, written}
 use Rattle.rewrite_meaning.specs.Rewriting.{rewrite_of, rewrite_answer}
+use Rattle.typecode.specs.declared.NoType.TheVariants.{Loop, Refused}
+use Rattle.typecode.specs.declared.NoType.{NoType}
 
 -- an accepted value: what the reading's answer tells, and the answer of a reading without a fault
 pub record ReadAs (s : St Log) (used items visits : ℕ) : Type 0 where
@@ -82,13 +83,13 @@ pub record RewrittenAs (v : List ℕ) (order : Order) (x : Source) (to : Target)
   pub short : length x.octets ≤ octets_limit
   pub used : ℕ
   pub kinds : ℕ
-  pub type : (checked_type v order).answer ≡ accepted_type used kinds
+  pub type : (checked_type v order).answer ≡ Ok (used, kinds)
   pub octets : WrittenAs (reading_of any_room v order x) to n
 
 module _ (v : List ℕ) (order : Order) (x : Source) (to : Target) (room n : ℕ) where
-  on-type : overlong v x ≡ false → (a : TypeAnswer) → (checked_type v order).answer ≡ a
+  on-type : overlong v x ≡ false → (a : Result (ℕ × ℕ) NoType) → (checked_type v order).answer ≡ a
       → on_type a (λ _. rewrite_of (reading_of any_room v order x) to room) refused ≡ accepted n → RewrittenAs v order x to n
-  on-type h (accepted_type used kinds) t e =
+  on-type h (Ok (used, kinds)) t e =
       let b = neither (ltb octets_limit (length v)) (ltb octets_limit (length x.octets)) h in
       record {
         type_short = ltb-false octets_limit (length v) b.0;
@@ -98,8 +99,8 @@ module _ (v : List ℕ) (order : Order) (x : Source) (to : Target) (room n : ℕ
         type = t;
         octets = written_as (reading_of any_room v order x) to room n e;
       }
-  on-type h (refused_type r) t e = clash cc
-  on-type h Loop t e = clash cc
+  on-type h (Err (Refused r)) t e = clash cc
+  on-type h (Err Loop) t e = clash cc
 
   rewritten-by : (t : Bool) → overlong v x ≡ t
       → choose t (λ _. refused 42) (λ _. on_type (checked_type v order).answer (λ _. rewrite_of (reading_of any_room v order x) to room) refused)
@@ -122,10 +123,10 @@ module _ (v : List ℕ) (order : Order) (x : Source) (to : Target) (room n : ℕ
   rewritten-accepted r h = rw (not-overlong r, r.type) (written-accepted (reading_of any_room v order x) to room n r.octets h)
 
   -- what is accepted has room
-  room-type : (a : TypeAnswer) → on_type a (λ _. rewrite_of (reading_of any_room v order x) to room) refused ≡ accepted n → n ≤ room
-  room-type (accepted_type used kinds) e = written-room (reading_of any_room v order x) to room n e
-  room-type (refused_type r) e = clash cc
-  room-type Loop e = clash cc
+  room-type : (a : Result (ℕ × ℕ) NoType) → on_type a (λ _. rewrite_of (reading_of any_room v order x) to room) refused ≡ accepted n → n ≤ room
+  room-type (Ok (used, kinds)) e = written-room (reading_of any_room v order x) to room n e
+  room-type (Err (Refused r)) e = clash cc
+  room-type (Err Loop) e = clash cc
 
   rewritten-room-by : (t : Bool)
       → choose t (λ _. refused 42) (λ _. on_type (checked_type v order).answer (λ _. rewrite_of (reading_of any_room v order x) to room) refused)

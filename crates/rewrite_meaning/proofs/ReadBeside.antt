@@ -1,5 +1,6 @@
 -- What was written of an accepted reading, read beside it: wherever the first reading is, the second stands behind what is written so far,
 -- and was told the same but for places and gaps.
+use Rattle.std.specs.Prelude.{Some}
 use mathlib.Core.Path.{◌≡◌, refl, sym, ap, subst, ◌∙◌}
 use mathlib.Core.List.{List, [], ◌∷◌, ◌++◌, map, append_assoc, append-nil, map-append}
 use mathlib.Core.Bool.{Bool}
@@ -7,7 +8,6 @@ use Prim.Native.Nat.{ℕ, ◌+◌, ◌-◌, ◌<◌, ◌≤◌, ◌^◌}
 use native.Mathlib.Omega.{arith}
 use lib.ListN.{length, take, drop, length-append, length-map}
 use Rattle.cdr.specs.declared.Size.{Size}
-use Rattle.cdr.specs.declared.Read.TheVariants.{Number}
 use Rattle.cdr.specs.Align.{octets, behind_gap}
 use Rattle.cdr.specs.Number.{Octets, read_of}
 use Rattle.cdr.proofs.GapsBounded.{read-facts}
@@ -72,7 +72,7 @@ module _ (full : ℕ → Bool) (x : Source) (to : Target) (all : List ℕ) (ok :
   begins-before (number before place size value) next s e = begins-with (number before place size value) _ next s refl e
   begins-before (run place these) next s e = begins-with (run place these) these next s refl e
 
-  number-beside : (size : Size) (p n : ℕ) (s s' : St Log) → Beside to s s' → read_at (logging full) x size s ≡ Number p n
+  number-beside : (size : Size) (p n : ℕ) (s s' : St Log) → Beside to s s' → read_at (logging full) x size s ≡ Some (p, n)
       → Begins to all (took_number (logging full) size p n s)
       → SameNumber (logging full) (logging full) x y (Begins to all) (Beside to) (λ p p'. Unit) size p n s s'
   unfolding taken
@@ -89,7 +89,7 @@ module _ (full : ℕ → Bool) (x : Source) (to : Target) (all : List ℕ) (ok :
             ap (λ (k : ℕ). read_of all to.start k size to.order) r.at
             ∙ ap (λ (l : List ℕ). read_of l to.start (length out) size to.order) (sym (wrote-more piece s e.more e.whole))
             ∙ number-back to out e.more (p - s.at) p size n small
-            ∙ ap (λ (k : ℕ). Number (behind_gap to.start k (octets size)) n) (sym r.at);
+            ∙ ap (λ (k : ℕ). (Some (behind_gap to.start k (octets size), n))) (sym r.at);
         place = tt;
         then = record {
           fault = r.fault;

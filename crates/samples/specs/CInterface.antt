@@ -3,14 +3,12 @@
 --   c_answered         what the definitions answer
 --   c_samples          the table
 --   c-interface-hold  the statement
-use Rattle.std.specs.Prelude.{T, ◌∷◌}
+use Rattle.std.specs.Prelude.{T, ◌∷◌, Result, Ok}
 use Rattle.choices.specs.{ℕ, List, [], Bool, true, false, length, replicate}
 use Rattle.cdr.specs.{index_of}
 use Rattle.hexline.specs.Decoding.{decoded_of}
 use Rattle.hexline.specs.Encoding.{encoded_of}
 use Rattle.frame.specs.Frames.{frame_of}
-use Rattle.join_answers.specs.declared.Answer.{Answer}
-use Rattle.join_answers.specs.declared.Answer.TheVariants.{Held}
 use Rattle.join_answers.specs.Answers.{output_in}
 use Rattle.typecode.specs.TypeCode.{checked_type}
 use Rattle.value_meaning.specs.Value.{room_in, visits_in, value_answer}
@@ -28,6 +26,9 @@ use Rattle.samples.specs.Tables.{paper, Sample, sample, all_answered}
 use Rattle.samples.specs.Lines.{line_answered}
 use Rattle.samples.specs.Rewritings.{rewrite_answered}
 use Rattle.samples.specs.Profiles.{profile_answered, plain}
+use Rattle.join_answers.specs.declared.Answer.TheVariants.{Held}
+use Rattle.join_answers.specs.declared.Answer.{Answer}
+use Rattle.join_answers.specs.declared.Refusal.{Refusal}
 
 -- each question ends with what is lent, and is answered by what that then holds:
 --   `decode_call`: a line and the room for its octets; the count
@@ -44,7 +45,7 @@ pub data CQuestion : Type 0 where
   decode_call : List ℕ → (room count : ℕ) → CQuestion
   encode_call : List ℕ → (room count : ℕ) → CQuestion
   frame_call : (octets lent : List ℕ) → CQuestion
-  join_call : Answer → (count : ℕ) → CQuestion
+  join_call : Result Answer Refusal → (count : ℕ) → CQuestion
   type_call : List ℕ → Bool → (lent : List ℕ) → CQuestion
   value_call : List ℕ → Bool → List ℕ → Bool → (table : List ℕ) → CQuestion
   item_call : List ℕ → Bool → List ℕ → Bool → (number : ℕ) → (lent : List ℕ) → CQuestion
@@ -76,7 +77,7 @@ c_samples =
     -- a refusal leaves the header as it was: zeros where they are written first
     ∷ sample (frame_call [] (replicate 7 9)) (replicate 7 9)
     -- a fragment that is held leaves the count as it was: 0 where it is always set
-    ∷ sample (join_call Held 9) (9 ∷ [])
+    ∷ sample (join_call (Ok Held) 9) (9 ∷ [])
     -- a refused type leaves octets used and kinds as they were: zeros where "a refusal's other numbers are 0" is taken for lent memory
     ∷ sample (type_call [] false (8 ∷ 9 ∷ [])) (8 ∷ 9 ∷ [])
     -- a refused value's visits are given: 0 where they are for accepted values only

@@ -6,14 +6,12 @@
 --   full              a record with four open messages
 --   frame_samples      the table
 --   frames-hold       the statement
-use Rattle.std.specs.Prelude.{T, ◌∷◌}
+use Rattle.std.specs.Prelude.{T, ◌∷◌, Option, Some, None}
 use Rattle.choices.specs.{ℕ, List, [], true, replicate}
 use Rattle.version.specs.Versions.{major_exists, minor_exists, flags_allowed, type_exists, body_starts_with_id, reads_fragments}
 use Rattle.frame.specs.Messages.{version_exists, is_request_or_reply, is_bare, has_request_id}
 use Rattle.frame.specs.Frames.{size_allowed, fragment_allowed, eights_allowed, sized_of, message_of, frame_of, frame_numbers}
 use Rattle.join_places.specs.declared.Record.{Record}
-use Rattle.join_places.specs.declared.Found.{Found}
-use Rattle.join_places.specs.declared.Found.TheVariants.{At, Nowhere}
 use Rattle.join_places.specs.Places.{fresh_record, is_open, id_of, length_of, sum_over, first_with, is_open_with, place_of_id, is_at}
 use Rattle.join_places.specs.Places.{lowest_free, open_count, closed}
 use Rattle.samples.specs.Tables.{paper, bit, Sample, sample, all_answered}
@@ -31,11 +29,11 @@ pub data FrameQuestion : Type 0 where
   free_place : Record → FrameQuestion
   open_messages : Record → FrameQuestion
 
-abbrev pub place_found : Found → List ℕ
-place_found (At i) = i ∷ []
-place_found Nowhere = []
+abbrev pub place_found : Option ℕ → List ℕ
+place_found (Some i) = i ∷ []
+place_found None = []
 
-abbrev pub found_numbers : Found → List ℕ
+abbrev pub found_numbers : Option ℕ → List ℕ
 found_numbers found = bit (is_at found) ∷ place_found found
 
 unfoldable pub frame_answered : FrameQuestion → List ℕ

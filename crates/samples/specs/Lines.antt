@@ -5,9 +5,8 @@
 --   line_answered      what the definitions answer
 --   line_samples       the table; its listing is the same whatever memory is lent
 --   lines-hold        the statement
-use Rattle.std.specs.Prelude.{T, ◌∷◌, ◌++◌}
+use Rattle.std.specs.Prelude.{T, ◌∷◌, ◌++◌, Option, Some, None}
 use Rattle.choices.specs.{ℕ, List, [], length, replicate}
-use Rattle.cdr.specs.{Named, Is, NoOrder}
 use Rattle.cdr.specs.Orders.{order_octet}
 use Rattle.hexline.specs.Digit.{is_digit, digit_value, upper_digit}
 use Rattle.hexline.specs.Decoding.{all_digits, octet_of, line_octets, digits_decoded, decoded_of, decoded_into, decoded_number}
@@ -24,6 +23,7 @@ use Rattle.recording_state.specs.States.{fresh_state}
 use Rattle.ask_words.specs.Words.{words_from, words, same_word, order_word}
 use Rattle.samples.specs.Tables.{paper, bit, Sample, sample, all_answered}
 use Rattle.samples.specs.Frames.{frame_answered}
+use Rattle.cdr.specs.declared.Order.{Order}
 
 -- `decodes`: a line and a lent output; the number, and all that the output then holds
 -- `encodes`: octets and a lent output; the number, and all that the output then holds
@@ -47,9 +47,9 @@ abbrev pub word_numbers : List (List ℕ) → List ℕ
 word_numbers [] = []
 word_numbers (word ∷ rest) = length word ∷ (word ++ word_numbers rest)
 
-abbrev pub named_numbers : Named → List ℕ
-named_numbers (Is order) = 1 ∷ order_octet order ∷ []
-named_numbers NoOrder = 0 ∷ []
+abbrev pub named_numbers : Option Order → List ℕ
+named_numbers (Some order) = 1 ∷ order_octet order ∷ []
+named_numbers None = 0 ∷ []
 
 unfoldable pub line_answered : LineQuestion → List ℕ
 unfolding frame_answered is_digit digit_value upper_digit all_digits octet_of line_octets digits_decoded decoded_of octet_digits encoded_of

@@ -8,22 +8,21 @@
 --   number_answered     what the definitions answer
 --   number_samples      the table
 --   numbers-hold       the statement
-use Rattle.std.specs.Prelude.{T, ◌∷◌, ◌++◌}
+use Rattle.std.specs.Prelude.{T, ◌∷◌, ◌++◌, Option, Some, None, Result, Ok, Err}
 use Rattle.choices.specs.{ℕ, List, [], length, replicate}
 use Rattle.choices.specs.Branch.{choose}
-use Rattle.cdr.specs.{Order, Big, Little, Size, Two, Four, index_of, octets, gap, declared.Aligned.Aligned}
-use Rattle.cdr.specs.declared.Aligned.TheVariants.{At, Beyond}
+use Rattle.cdr.specs.{Order, Big, Little, Size, Two, Four, index_of, octets, gap}
 use Rattle.cdr.specs.Align.{aligned_of}
 use Rattle.cdr.specs.Limit.{fits}
 use Rattle.cdr.specs.Orders.{order_octet}
 use Rattle.cdr.specs.Number.{little_number, little_octets, number_of, octets_of, number_at, read_of, sign_extended}
 use Rattle.cdr_text.specs.Text.{over_bound, ends_text, text_of, run_of}
-use Rattle.cdr_fields.specs.{Field, NoField, Value, Str, Characters, BadText, NoText, Counted, Octets, NoOctets}
 use Rattle.cdr_fields.specs.Encapsulation.{field_of, string_of, counted_of}
-use Rattle.cdr_write.specs.declared.Written.{Written}
-use Rattle.cdr_write.specs.declared.Written.TheVariants.{Upto, NoRoom}
 use Rattle.cdr_write.specs.Write.{written_of, holding}
 use Rattle.samples.specs.Tables.{paper, Sample, sample, all_answered}
+use Rattle.cdr.specs.declared.Index.{Index}
+use Rattle.cdr_fields.specs.declared.StringFault.TheVariants.{BadText, NoText}
+use Rattle.cdr_fields.specs.declared.StringFault.{StringFault}
 
 -- `order_octet_of`: an order; its octet
 -- `gap_before`: an index and a size; the octets of the gap
@@ -42,26 +41,26 @@ pub data NumberQuestion : Type 0 where
   counted_field : List ℕ → ℕ → Order → NumberQuestion
   stored : List ℕ → ℕ → List ℕ → NumberQuestion
 
-abbrev pub aligned_numbers : Aligned → List ℕ
-aligned_numbers (At i) = 1 ∷ i.0 ∷ []
-aligned_numbers Beyond = 0 ∷ []
+abbrev pub aligned_numbers : Option Index → List ℕ
+aligned_numbers (Some i) = 1 ∷ i.0 ∷ []
+aligned_numbers None = 0 ∷ []
 
-abbrev pub field_numbers : Field → List ℕ
-field_numbers (Value x next) = 1 ∷ x ∷ next.0 ∷ []
-field_numbers NoField = 0 ∷ []
+abbrev pub field_numbers : Option (ℕ × Index) → List ℕ
+field_numbers (Some (x, next)) = 1 ∷ x ∷ next.0 ∷ []
+field_numbers None = 0 ∷ []
 
-abbrev pub text_numbers : Str → List ℕ
-text_numbers (Characters from n) = 1 ∷ from.0 ∷ n ∷ []
-text_numbers BadText = 2 ∷ []
-text_numbers NoText = 0 ∷ []
+abbrev pub text_numbers : Result (Index × ℕ) StringFault → List ℕ
+text_numbers (Ok (from, n)) = 1 ∷ from.0 ∷ n ∷ []
+text_numbers (Err BadText) = 2 ∷ []
+text_numbers (Err NoText) = 0 ∷ []
 
-abbrev pub counted_numbers : Counted → List ℕ
-counted_numbers (Octets from n) = 1 ∷ from.0 ∷ n ∷ []
-counted_numbers NoOctets = 0 ∷ []
+abbrev pub counted_numbers : Option (Index × ℕ) → List ℕ
+counted_numbers (Some (from, n)) = 1 ∷ from.0 ∷ n ∷ []
+counted_numbers None = 0 ∷ []
 
-abbrev pub stored_numbers : Written → List ℕ
-stored_numbers (Upto end) = 1 ∷ end ∷ []
-stored_numbers NoRoom = 0 ∷ []
+abbrev pub stored_numbers : Option ℕ → List ℕ
+stored_numbers (Some end) = 1 ∷ end ∷ []
+stored_numbers None = 0 ∷ []
 
 unfoldable pub number_answered : NumberQuestion → List ℕ
 unfolding choose little_number little_octets number_of octets_of number_at read_of sign_extended over_bound ends_text text_of run_of

@@ -17,13 +17,13 @@
 --   part_numbers           the number of a refusal, or 0, start, end and order octet of an encapsulation
 --   switch_numbers         the number of a refusal, or 0, default, count and the index after them
 --   type_answered          what the definitions answer
-use Rattle.std.specs.Prelude.{◌∷◌, ◌++◌}
+use Rattle.std.specs.Prelude.{◌∷◌, ◌++◌, Option, Some, None, Result, Ok, Err}
 use Rattle.choices.specs.{ℕ, List, [], get_or}
 use Rattle.choices.specs.Lists.{any_of}
 use Rattle.cdr.specs.{Order, Size, index_of, octets}
 use Rattle.cdr.specs.Orders.{order_octet}
 use Rattle.type_kinds.specs.{Form, Unlisted, Plain, Bounded, Composite, Layout, Inert, Leaf, Text, Objref, Enum, Inner, Here, There, Kind, Fields}
-use Rattle.type_kinds.specs.{Labels, Of, NoLabels, Lead, LeadsTo, Outside, Spot, TypeAt, NoType, Member, place_of}
+use Rattle.type_kinds.specs.{Labels, Of, NoLabels, Member, place_of}
 use Rattle.type_kinds.specs.declared.Layout.TheVariants.{Objref as objref, Struct as struct, Union as union, Enum as enum}
 use Rattle.type_kinds.specs.declared.Layout.TheVariants.{Sequence as sequence, Array as array, Alias as alias, Exception as exception}
 use Rattle.type_parameters.specs.declared.Parameters.{Parameters}
@@ -33,20 +33,14 @@ use Rattle.type_kinds.specs.Parts.{field_in, skip_field, skip_counted, target_of
 use Rattle.type_kinds.specs.Members.{members_from, types_of}
 use Rattle.type_parameters.specs.Parameters.{count_in, type_in, element_in, union_in, encapsulated, parameters_at}
 use Rattle.type_list.specs.declared.Met.{Met}
-use Rattle.type_list.specs.declared.Position.{Position}
-use Rattle.type_list.specs.declared.Position.TheVariants.{IsAt, NoPosition}
-use Rattle.type_unions.specs.declared.Arm.{Arm}
-use Rattle.type_unions.specs.declared.Arm.TheVariants.{Chosen, NoneChosen}
 use Rattle.type_list.specs.Met.{find_kind, position_of, parameters_of, found_at, inside_of}
 use Rattle.type_list.specs.Arrays.{kinds_from, kinds_met, added}
 use Rattle.type_unions.specs.Discriminants.{leaf_labels, labels_after, labels_for, out_of_kind}
 use Rattle.type_unions.specs.Arms.{first_sought, case_of, member_no, no_default, default_of, chosen_of}
 use Rattle.type_unions.specs.Shapes.{shape_of, look}
-use Rattle.type_counts.specs.{Count, Wrong, Stands, Part, NoPart, Inside, Step, Refused, Next}
 use Rattle.type_counts.specs.Refusals.{type_refusal_number}
 use Rattle.type_counts.specs.Counts.{text_step, names_step, number_step, count_step, any_count, head_step, exception_step, length_step, texts_step, enum_step}
 use Rattle.type_counts.specs.Counts.{part_of}
-use Rattle.type_fields.specs.{Entry, NoEntry, Enters, Switch, NoSwitch, Cases}
 use Rattle.type_fields.specs.Fields.{below_top, kind_entry, bad_default, switch_step, label_before, label_step}
 use Rattle.type_walk.specs.Walk.{entered, closed_at}
 use Rattle.type_walk.specs.Types.{target_step, indirection_at, name_step, members_at, labels_at, switched_at, discriminant_at, ended_at}
@@ -56,6 +50,9 @@ use Rattle.type_steps.specs.Steps.{steps_of, steps}
 use Rattle.typecode.specs.TypeCode.{type_answer_numbers, loop_last, checked_type}
 use Rattle.samples.specs.Tables.{bit}
 use Rattle.samples.specs.Numbers.{field_numbers, number_answered}
+use Rattle.cdr.specs.declared.Index.{Index}
+use Rattle.cdr.specs.declared.Place.{Place}
+use Rattle.type_counts.specs.declared.Refusal.{Refusal}
 
 -- `type_code`: a byte order and the octets of a TypeCode; the number, then octets used and kinds written
 -- by the octets of a whole TypeCode, the place where an encapsulation starts, an index in it and its order:
@@ -124,17 +121,17 @@ form_numbers Plain = 1 ∷ []
 form_numbers Bounded = 2 ∷ []
 form_numbers (Composite layout) = 3 ∷ layout_kind layout ∷ []
 
-abbrev pub target_numbers : Lead → List ℕ
-target_numbers (LeadsTo place) = 1 ∷ place.0 ∷ []
-target_numbers Outside = 0 ∷ []
+abbrev pub target_numbers : Option Place → List ℕ
+target_numbers (Some place) = 1 ∷ place.0 ∷ []
+target_numbers None = 0 ∷ []
 
 abbrev pub inner_numbers : Inner → List ℕ
 inner_numbers (Here kind) = 1 ∷ kind.place.0 ∷ kind.start.0 ∷ order_octet kind.order ∷ []
 inner_numbers (There place) = 0 ∷ place.0 ∷ []
 
-abbrev pub spot_numbers : Spot → List ℕ
-spot_numbers (TypeAt x next) = 1 ∷ next.0 ∷ inner_numbers x
-spot_numbers NoType = 0 ∷ []
+abbrev pub spot_numbers : Option (Inner × Index) → List ℕ
+spot_numbers (Some (x, next)) = 1 ∷ next.0 ∷ inner_numbers x
+spot_numbers None = 0 ∷ []
 
 abbrev pub list_numbers : Fields → List ℕ
 list_numbers g = g.start.0 ∷ order_octet g.order ∷ g.count ∷ g.first.0 ∷ []
@@ -155,37 +152,37 @@ parameters_numbers (Sequence x most) = 19 ∷ most ∷ inner_numbers x
 parameters_numbers (Array x n) = 20 ∷ n ∷ inner_numbers x
 parameters_numbers (Alias x) = 21 ∷ inner_numbers x
 
-abbrev pub position_numbers : Position → List ℕ
-position_numbers (IsAt j) = 1 ∷ j ∷ []
-position_numbers NoPosition = 0 ∷ []
+abbrev pub position_numbers : Option ℕ → List ℕ
+position_numbers (Some j) = 1 ∷ j ∷ []
+position_numbers None = 0 ∷ []
 
 abbrev pub labels_numbers : Labels → List ℕ
 labels_numbers (Of size limit) = 1 ∷ octets size ∷ limit ∷ []
 labels_numbers NoLabels = 0 ∷ []
 
-abbrev pub arm_numbers : Arm → List ℕ
-arm_numbers (Chosen x) = 1 ∷ inner_numbers x
-arm_numbers NoneChosen = 0 ∷ []
+abbrev pub arm_numbers : Option Inner → List ℕ
+arm_numbers (Some x) = 1 ∷ inner_numbers x
+arm_numbers None = 0 ∷ []
 
-abbrev pub entry_number : Entry → ℕ
-entry_number (NoEntry r) = type_refusal_number r
-entry_number Enters = 0
+abbrev pub entry_number : Result Unit Refusal → ℕ
+entry_number (Err r) = type_refusal_number r
+entry_number (Ok tt) = 0
 
-abbrev pub step_numbers : Step → List ℕ
-step_numbers (Refused r) = type_refusal_number r ∷ []
-step_numbers (Next i) = 0 ∷ i.0 ∷ []
+abbrev pub step_numbers : Result Index Refusal → List ℕ
+step_numbers (Err r) = type_refusal_number r ∷ []
+step_numbers (Ok i) = 0 ∷ i.0 ∷ []
 
-abbrev pub count_numbers : Count → List ℕ
-count_numbers (Wrong r) = type_refusal_number r ∷ []
-count_numbers (Stands n next) = 0 ∷ n ∷ next.0 ∷ []
+abbrev pub count_numbers : Result (ℕ × Index) Refusal → List ℕ
+count_numbers (Err r) = type_refusal_number r ∷ []
+count_numbers (Ok (n, next)) = 0 ∷ n ∷ next.0 ∷ []
 
-abbrev pub part_numbers : Part → List ℕ
-part_numbers (NoPart r) = type_refusal_number r ∷ []
-part_numbers (Inside from end order) = 0 ∷ from ∷ end ∷ order_octet order ∷ []
+abbrev pub part_numbers : Result (ℕ × ℕ × Order) Refusal → List ℕ
+part_numbers (Err r) = type_refusal_number r ∷ []
+part_numbers (Ok (from, end, order)) = 0 ∷ from ∷ end ∷ order_octet order ∷ []
 
-abbrev pub switch_numbers : Switch → List ℕ
-switch_numbers (NoSwitch r) = type_refusal_number r ∷ []
-switch_numbers (Cases default n next) = 0 ∷ default ∷ n ∷ next.0 ∷ []
+abbrev pub switch_numbers : Result (ℕ × ℕ × Index) Refusal → List ℕ
+switch_numbers (Err r) = type_refusal_number r ∷ []
+switch_numbers (Ok (default, n, next)) = 0 ∷ default ∷ n ∷ next.0 ∷ []
 
 unfoldable pub type_answered : TypeQuestion → List ℕ
 unfolding number_answered any_of form_of field_in skip_field skip_counted target_of aimed spot_at member_at names_in members_from types_of

@@ -7,7 +7,7 @@
 --   judged_number      the number of a judgement, 0 for an accepted type
 --   plan_numbers       whether there is a plan, its members, and their kinds
 --   value_answered     what the definitions answer
-use Rattle.std.specs.Prelude.{◌∷◌, ◌++◌}
+use Rattle.std.specs.Prelude.{◌∷◌, ◌++◌, Option, Some, None, Result, Ok, Err, replicate}
 use Rattle.choices.specs.{ℕ, List, [], true}
 use Rattle.cdr.specs.{Order, Big, index_of, octets}
 use Rattle.type_kinds.specs.{Inert, Inner}
@@ -23,13 +23,10 @@ use Rattle.value_cursor.specs.{declared.Mode.Mode, declared.Cursor.Cursor}
 use Rattle.value_cursor.specs.Lent.{Lent, row_put}
 use Rattle.value_cursor.specs.Walk.{sink_of, source_of, state_of, cursor_start, leaf_visit}
 use Rattle.value_plans.specs.declared.Plan.{Plan}
-use Rattle.value_plans.specs.Plans.{plan_steps, plan_visit, inert_kind, leaf_kind, plannable, laid, plan_of}
+use Rattle.value_plans.specs.Plans.{plan_steps, plan_visit, inert_kind, leaf_kind, plannable, laid, plan_of, most_members}
 use Rattle.value_items.specs.Items.{item_of}
-use Rattle.value_typed.specs.declared.Judged.{Judged}
-use Rattle.value_typed.specs.declared.Judged.TheVariants.{Accepted, Refused}
 use Rattle.value.specs.Single.{item_number, given_in, given_by, item_answer}
 use Rattle.value_typed.specs.Typed.{typed_for}
-use Rattle.samples.specs.Tables.{bit}
 use Rattle.samples.specs.TypeQuestions.{type_answered}
 
 -- `value`: a lent table, and the octets of a TypeCode and of a value, both big-endian from index 0; the number, then octets used, items and
@@ -73,12 +70,13 @@ at_first table = state_of cursor_start table
 abbrev pub state_numbers : St Lent → List ℕ
 state_numbers s = s.at ∷ s.fault ∷ s.last ∷ s.kept.visits ∷ s.kept.items ∷ s.kept.table
 
-abbrev pub judged_number : Judged → ℕ
-judged_number Accepted = 0
-judged_number (Refused number) = number
+abbrev pub judged_number : Result (Unit {0}) ℕ → ℕ
+judged_number (Ok u) = 0
+judged_number (Err number) = number
 
-abbrev pub plan_numbers : Plan → List ℕ
-plan_numbers p = bit p.found ∷ p.count ∷ p.kinds
+abbrev pub plan_numbers : Option Plan → List ℕ
+plan_numbers (Some p) = 1 ∷ p.count ∷ p.kinds
+plan_numbers None = 0 ∷ 0 ∷ replicate most_members 0
 
 unfoldable pub value_answered : ValueQuestion → List ℕ
 unfolding type_answered and_then repeats taken done number_taken octets_step

@@ -13,7 +13,7 @@
 --   value_samples    the table; what a visit reads that enters nothing is the same in every type
 --   values-hold     the statement
 use Rattle.std.specs.Prelude.{T, ◌∷◌, ◌++◌}
-use Rattle.choices.specs.{ℕ, List, [], true, replicate}
+use Rattle.choices.specs.{ℕ, List, [], replicate}
 use Rattle.cdr.specs.{Big, index_of}
 use Rattle.type_kinds.specs.{Inner, NoLabels, Leaf, Text, Objref, Enum, members_of, types_of, place_of}
 use Rattle.type_parameters.specs.Parameters.{member_fields}
@@ -47,7 +47,7 @@ abbrev one_profile : List ℕ
 one_profile = paper 21 0x00000001000000000000000100000000000000015A
 
 abbrev pair : Plan
-pair = record { found = true; kinds = 10 ∷ 10 ∷ replicate 14 0; count = 2 }
+pair = record { kinds = 10 ∷ 10 ∷ replicate 14 0; count = 2 }
 
 abbrev midway : Cursor
 midway = record { at = 4; visits = 2; items = 1; fault = 0; last = 7 }

@@ -1,7 +1,8 @@
 -- The texts, numbers, counts and encapsulations of a type's parameters, checked in an encapsulation's own octets s, index 0 first: 30, 32, 33
 -- and 34.
 --   then_step         what follows, unless it is refused
---   step_from         what a string gives: "in types 32, 30, 32 likewise"
+--   type_text_refusal      what a string's fault is refused as: "in types 32, 30, 32 likewise"
+--   step_from         what a string gives
 --   text_step         a text
 --   names_step        id and name
 --   number_step       an unsigned long, as a bound is
@@ -17,68 +18,74 @@
 --   part_from         an encapsulation by its order octet: 33 "above 1"
 --   part_of           "a length, then an order octet": where an encapsulation starts and ends, and its order; 33 for "length 0 or beyond
 --                    its surroundings"
-use Rattle.std.specs.Prelude.{◌+◌, ◌-◌}
+use Rattle.std.specs.Prelude.{◌+◌, ◌-◌, Option, Some, None, Result, Ok, Err}
 use Rattle.choices.specs.{ℕ, zero, suc, List, cond, ltb, eqb, length, get_or}
-use Rattle.cdr.specs.{Index, Order, Named, Is, NoOrder, Four, index_of, order_of}
-use Rattle.cdr_fields.specs.{Str, Characters, BadText as bad_text, NoText, field_of, string_of}
+use Rattle.cdr.specs.{Index, Order, Four, index_of, order_of}
+use Rattle.cdr_fields.specs.{field_of, string_of}
 use Rattle.type_kinds.specs.{on_field}
-use Rattle.type_counts.specs.Names.{Count, Wrong, Stands, Part, NoPart, Inside, Step, Refused, Next, Ends, BadText, BadEncapsulation, NoCount}
+use Rattle.type_counts.specs.Names.{Ends, BadText, BadEncapsulation, NoCount}
+use Rattle.cdr_fields.specs.declared.StringFault.TheVariants.{BadText as bad_text, NoText}
+use Rattle.cdr_fields.specs.declared.StringFault.{StringFault}
+use Rattle.type_counts.specs.declared.Refusal.{Refusal}
 
-abbrev pub then_step : Step → (Index → Step) → Step
-then_step (Refused r) f = Refused r
-then_step (Next i) f = f i
+abbrev pub then_step : Result Index Refusal → (Index → Result Index Refusal) → Result Index Refusal
+then_step (Err r) f = Err r
+then_step (Ok i) f = f i
 
-abbrev pub step_from : Str → Step
-step_from (Characters from n) = Next (index_of (from.0 + n + 1))
-step_from bad_text = Refused BadText
-step_from NoText = Refused Ends
+abbrev pub type_text_refusal : StringFault → Refusal
+type_text_refusal bad_text = BadText
+type_text_refusal NoText = Ends
 
-unfoldable pub text_step : List ℕ → Index → Order → Step
+abbrev pub step_from : Result (Index × ℕ) StringFault → Result Index Refusal
+step_from (Ok (from, n)) = Ok (index_of (from.0 + n + 1))
+step_from (Err fault) = Err (type_text_refusal fault)
+
+unfoldable pub text_step : List ℕ → Index → Order → Result Index Refusal
 text_step s i order = step_from (string_of s i order)
 
-unfoldable pub names_step : List ℕ → Order → Step
+unfoldable pub names_step : List ℕ → Order → Result Index Refusal
 names_step s order = then_step (text_step s (index_of 1) order) (λ i. text_step s i order)
 
-unfoldable pub number_step : List ℕ → Index → Order → Step
-number_step s i order = on_field (field_of s i Four order) (Refused Ends) (λ n next. Next next)
+unfoldable pub number_step : List ℕ → Index → Order → Result Index Refusal
+number_step s i order = on_field (field_of s i Four order) (Err Ends) (λ n next. Ok next)
 
-unfoldable pub count_step : List ℕ → Index → Order → Count
-count_step s i order = on_field (field_of s i Four order) (Wrong Ends) (λ n next. cond (eqb n 0) (Wrong NoCount) (Stands n next))
+unfoldable pub count_step : List ℕ → Index → Order → Result (ℕ × Index) Refusal
+count_step s i order = on_field (field_of s i Four order) (Err Ends) (λ n next. cond (eqb n 0) (Err NoCount) (Ok (n, next)))
 
-unfoldable pub any_count : List ℕ → Index → Order → Count
-any_count s i order = on_field (field_of s i Four order) (Wrong Ends) (λ n next. Stands n next)
+unfoldable pub any_count : List ℕ → Index → Order → Result (ℕ × Index) Refusal
+any_count s i order = on_field (field_of s i Four order) (Err Ends) (λ n next. Ok (n, next))
 
-abbrev pub then_count : Step → (Index → Count) → Count
-then_count (Refused r) f = Wrong r
-then_count (Next i) f = f i
+abbrev pub then_count : Result Index Refusal → (Index → Result (ℕ × Index) Refusal) → Result (ℕ × Index) Refusal
+then_count (Err r) f = Err r
+then_count (Ok i) f = f i
 
-unfoldable pub head_step : List ℕ → Order → Count
+unfoldable pub head_step : List ℕ → Order → Result (ℕ × Index) Refusal
 head_step s order = then_count (names_step s order) (λ i. count_step s i order)
 
-unfoldable pub exception_step : List ℕ → Order → Count
+unfoldable pub exception_step : List ℕ → Order → Result (ℕ × Index) Refusal
 exception_step s order = then_count (names_step s order) (λ i. any_count s i order)
 
-abbrev pub after_count : Count → (ℕ → Index → Step) → Step
-after_count (Wrong r) f = Refused r
-after_count (Stands n next) f = f n next
+abbrev pub after_count : Result (ℕ × Index) Refusal → (ℕ → Index → Result Index Refusal) → Result Index Refusal
+after_count (Err r) f = Err r
+after_count (Ok (n, next)) f = f n next
 
-unfoldable pub length_step : List ℕ → Index → Order → Step
-length_step s i order = after_count (count_step s i order) (λ n next. Next next)
+unfoldable pub length_step : List ℕ → Index → Order → Result Index Refusal
+length_step s i order = after_count (count_step s i order) (λ n next. Ok next)
 
-unfoldable pub texts_step : List ℕ → Order → ℕ → Index → Step
-texts_step s order zero i = Next i
+unfoldable pub texts_step : List ℕ → Order → ℕ → Index → Result Index Refusal
+texts_step s order zero i = Ok i
 texts_step s order (suc n) i = then_step (text_step s i order) (λ j. texts_step s order n j)
 
-unfoldable pub enum_step : List ℕ → Order → Step
+unfoldable pub enum_step : List ℕ → Order → Result Index Refusal
 enum_step s order = after_count (head_step s order) (λ n next. texts_step s order n next)
 
-abbrev pub part_from : Named → ℕ → ℕ → Part
-part_from (Is order) b e = Inside b e order
-part_from NoOrder b e = NoPart BadEncapsulation
+abbrev pub part_from : Option Order → ℕ → ℕ → Result (ℕ × ℕ × Order) Refusal
+part_from (Some order) b e = Ok (b, e, order)
+part_from None b e = Err BadEncapsulation
 
-unfoldable pub part_of : List ℕ → Index → Order → Part
+unfoldable pub part_of : List ℕ → Index → Order → Result (ℕ × ℕ × Order) Refusal
 part_of s i order =
-    on_field (field_of s i Four order) (NoPart Ends) (λ n next.
-    cond (eqb n 0) (NoPart BadEncapsulation)
-    (cond (ltb (length s - next.0) n) (NoPart BadEncapsulation)
+    on_field (field_of s i Four order) (Err Ends) (λ n next.
+    cond (eqb n 0) (Err BadEncapsulation)
+    (cond (ltb (length s - next.0) n) (Err BadEncapsulation)
     (part_from (order_of (get_or s next.0 0)) next.0 (next.0 + n))))

@@ -3,10 +3,11 @@
 
 ghost use Rattle.std.specs.Prelude.{◌≡◌};
 ghost use Rattle.type_counts.specs.Refusals.{type_refusal_number};
-ghost use Rattle.type_counts.specs.Counts.{text_step, names_step, number_step, count_step, any_count, head_step, exception_step, length_step};
+ghost use Rattle.type_counts.specs.Counts.{type_text_refusal, text_step, names_step, number_step, count_step, any_count, head_step, exception_step};
+ghost use Rattle.type_counts.specs.Counts.{length_step};
 
 use cdr::{Index, Order, Size};
-use cdr_fields::{Field, Str};
+use cdr_fields::StringFault;
 
 // Why the octets of a type are refused.
 #[derive(Clone, Copy)]
@@ -45,112 +46,86 @@ impl Refusal {
     }
 }
 
-// Where the check goes on, or why it does not.
-#[derive(Clone, Copy)]
-pub enum Step {
-    Refused(Refusal),
-    Next(Index),
-}
+impl From<StringFault> for Refusal {
+    ghost from_gives = { λ fault result. result ≡ type_text_refusal fault };
 
-// A count and the index after it, or why there is none.
-#[derive(Clone, Copy)]
-pub enum Count {
-    Wrong(Refusal),
-    Stands { count: u64, next: Index },
-}
-
-// The part of the octets that is an encapsulation, and its order; or why there is none.
-#[derive(Clone, Copy)]
-pub enum Part {
-    NoPart(Refusal),
-    Inside {
-        start: usize,
-        end: usize,
-        order: Order,
-    },
+    // Why there is no text.
+    fn from(fault: StringFault) -> Refusal {
+        match fault {
+            StringFault::BadText => Refusal::BadText,
+            StringFault::NoText => Refusal::Ends,
+        }
+    }
 }
 
 // A text.
-pub fn text_step(part: &[u8], at: Index, order: Order) -> Step
+#[tactic(auto, unfolding(crate::specs::Counts::text_step))]
+pub fn text_step(part: &[u8], at: Index, order: Order) -> Result<Index, Refusal>
     ensures { result ≡ text_step part.now at order }
 {
-    match cdr_fields::read_string(part, at, order) {
-        Str::Characters { from, length } => Step::Next(Index(from.0 + length + 1)),
-        Str::BadText => Step::Refused(Refusal::BadText),
-        Str::NoText => Step::Refused(Refusal::Ends),
-    }
+    let (from, length) = cdr_fields::read_string(part, at, order)?;
+    Ok(Index(from.0 + length + 1))
 }
 
 // Id and name.
-pub fn names_step(part: &[u8], order: Order) -> Step
+#[tactic(auto, unfolding(crate::specs::Counts::names_step))]
+pub fn names_step(part: &[u8], order: Order) -> Result<Index, Refusal>
     ensures { result ≡ names_step part.now order }
 {
-    match text_step(part, Index(1), order) {
-        Step::Refused(refusal) => Step::Refused(refusal),
-        Step::Next(i) => text_step(part, i, order),
-    }
+    let name = text_step(part, Index(1), order)?;
+    text_step(part, name, order)
 }
 
 // An unsigned long.
-pub fn number_step(part: &[u8], at: Index, order: Order) -> Step
+#[tactic(auto, unfolding(crate::specs::Counts::number_step, crate::specs::Counts::any_count))]
+pub fn number_step(part: &[u8], at: Index, order: Order) -> Result<Index, Refusal>
     ensures { result ≡ number_step part.now at order }
 {
-    match cdr_fields::read_field(part, at, Size::Four, order) {
-        Field::Value { value: _, next } => Step::Next(next),
-        Field::NoField => Step::Refused(Refusal::Ends),
-    }
+    any_count(part, at, order).map(|(_, next)| next)
 }
 
 // A count that is not 0.
-pub fn count_step(part: &[u8], at: Index, order: Order) -> Count
+#[tactic(auto, unfolding(crate::specs::Counts::count_step, crate::specs::Counts::any_count))]
+pub fn count_step(part: &[u8], at: Index, order: Order) -> Result<(u64, Index), Refusal>
     ensures { result ≡ count_step part.now at order }
 {
-    let Field::Value { value: count, next } = cdr_fields::read_field(part, at, Size::Four, order)
-    else {
-        return Count::Wrong(Refusal::Ends);
-    };
+    let (count, next) = any_count(part, at, order)?;
     if count == 0 {
-        return Count::Wrong(Refusal::NoCount);
+        return Err(Refusal::NoCount);
     }
-    Count::Stands { count, next }
+    Ok((count, next))
 }
 
 // A count that may be 0.
-fn any_count(part: &[u8], at: Index, order: Order) -> Count
+#[tactic(auto, unfolding(crate::specs::Counts::any_count))]
+fn any_count(part: &[u8], at: Index, order: Order) -> Result<(u64, Index), Refusal>
     ensures { result ≡ any_count part.now at order }
 {
-    match cdr_fields::read_field(part, at, Size::Four, order) {
-        Field::Value { value: count, next } => Count::Stands { count, next },
-        Field::NoField => Count::Wrong(Refusal::Ends),
-    }
+    cdr_fields::read_field(part, at, Size::Four, order).ok_or(Refusal::Ends)
 }
 
 // Id, name and count.
-pub fn head_step(part: &[u8], order: Order) -> Count
+#[tactic(auto, unfolding(crate::specs::Counts::head_step))]
+pub fn head_step(part: &[u8], order: Order) -> Result<(u64, Index), Refusal>
     ensures { result ≡ head_step part.now order }
 {
-    match names_step(part, order) {
-        Step::Refused(refusal) => Count::Wrong(refusal),
-        Step::Next(i) => count_step(part, i, order),
-    }
+    let next = names_step(part, order)?;
+    count_step(part, next, order)
 }
 
 // Id, name and count of an exception.
-pub fn exception_step(part: &[u8], order: Order) -> Count
+#[tactic(auto, unfolding(crate::specs::Counts::exception_step))]
+pub fn exception_step(part: &[u8], order: Order) -> Result<(u64, Index), Refusal>
     ensures { result ≡ exception_step part.now order }
 {
-    match names_step(part, order) {
-        Step::Refused(refusal) => Count::Wrong(refusal),
-        Step::Next(i) => any_count(part, i, order),
-    }
+    let next = names_step(part, order)?;
+    any_count(part, next, order)
 }
 
 // An array's length.
-pub fn length_step(part: &[u8], at: Index, order: Order) -> Step
+#[tactic(auto, unfolding(crate::specs::Counts::length_step))]
+pub fn length_step(part: &[u8], at: Index, order: Order) -> Result<Index, Refusal>
     ensures { result ≡ length_step part.now at order }
 {
-    match count_step(part, at, order) {
-        Count::Wrong(refusal) => Step::Refused(refusal),
-        Count::Stands { count: _, next } => Step::Next(next),
-    }
+    count_step(part, at, order).map(|(_, next)| next)
 }

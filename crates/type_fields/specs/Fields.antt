@@ -12,7 +12,7 @@
 --   label_before      a label is that of one of the `done` members before it, from `first` on; they were checked, and are read again over the
 --                    whole octets v, from the place b of their encapsulation on
 --   label_step        a label before a member: 30, then, if it counts, 35 "out of its kind" or equal to one before it
-use Rattle.std.specs.Prelude.{◌/◌, ◌||◌}
+use Rattle.std.specs.Prelude.{◌/◌, ◌||◌, Result, Ok, Err}
 use Rattle.choices.specs.{ℕ, List, Bool, true, false, cond, not, leb, eqb}
 use Rattle.cdr.specs.{Index, Place, Order, Four}
 use Rattle.cdr_fields.specs.{field_of}
@@ -20,9 +20,9 @@ use Rattle.type_kinds.specs.{Form, Unlisted, Plain, Bounded, Composite, Labels, 
 use Rattle.type_parameters.specs.{Parameters.member_fields}
 use Rattle.type_numbers.specs.Kinds.{kinds_limit, null_kind, void_kind, exception_kind}
 use Rattle.type_unions.specs.{Discriminants.out_of_kind, Arms.counts, Arms.case_of, Arms.no_default, Arms.on_arm}
-use Rattle.type_counts.specs.{Count, Wrong, Stands, Step, Refused, Next, Ends, NoSuchKind, BadUnion, TooManyKinds, TooDeep, BelowTop}
+use Rattle.type_counts.specs.{Ends, NoSuchKind, BadUnion, TooManyKinds, TooDeep, BelowTop}
 use Rattle.type_counts.specs.Counts.{count_step}
-use Rattle.type_fields.specs.Names.{Entry, NoEntry, Enters, Switch, NoSwitch, Cases}
+use Rattle.type_counts.specs.declared.Refusal.{Refusal}
 
 abbrev pub top_only : ℕ → Bool
 top_only kind = eqb kind null_kind || (eqb kind void_kind || eqb kind exception_kind)
@@ -39,33 +39,33 @@ nesting_limit = 16
 unfoldable pub below_top : ℕ → ℕ → Bool
 below_top kind left = cond (eqb left nesting_limit) false (top_only kind)
 
-unfoldable pub kind_entry : Form → ℕ → ℕ → ℕ → Entry
+unfoldable pub kind_entry : Form → ℕ → ℕ → ℕ → Result Unit Refusal
 kind_entry form kind left count =
-    cond (not (is_listed form)) (NoEntry NoSuchKind)
-    (cond (below_top kind left) (NoEntry BelowTop)
-    (cond (eqb left 0) (NoEntry TooDeep)
-    (cond (leb kinds_limit count) (NoEntry TooManyKinds)
-    Enters)))
+    cond (not (is_listed form)) (Err NoSuchKind)
+    (cond (below_top kind left) (Err BelowTop)
+    (cond (eqb left 0) (Err TooDeep)
+    (cond (leb kinds_limit count) (Err TooManyKinds)
+    (Ok tt))))
 
 unfoldable pub bad_default : ℕ → ℕ → Bool
 bad_default d n = cond (eqb d no_default) false (cond (leb (long_range / 2) d) true (leb n d))
 
-abbrev pub switch_from : ℕ → Count → Switch
-switch_from d (Wrong r) = NoSwitch r
-switch_from d (Stands n next) = cond (bad_default d n) (NoSwitch BadUnion) (Cases d n next)
+abbrev pub switch_from : ℕ → Result (ℕ × Index) Refusal → Result (ℕ × ℕ × Index) Refusal
+switch_from d (Err r) = Err r
+switch_from d (Ok (n, next)) = cond (bad_default d n) (Err BadUnion) (Ok (d, n, next))
 
-unfoldable pub switch_step : List ℕ → Index → Order → Switch
-switch_step s i order = on_field (field_of s i Four order) (NoSwitch Ends) (λ d j. switch_from d (count_step s j order))
+unfoldable pub switch_step : List ℕ → Index → Order → Result (ℕ × ℕ × Index) Refusal
+switch_step s i order = on_field (field_of s i Four order) (Err Ends) (λ d j. switch_from d (count_step s j order))
 
 unfoldable pub label_before : Labels → List ℕ → Place → Order → ℕ → ℕ → Index → ℕ → Bool
 label_before labels v b order default done first x = on_arm (case_of default x (members_of labels v (member_fields b order done first))) (λ _. true) false
 
-abbrev pub label_step : Labels → List ℕ → List ℕ → Place → Order → ℕ → ℕ → Index → Index → Step
-label_step NoLabels v s b order default done first i = Next i
+abbrev pub label_step : Labels → List ℕ → List ℕ → Place → Order → ℕ → ℕ → Index → Index → Result Index Refusal
+label_step NoLabels v s b order default done first i = Ok i
 label_step (Of size limit) v s b order default done first i =
-    on_field (field_of s i size order) (Refused Ends) (λ x next.
+    on_field (field_of s i size order) (Err Ends) (λ x next.
     cond (counts default done)
-    (cond (out_of_kind limit x) (Refused BadUnion)
-    (cond (label_before (Of size limit) v b order default done first x) (Refused BadUnion)
-    (Next next)))
-    (Next next))
+    (cond (out_of_kind limit x) (Err BadUnion)
+    (cond (label_before (Of size limit) v b order default done first x) (Err BadUnion)
+    (Ok next)))
+    (Ok next))

@@ -2,8 +2,6 @@
 use Rattle.type_kinds.specs.declared
 pub use declared.{Form.Form, Inert.Inert, Kind.Kind, Fields.Fields, Layout.Layout}
 pub use declared.{Inner.Inner, Inner.TheVariants.Here, Inner.TheVariants.There, Labels.Labels}
-pub use declared.{Labels.TheVariants.Of, Labels.TheVariants.NoLabels, Skip.Skip, Skip.TheVariants.EndsAt, Skip.TheVariants.NoEnd}
-pub use declared.{Spot.Spot, Spot.TheVariants.NoType, Spot.TheVariants.TypeAt, Lead.Lead, Lead.TheVariants.LeadsTo}
-pub use declared.{Lead.TheVariants.Outside}
+pub use declared.{Labels.TheVariants.Of, Labels.TheVariants.NoLabels}
 pub use declared.Form.TheVariants.{Unlisted, Plain, Bounded, Composite}
 pub use declared.Inert.TheVariants.{Leaf, Text, Objref, Enum}

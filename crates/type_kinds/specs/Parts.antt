@@ -21,12 +21,12 @@
 --   lead_in         the label before a member's name, where members have labels, passed over
 --   member_at       a member: a label where there are labels, a name, a type
 --   names_in        id and name passed over, the first two parameters of all but a sequence and an array
-use Rattle.std.specs.Prelude.{◌+◌, ◌-◌, ◌/◌, ◌^◌}
+use Rattle.std.specs.Prelude.{◌+◌, ◌-◌, ◌/◌, ◌^◌, Option, Some, None}
 use Rattle.choices.specs.{ℕ, List, cond, ltb, eqb, drop}
 use Rattle.cdr.specs.{Index, Place, Order, Size, Four, index_of}
-use Rattle.cdr_fields.specs.{Field, Value, NoField, Counted, Octets, NoOctets, field_of, counted_of}
-use Rattle.type_kinds.specs.Names.{Form, Unlisted, Plain, Bounded, Composite, Skip, EndsAt, NoEnd, Lead, LeadsTo, Outside, Kind, Inner, Here}
-use Rattle.type_kinds.specs.Names.{There, Spot, TypeAt, NoType, Labels, Of, NoLabels}
+use Rattle.cdr_fields.specs.{field_of, counted_of}
+use Rattle.type_kinds.specs.Names.{Form, Unlisted, Plain, Bounded, Composite, Kind, Inner, Here}
+use Rattle.type_kinds.specs.Names.{There, Labels, Of, NoLabels}
 use Rattle.type_kinds.specs.Forms.{form_of}
 use Rattle.type_numbers.specs.{indirection_kind}
 
@@ -40,34 +40,34 @@ abbrev pub place_in : Inner → Place
 place_in (Here a) = a.place
 place_in (There p) = p
 
-abbrev pub on_field : {A : Type 0} → Field → A → (ℕ → Index → A) → A
-on_field (Value x next) a f = f x next
-on_field NoField a f = a
+abbrev pub on_field : {A : Type 0} → Option (ℕ × Index) → A → (ℕ → Index → A) → A
+on_field (Some (x, next)) a f = f x next
+on_field None a f = a
 
-abbrev pub on_skip : {A : Type 0} → Skip → A → (Index → A) → A
-on_skip (EndsAt next) a f = f next
-on_skip NoEnd a f = a
+abbrev pub on_skip : {A : Type 0} → Option Index → A → (Index → A) → A
+on_skip (Some next) a f = f next
+on_skip None a f = a
 
-abbrev pub on_spot : {A : Type 0} → Spot → A → (Inner → Index → A) → A
-on_spot (TypeAt x next) a f = f x next
-on_spot NoType a f = a
+abbrev pub on_spot : {A : Type 0} → Option (Inner × Index) → A → (Inner → Index → A) → A
+on_spot (Some (x, next)) a f = f x next
+on_spot None a f = a
 
-unfoldable pub field_in : List ℕ → Place → Index → Size → Order → Field
+unfoldable pub field_in : List ℕ → Place → Index → Size → Order → Option (ℕ × Index)
 field_in v b i size order = field_of (drop b.0 v) i size order
 
-unfoldable pub skip_field : List ℕ → Place → Index → Size → Order → Skip
-skip_field v b i size order = on_field (field_in v b i size order) NoEnd (λ x next. EndsAt next)
+unfoldable pub skip_field : List ℕ → Place → Index → Size → Order → Option Index
+skip_field v b i size order = on_field (field_in v b i size order) None (λ x next. Some next)
 
-abbrev pub skip_octets : Counted → Skip
-skip_octets (Octets from n) = EndsAt (index_of (from.0 + n))
-skip_octets NoOctets = NoEnd
+abbrev pub skip_octets : Option (Index × ℕ) → Option Index
+skip_octets (Some (from, n)) = Some (index_of (from.0 + n))
+skip_octets None = None
 
-unfoldable pub skip_counted : List ℕ → Place → Index → Order → Skip
+unfoldable pub skip_counted : List ℕ → Place → Index → Order → Option Index
 skip_counted v b i order = skip_octets (counted_of (drop b.0 v) i order)
 
-abbrev pub skip_kind : Form → List ℕ → Place → Index → Order → Skip
-skip_kind Unlisted v b i order = NoEnd
-skip_kind Plain v b i order = EndsAt i
+abbrev pub skip_kind : Form → List ℕ → Place → Index → Order → Option Index
+skip_kind Unlisted v b i order = None
+skip_kind Plain v b i order = Some i
 skip_kind Bounded v b i order = skip_field v b i Four order
 skip_kind (Composite layout) v b i order = skip_counted v b i order
 
@@ -77,32 +77,32 @@ place_before b next = place_of (b.0 + (next.0 - 4))
 abbrev pub long_range : ℕ
 long_range = 2 ^ 32
 
-unfoldable pub target_of : Place → ℕ → Lead
+unfoldable pub target_of : Place → ℕ → Option Place
 target_of p x =
-    cond (ltb x (long_range / 2)) (cond (ltb (p.0 + x) (2 ^ 64)) (LeadsTo (place_of (p.0 + x))) Outside)
-    (cond (ltb p.0 (long_range - x)) Outside (LeadsTo (place_of (p.0 - (long_range - x)))))
+    cond (ltb x (long_range / 2)) (cond (ltb (p.0 + x) (2 ^ 64)) (Some (place_of (p.0 + x))) None)
+    (cond (ltb p.0 (long_range - x)) None (Some (place_of (p.0 - (long_range - x)))))
 
-abbrev pub aimed_at : Lead → Index → Spot
-aimed_at (LeadsTo p) next = TypeAt (There p) next
-aimed_at Outside next = NoType
+abbrev pub aimed_at : Option Place → Index → Option (Inner × Index)
+aimed_at (Some p) next = Some (There p, next)
+aimed_at None next = None
 
-unfoldable pub aimed : List ℕ → Place → Index → Order → Spot
-aimed v b i order = on_field (field_in v b i Four order) NoType (λ x next. aimed_at (target_of (place_before b next) x) next)
+unfoldable pub aimed : List ℕ → Place → Index → Order → Option (Inner × Index)
+aimed v b i order = on_field (field_in v b i Four order) None (λ x next. aimed_at (target_of (place_before b next) x) next)
 
-unfoldable pub spot_at : List ℕ → Place → Index → Order → Spot
+unfoldable pub spot_at : List ℕ → Place → Index → Order → Option (Inner × Index)
 spot_at v b i order =
-    on_field (field_in v b i Four order) NoType (λ kind next.
+    on_field (field_in v b i Four order) None (λ kind next.
     cond (eqb kind indirection_kind)
     (aimed v b next order)
-    (on_skip (skip_kind (form_of kind) v b next order) NoType (λ over. TypeAt (Here (written_at (place_before b next) b order)) over)))
+    (on_skip (skip_kind (form_of kind) v b next order) None (λ over. Some (Here (written_at (place_before b next) b order), over))))
 
-abbrev pub lead_in : Labels → List ℕ → Place → Index → Order → Skip
+abbrev pub lead_in : Labels → List ℕ → Place → Index → Order → Option Index
 lead_in (Of size limit) v b i order = skip_field v b i size order
-lead_in NoLabels v b i order = EndsAt i
+lead_in NoLabels v b i order = Some i
 
-unfoldable pub member_at : Labels → List ℕ → Place → Index → Order → Spot
+unfoldable pub member_at : Labels → List ℕ → Place → Index → Order → Option (Inner × Index)
 member_at labels v b i order =
-    on_skip (lead_in labels v b i order) NoType (λ h. on_skip (skip_counted v b h order) NoType (λ j. spot_at v b j order))
+    on_skip (lead_in labels v b i order) None (λ h. on_skip (skip_counted v b h order) None (λ j. spot_at v b j order))
 
-unfoldable pub names_in : List ℕ → Place → Order → Skip
-names_in v b order = on_skip (skip_counted v b (index_of 1) order) NoEnd (λ i. skip_counted v b i order)
+unfoldable pub names_in : List ℕ → Place → Order → Option Index
+names_in v b order = on_skip (skip_counted v b (index_of 1) order) None (λ i. skip_counted v b i order)

@@ -8,7 +8,6 @@ ghost use Rattle.type_kinds.specs.Parts.{place_in, field_in, target_of, spot_at,
 ghost use Rattle.type_kinds.specs.Members.{label_at};
 
 use cdr::{Index, Order, Place, Size};
-use cdr_fields::Field;
 
 mod parts;
 
@@ -36,9 +35,6 @@ pub enum Layout {
     Exception,
 }
 
-// The number behind the kinds from null to octet, which have no parameters.
-const PLAIN_END: u64 = type_numbers::OCTET + 1;
-
 // How many longs there are.
 pub const LONG_RANGE: u64 = 4294967296;
 
@@ -46,60 +42,24 @@ pub const LONG_RANGE: u64 = 4294967296;
 pub const LONG_HALF: u64 = 2147483648;
 
 // What follows a kind, by its number.
+#[tactic(auto, unfolding(crate::specs::Forms::form_of))]
 pub fn form_of(kind: u64) -> Form
     ensures { result ≡ form_of kind }
 {
-    if kind < PLAIN_END {
-        return Form::Plain;
+    match kind {
+        type_numbers::NULL..=type_numbers::OCTET => Form::Plain,
+        type_numbers::OBJREF => Form::Composite(Layout::Objref),
+        type_numbers::STRUCT => Form::Composite(Layout::Struct),
+        type_numbers::UNION => Form::Composite(Layout::Union),
+        type_numbers::ENUM => Form::Composite(Layout::Enum),
+        type_numbers::STRING => Form::Bounded,
+        type_numbers::SEQUENCE => Form::Composite(Layout::Sequence),
+        type_numbers::ARRAY => Form::Composite(Layout::Array),
+        type_numbers::ALIAS => Form::Composite(Layout::Alias),
+        type_numbers::EXCEPTION => Form::Composite(Layout::Exception),
+        type_numbers::LONG_LONG | type_numbers::UNSIGNED_LONG_LONG => Form::Plain,
+        _ => Form::Unlisted,
     }
-    if kind == type_numbers::OBJREF {
-        return Form::Composite(Layout::Objref);
-    }
-    if kind == type_numbers::STRUCT {
-        return Form::Composite(Layout::Struct);
-    }
-    if kind == type_numbers::UNION {
-        return Form::Composite(Layout::Union);
-    }
-    if kind == type_numbers::ENUM {
-        return Form::Composite(Layout::Enum);
-    }
-    if kind == type_numbers::STRING {
-        return Form::Bounded;
-    }
-    if kind == type_numbers::SEQUENCE {
-        return Form::Composite(Layout::Sequence);
-    }
-    if kind == type_numbers::ARRAY {
-        return Form::Composite(Layout::Array);
-    }
-    if kind == type_numbers::ALIAS {
-        return Form::Composite(Layout::Alias);
-    }
-    if kind == type_numbers::EXCEPTION {
-        return Form::Composite(Layout::Exception);
-    }
-    if kind == type_numbers::LONG_LONG {
-        return Form::Plain;
-    }
-    if kind == type_numbers::UNSIGNED_LONG_LONG {
-        return Form::Plain;
-    }
-    Form::Unlisted
-}
-
-// The index after something that is passed over, or that the octets end.
-#[derive(Clone, Copy)]
-pub enum Skip {
-    EndsAt(Index),
-    NoEnd,
-}
-
-// Where an offset leads: to a place, or to none that there can be.
-#[derive(Clone, Copy)]
-pub enum Lead {
-    LeadsTo(Place),
-    Outside,
 }
 
 // A kind that is written: its place, and the start and order of the encapsulation it stands in.
@@ -115,13 +75,6 @@ pub struct Kind {
 pub enum Inner {
     Here(Kind),
     There(Place),
-}
-
-// The type that stands at an index, and the index after it.
-#[derive(Clone, Copy)]
-pub enum Spot {
-    TypeAt { inner: Inner, next: Index },
-    NoType,
 }
 
 // The labels before a union's members, of a size, and below a limit of which 0 is none; a struct's members have none.
@@ -160,80 +113,73 @@ pub fn place_in(inner: Inner) -> Place
 }
 
 // The number at an index of the encapsulation that starts at a place.
-pub fn field_in(types: &[u8], start: Place, at: Index, size: Size, order: Order) -> Field
+#[tactic(auto, unfolding(crate::specs::Parts::field_in))]
+pub fn field_in(
+    types: &[u8],
+    start: Place,
+    at: Index,
+    size: Size,
+    order: Order,
+) -> Option<(u64, Index)>
     ensures { result ≡ field_in types.now start at size order }
 {
-    let b = start.0;
-    if types.len() < b {
-        return Field::NoField;
-    }
-    cdr_fields::read_field(&types[b..], at, size, order)
+    cdr_fields::read_field(types.get(start.0..)?, at, size, order)
 }
 
 // Where an offset leads that stands at a place.
-pub fn target_of(at: Place, offset: u64) -> Lead
+#[tactic(auto, unfolding(crate::specs::Parts::target_of))]
+pub fn target_of(at: Place, offset: u64) -> Option<Place>
     ensures { result ≡ target_of at offset }
 {
     let p = at.0;
     if offset < LONG_HALF {
-        return if p <= usize::MAX - offset as usize {
-            Lead::LeadsTo(Place(p + offset as usize))
-        } else {
-            Lead::Outside
-        };
+        p.checked_add(offset as usize).map(Place)
+    } else {
+        p.checked_sub(parts::back(offset)).map(Place)
     }
-    let back = parts::back(offset);
-    if p < back {
-        return Lead::Outside;
-    }
-    Lead::LeadsTo(Place(p - back))
 }
 
 // The type that stands at an index of the encapsulation that starts at a place, and the index after it.
-pub fn spot_at(types: &[u8], start: Place, at: Index, order: Order) -> Spot
+#[tactic(auto, unfolding(crate::specs::Parts::spot_at))]
+pub fn spot_at(types: &[u8], start: Place, at: Index, order: Order) -> Option<(Inner, Index)>
     ensures { result ≡ spot_at types.now start at order }
 {
-    let Field::Value { value: kind, next } = field_in(types, start, at, Size::Four, order) else {
-        return Spot::NoType;
-    };
+    let (kind, next) = field_in(types, start, at, Size::Four, order)?;
     if kind == type_numbers::INDIRECTION {
         return parts::aimed(types, start, next, order);
     }
-    match parts::skip_kind(form_of(kind), types, start, next, order) {
-        Skip::EndsAt(over) => Spot::TypeAt {
-            inner: Inner::Here(Kind {
-                place: parts::place_before(start, next),
-                start,
-                order,
-            }),
-            next: over,
-        },
-        Skip::NoEnd => Spot::NoType,
-    }
+    let over = parts::skip_kind(form_of(kind), types, start, next, order)?;
+    let place = parts::place_before(start, next);
+    let written = Kind {
+        place,
+        start,
+        order,
+    };
+    Some((Inner::Here(written), over))
 }
 
 // A member at an index, with a label before it or none: its type, and the index after it.
-pub fn member_at(labels: Labels, types: &[u8], start: Place, at: Index, order: Order) -> Spot
+#[tactic(auto, unfolding(crate::specs::Parts::member_at))]
+pub fn member_at(
+    labels: Labels,
+    types: &[u8],
+    start: Place,
+    at: Index,
+    order: Order,
+) -> Option<(Inner, Index)>
     ensures { result ≡ member_at labels types.now start at order }
 {
-    let Skip::EndsAt(name) = parts::lead_in(labels, types, start, at, order) else {
-        return Spot::NoType;
-    };
-    let Skip::EndsAt(i) = parts::skip_counted(types, start, name, order) else {
-        return Spot::NoType;
-    };
-    spot_at(types, start, i, order)
+    let name = parts::lead_in(labels, types, start, at, order)?;
+    let next = parts::skip_counted(types, start, name, order)?;
+    spot_at(types, start, next, order)
 }
 
 // The label at an index, 0 where members have no labels.
 pub fn label_at(labels: Labels, types: &[u8], start: Place, at: Index, order: Order) -> u64
     ensures { result ≡ label_at labels types.now start at order }
 {
-    let Labels::Of { size, limit: _ } = labels else {
+    let Labels::Of { size, .. } = labels else {
         return 0;
     };
-    match field_in(types, start, at, size, order) {
-        Field::Value { value, next: _ } => value,
-        Field::NoField => 0,
-    }
+    field_in(types, start, at, size, order).map_or(0, |(label, _)| label)
 }

@@ -2,6 +2,7 @@
 --   Returning      the octets have no fault, and some kind returns to itself in one or more steps
 --   AcceptedAs     an accepted type: its kinds, 1 to 64, are all good, and the first is the top; a type that is known is read as the kind of
 --                  its place; a step leads to a kind of the list; and each kind has a rank, at most the number of kinds, that falls at each step
+use Rattle.std.specs.Prelude.{Ok}
 use mathlib.Core.Path.{◌≡◌}
 use mathlib.Core.Bool.{true}
 use Prim.Native.Nat.{ℕ, ◌≤◌, ◌<◌}
@@ -11,7 +12,6 @@ use Rattle.cdr.specs.declared.Index.{Index}
 use Rattle.cdr.specs.declared.Order.{Order}
 use Rattle.type_kinds.specs.declared.Inner.{Inner}
 use Rattle.type_kinds.specs.declared.Kind.{Kind}
-use Rattle.type_counts.specs.declared.Step.TheVariants.{Next}
 use Rattle.type_loops.proofs.LoopDecided.{Returns}
 use Rattle.type_loops.proofs.RankFalls.{rank}
 use Rattle.type_walk.specs.Types.{walked_of}
@@ -23,7 +23,7 @@ use Rattle.type_laws.proofs.Sound.{Known, Good}
 
 pub record Returning (v : List ℕ) (order : Order) : Type 0 where
   pub end : Index
-  pub sound : (walked_of v order).step ≡ Next end
+  pub sound : (walked_of v order).step ≡ Ok end
   pub loop : Returns (length (walked_of v order).walk.kinds) (steps v (walked_of v order).walk.kinds)
 
 pub record AcceptedAs (v : List ℕ) (order : Order) (k : ℕ) (m : List Kind) : Type 0 where

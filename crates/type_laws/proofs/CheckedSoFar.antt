@@ -1,5 +1,6 @@
 -- What holds of a check that has gone on: of the list of kinds met, of a type, of members, of what follows a kind. It is carried through the
 -- check of a type.
+use Rattle.std.specs.Prelude.{Some}
 use mathlib.Core.Path.{◌≡◌, refl, sym, ◌∙◌}
 use mathlib.Core.List.{List, [], ◌∷◌, ◌++◌}
 use mathlib.Core.Bool.{Bool, false}
@@ -17,8 +18,6 @@ use Rattle.cdr.specs.declared.Order.{Order}
 use Rattle.type_kinds.specs.declared.Inner.{Inner}
 use Rattle.type_kinds.specs.declared.Form.{Form}
 use Rattle.type_kinds.specs.declared.Layout.{Layout}
-use Rattle.type_kinds.specs.declared.Skip.TheVariants.{EndsAt}
-use Rattle.type_kinds.specs.declared.Spot.TheVariants.{TypeAt}
 use Rattle.type_kinds.specs.declared.Labels.{Labels}
 use Rattle.type_kinds.specs.declared.Inert.{Inert}
 use Rattle.type_parameters.specs.declared.Parameters.{Parameters}
@@ -107,7 +106,7 @@ module _ (v : List ℕ) where
   pub record Well (m : List Kind) (b : Place) (order : Order) (i : Index) (i' : Index) (w' : Walk) : Type 0 where
     pub on : Goes m w'.kinds (b.0 + i'.0)
     pub type : Inner
-    pub read : spot_at v b i order ≡ TypeAt type i'
+    pub read : spot_at v b i order ≡ Some (type, i')
     pub known : Known w'.kinds type
     pub born : (j : ℕ) → length m ≤ j → j < length w'.kinds → Comes v w'.kinds (type ∷ []) j
     pub spans : Spans v w'.kinds (type ∷ []) (length m) (length w'.kinds)
@@ -143,7 +142,7 @@ module _ (v : List ℕ) where
   -- what follows a kind of a form
   pub record In (here : ℕ) (m : List Kind) (form : Form) (b : Place) (order : Order) (kind : ℕ) (i : Index) (i' : Index) (w' : Walk) : Type 0 where
     pub on : Goes m w'.kinds (b.0 + i'.0)
-    pub passes : skip_kind form v b i order ≡ EndsAt i'
+    pub passes : skip_kind form v b i order ≡ Some i'
     pub body : Body m w'.kinds (parameters_after form v b order kind i)
     pub tops : 0 < here → Tops w'
 

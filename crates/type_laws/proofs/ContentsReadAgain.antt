@@ -1,4 +1,5 @@
 -- What follows a kind is read again without a fault, where the types inside are.
+use Rattle.std.specs.Prelude.{Some, Result, Ok}
 use mathlib.Core.Path.{◌≡◌, refl, sym, ◌∙◌, ap, subst}
 use mathlib.Core.List.{List, [], ◌∷◌}
 use mathlib.Core.Bool.{false, cond}
@@ -13,14 +14,12 @@ use Rattle.cdr.specs.declared.Index.{Index}
 use Rattle.cdr.specs.declared.Place.{Place}
 use Rattle.cdr.specs.declared.Order.{Order}
 use Rattle.cdr.specs.declared.Size.TheVariants.{Four}
-use Rattle.cdr.specs.declared.Named.TheVariants.{Is}
 use Rattle.type_kinds.specs.declared.Inner.TheVariants.{Here}
 use Rattle.type_kinds.specs.declared.Form.{Form}
 use Rattle.type_kinds.specs.declared.Form.TheVariants.{Unlisted, Plain, Bounded, Composite}
 use Rattle.type_kinds.specs.declared.Layout.{Layout}
 use Rattle.type_kinds.specs.declared.Layout.TheVariants.{Objref as objref, Struct as struct, Union as union, Enum as enum, Sequence as sequence}
 use Rattle.type_kinds.specs.declared.Layout.TheVariants.{Array as array, Alias as alias, Exception as exception}
-use Rattle.type_kinds.specs.declared.Skip.TheVariants.{EndsAt}
 use Rattle.type_kinds.specs.declared.Labels.{Labels}
 use Rattle.type_kinds.specs.declared.Labels.TheVariants.{Of, NoLabels}
 use Rattle.type_kinds.specs.declared.Inert.TheVariants.{Leaf, Text, Objref, Enum}
@@ -28,10 +27,6 @@ use Rattle.type_parameters.specs.declared.Parameters.{Parameters}
 use Rattle.type_parameters.specs.declared.Parameters.TheVariants.{Struct, Exception, Union, Sequence, Array, Alias}
 use Rattle.type_kinds.specs.declared.Kind.{Kind}
 use Rattle.type_counts.specs.declared.Refusal.TheVariants.{BadEncapsulation}
-use Rattle.type_counts.specs.declared.Count.{Count}
-use Rattle.type_counts.specs.declared.Count.TheVariants.{Stands}
-use Rattle.type_counts.specs.declared.Step.TheVariants.{Next}
-use Rattle.type_fields.specs.declared.Switch.TheVariants.{Cases}
 use Rattle.cdr.specs.Align.{index_of}
 use Rattle.cdr.specs.Orders.{order_of}
 use Rattle.type_kinds.specs.Forms.{form_of}
@@ -58,6 +53,7 @@ use Rattle.type_laws.proofs.PartReadAgain.{exception-again, length-read, enum-ag
 use Rattle.type_laws.proofs.ByCases.{on-cond, on-step, on-count, on_switch, on-part, Gives, gives_then, gives-map}
 use Rattle.type_laws.proofs.CheckedSoFar.{Fits, Below, split, Goes, goes_none, goes_on, goes_over, Tops, tops-closed, Well, Run, Body, Par, In}
 use Rattle.type_laws.proofs.CheckedSoFar.{flat-body, typed-body, Checks}
+use Rattle.type_counts.specs.declared.Refusal.{Refusal}
 
 module _ (v : List ℕ) where
   module _ (go : Checker) (hold : Checks v go) where
@@ -103,20 +99,20 @@ module _ (v : List ℕ) where
         objrefs : Gives (Par v w.kinds objref b order) (contents_at v go objref s b order w)
         objrefs = on-step (Gives (Par v w.kinds objref b order)) (names_step s order) w (λ i. goes_on_at i w) (λ r e. tt) (λ i e. named i e)
           where
-            named : (i : Index) → names_step s order ≡ Next i → Par v w.kinds objref b order i w
+            named : (i : Index) → names_step s order ≡ Ok i → Par v w.kinds objref b order i w
             named i e = record { on = still i (names-again v s b h order i e).1; body = flat-body v w.kinds Objref tt; tops = t₀ }
 
         enums : Gives (Par v w.kinds enum b order) (contents_at v go enum s b order w)
         enums = on-step (Gives (Par v w.kinds enum b order)) (enum_step s order) w (λ i. goes_on_at i w) (λ r e. tt) (λ i e. named i e)
           where
-            named : (i : Index) → enum_step s order ≡ Next i → Par v w.kinds enum b order i w
+            named : (i : Index) → enum_step s order ≡ Ok i → Par v w.kinds enum b order i w
             named i e =
                 let a = enum-again v s b h order i e in
                 record { on = still i a.4; body = rw a.2 (flat-body v w.kinds (Enum a.0) a.3); tops = t₀ }
 
         -- members without labels behind id, name and count
-        counted : (layout : Layout) (step : Count)
-            → ((n : ℕ) (i : Index) → step ≡ Stands n i
+        counted : (layout : Layout) (step : Result (ℕ × Index) Refusal)
+            → ((n : ℕ) (i : Index) → step ≡ Ok (n, i)
             → (1 ≤ i.0) × ((i' : Index) (w' : Walk) → Run v w.kinds NoLabels b order n i i' w' → Body v w.kinds w'.kinds (parameters_in layout v b order)))
             → Gives (Par v w.kinds layout b order) (count_then step w (λ n i. members_at v go NoLabels no_default s b order i n 0 i w))
         counted layout step is =
@@ -153,7 +149,7 @@ module _ (v : List ℕ) where
             alias-body : (i i' : Index) (w' : Walk) (y : Well v w.kinds b order i i' w') → Body v w.kinds w'.kinds (Alias y.type)
             alias-body i i' w' y = typed-body v w.kinds w'.kinds (Alias y.type) (fitting w' i i' y) (one_known w'.kinds y.type y.known) refl y.born y.spans
 
-        sequenced : (w' : Walk) (i next : Index) → Well v w.kinds b order (index_of 1) i w' → number_step s i order ≡ Next next → Par v w.kinds sequence b order next w'
+        sequenced : (w' : Walk) (i next : Index) → Well v w.kinds b order (index_of 1) i w' → number_step s i order ≡ Ok next → Par v w.kinds sequence b order next w'
         unfolding element_in
         sequenced w' i next y e =
             let x = number_read v s b h order i next e in
@@ -174,7 +170,7 @@ module _ (v : List ℕ) where
             let w₁ = (go s b order (index_of 1) w).walk in
             on-step (Gives (Par v w.kinds sequence b order)) (number_step s i order) w₁ (λ next. goes_on_at next w₁) (λ r e. tt) (λ next e. sequenced w₁ i next y e))
 
-        repeated : (w' : Walk) (i next : Index) → Well v w.kinds b order (index_of 1) i w' → length_step s i order ≡ Next next → Par v w.kinds array b order next w'
+        repeated : (w' : Walk) (i next : Index) → Well v w.kinds b order (index_of 1) i w' → length_step s i order ≡ Ok next → Par v w.kinds array b order next w'
         unfolding element_in
         repeated w' i next y e =
             let x = length-read v s b h order i next e in
@@ -196,13 +192,13 @@ module _ (v : List ℕ) where
             on-step (Gives (Par v w.kinds array b order)) (length_step s i order) w₁ (λ next. goes_on_at next w₁) (λ r e. tt) (λ next e. repeated w₁ i next y e))
 
         -- a union behind its discriminant
-        module _ (i : Index) (names : names_in v b order ≡ EndsAt i) (w₁ : Walk) (j : Index) (y : Well v w.kinds b order i j w₁) where
+        module _ (i : Index) (names : names_in v b order ≡ Some i) (w₁ : Walk) (j : Index) (y : Well v w.kinds b order i j w₁) where
           labels-are : labels_at v w₁.kinds b i order ≡ labels_for v w₁.kinds (place_in y.type)
           unfolding labels_at
           labels-are = rw y.read
 
           module _ (labels : Labels) (q : labels_at v w₁.kinds b i order ≡ labels) (t : Labelled labels) (default n : ℕ) (next : Index)
-              (e : switch_step s j order ≡ Cases default n next) (i' : Index) (w' : Walk) (z : Run v w₁.kinds labels b order n next i' w') where
+              (e : switch_step s j order ≡ Ok (default, n, next)) (i' : Index) (w' : Walk) (z : Run v w₁.kinds labels b order n next i' w') where
             abbrev grown : Grows w₁.kinds w'.kinds
             grown = z.on.grows
 
@@ -298,7 +294,7 @@ module _ (v : List ℕ) where
       unfolding closed_at
       plain e = record { on = goes_none v w.kinds _ f l; passes = refl; body = flat-body v w.kinds (Leaf kind) e; tops = λ o. tops-closed v w here o t₀ }
 
-      bounded : (next : Index) → number_step s i order ≡ Next next → In v here w.kinds Bounded b order kind i next (closed_at w here)
+      bounded : (next : Index) → number_step s i order ≡ Ok next → In v here w.kinds Bounded b order kind i next (closed_at w here)
       unfolding closed_at skip_field
       bounded next e =
           let x = number_read v s b h order i next e in
@@ -316,11 +312,11 @@ module _ (v : List ℕ) where
         unfolding closed_at encapsulated
         ended i' w' z y =
             let a = field-again v s b h i Four order d.size d.from d.read in
-            let n : order_of (get_or v (b.0 + x) 0) ≡ Is o = ap order_of (sym (octet-again v s b h x (omega (arith, d.some, d.ends)))) ∙ d.named in
+            let n : order_of (get_or v (b.0 + x) 0) ≡ Some o = ap order_of (sym (octet-again v s b h x (omega (arith, d.some, d.ends)))) ∙ d.named in
             let k : index_of (d.from.0 + d.size) ≡ index_of e = ap index_of (omega (arith, d.start, d.size_is)) in
             record {
               on = goes_over v w.kinds w'.kinds _ _ (omega (arith, d.some)) y.on;
-              passes = counted-again v s b h i order d.size d.from d.read (omega (arith, d.start, d.size_is, d.ends)) ∙ ap EndsAt k;
+              passes = counted-again v s b h i order d.size d.from d.read (omega (arith, d.start, d.size_is, d.ends)) ∙ ap Some k;
               body = rw (a, d.start, lt-ltb (b.0 + x) (length v) (omega (arith, d.some, d.ends, h.long)), n) y.body;
               tops = λ o. tops-closed v w' here o y.tops;
             }

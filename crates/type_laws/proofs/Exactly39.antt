@@ -1,4 +1,5 @@
 -- 39 is given exactly when no octet is at fault and some kind returns to itself; and what an accepted type promises.
+use Rattle.std.specs.Prelude.{Result, Ok, Err}
 use mathlib.Core.Path.{◌≡◌, refl, sym, ◌∙◌, ap, subst}
 use mathlib.Core.List.{List, [], ◌∷◌}
 use mathlib.Core.Bool.{Bool, true, false, ◌||◌, false≢true}
@@ -9,6 +10,7 @@ use lib.ListN.{length}
 use Rattle.choices.specs.Branch.{choose}
 use Rattle.choices.specs.Lists.{any_of, All}
 use Rattle.choices.proofs.Choices.{by-test, clash}
+use Rattle.choices.proofs.Tuples.{ok-pair}
 use Rattle.cdr.specs.declared.Index.{Index}
 use Rattle.cdr.specs.declared.Order.{Order}
 use Rattle.type_kinds.specs.declared.Inner.{Inner}
@@ -16,9 +18,6 @@ use Rattle.type_parameters.specs.declared.Parameters.{Parameters}
 use Rattle.type_parameters.specs.declared.Parameters.TheVariants.{Fault, Flat, Struct, Exception, Union, Sequence, Array, Alias}
 use Rattle.type_kinds.specs.declared.Kind.{Kind}
 use Rattle.type_counts.specs.declared.Refusal.TheVariants.{TooLong}
-use Rattle.type_counts.specs.declared.Step.{Step}
-use Rattle.type_counts.specs.declared.Step.TheVariants.{Refused as refused, Next}
-use Rattle.typecode.specs.declared.TypeAnswer.TheVariants.{Accepted, Refused, Loop}
 use Rattle.cdr.specs.Align.{index_of}
 use Rattle.type_kinds.specs.Parts.{place_of, place_in}
 use Rattle.type_loops.specs.Loops.{loop_found}
@@ -36,6 +35,8 @@ use Rattle.type_laws.proofs.AcceptedAs.{Returning, AcceptedAs}
 use Rattle.type_laws.proofs.InnerKnown.{Complete}
 use Rattle.type_laws.proofs.ReadAgain.{complete}
 use Rattle.type_laws.proofs.PlaceFound.{known-low, known-seen}
+use Rattle.type_counts.specs.declared.Refusal.{Refusal}
+use Rattle.typecode.specs.declared.NoType.TheVariants.{Loop, Refused}
 
 -- ---- a step leads to a kind of the list
 
@@ -74,7 +75,7 @@ module _ (v : List ℕ) (order : Order) where
   abbrev m : List Kind
   m = (walked_of v order).walk.kinds
 
-  walked-long : 16384 < length v → (walked_of v order).step ≡ refused TooLong
+  walked-long : 16384 < length v → (walked_of v order).step ≡ Err TooLong
   unfolding walked_of choose
   walked-long h = rw (lt-ltb 16384 (length v) h)
 
@@ -82,11 +83,11 @@ module _ (v : List ℕ) (order : Order) where
   unfolding walked_of choose
   walked-short h = rw (le-ltb 16384 (length v) h)
 
-  module _ (i : Index) (e : (walked_of v order).step ≡ Next i) where
+  module _ (i : Index) (e : (walked_of v order).step ≡ Ok i) where
     pub short : length v ≤ 16384
     short =
         by-test (ltb 16384 (length v))
-        (λ t. let q : refused TooLong ≡ Next i = sym (walked-long (ltb-true 16384 (length v) t)) ∙ e in clash cc)
+        (λ t. let q : Err TooLong ≡ Ok i = sym (walked-long (ltb-true 16384 (length v) t)) ∙ e in clash cc)
         (λ t. ltb-false 16384 (length v) t)
 
     completes : (w : Walk) → w ≡ nothing_met → walked_of v order ≡ type_at v nesting_limit v (place_of 0) order (index_of 0) w → Complete v order m
@@ -103,7 +104,7 @@ module _ (v : List ℕ) (order : Order) where
     decided : (loop_found (length m) (steps v m) ≡ true → Returns (length m) (steps v m)) × (Returns (length m) (steps v m) → loop_found (length m) (steps v m) ≡ true)
     decided = loop-decided (length m) (steps v m) (λ x y l q. step-low v order m walked-complete x y l q)
 
-    pub loops : loop_found (length m) (steps v m) ≡ true → checked_type v order ≡ without_type Loop
+    pub loops : loop_found (length m) (steps v m) ≡ true → checked_type v order ≡ without_type (Err Loop)
     unfolding loop_last choose
     loops t = last ∙ rw t
 
@@ -112,22 +113,22 @@ module _ (v : List ℕ) (order : Order) where
     passes t = last ∙ rw t
 
   -- 39 exactly when no octet is at fault and some kind returns to itself
-  returning-39 : Returning v order → (checked_type v order).answer ≡ Loop
+  returning-39 : Returning v order → (checked_type v order).answer ≡ Err Loop
   returning-39 r = ap (λ (c : CheckedType). c.answer) (loops r.end r.sound ((decided r.end r.sound).1 r.loop))
 
-  only-returning : (t : Step) → (walked_of v order).step ≡ t → (checked_type v order).answer ≡ Loop → Returning v order
+  only-returning : (t : Result Index Refusal) → (walked_of v order).step ≡ t → (checked_type v order).answer ≡ Err Loop → Returning v order
   unfolding checked_type
-  only-returning (refused n) e q = let z : Refused n ≡ Loop = rw e at q in clash cc
-  only-returning (Next i) e q =
+  only-returning (Err n) e q = let z : Err (Refused n) ≡ Err Loop = rw e at q in clash cc
+  only-returning (Ok i) e q =
       by-test (loop_found (length m) (steps v m)) (λ t. record { end = i; sound = e; loop = (decided i e).0 t })
-      (λ t. let z : Accepted i.0 (length m) ≡ Loop = sym (ap (λ (c : CheckedType). c.answer) (passes i e t)) ∙ q in clash cc)
+      (λ t. let z : Ok (i.0, length m) ≡ Err Loop = sym (ap (λ (c : CheckedType). c.answer) (passes i e t)) ∙ q in clash cc)
 
-  pub exactly-39 : ((checked_type v order).answer ≡ Loop → Returning v order) × (Returning v order → (checked_type v order).answer ≡ Loop)
+  pub exactly-39 : ((checked_type v order).answer ≡ Err Loop → Returning v order) × (Returning v order → (checked_type v order).answer ≡ Err Loop)
   exactly-39 = (only-returning (walked_of v order).step refl, returning-39)
 
   -- ---- what an accepted type promises
 
-  promises : (i : Index) → (walked_of v order).step ≡ Next i → loop_found (length m) (steps v m) ≡ false → AcceptedAs v order (length m) m
+  promises : (i : Index) → (walked_of v order).step ≡ Ok i → loop_found (length m) (steps v m) ≡ false → AcceptedAs v order (length m) m
   promises i e t =
       record {
         kinds = refl;
@@ -148,18 +149,18 @@ module _ (v : List ℕ) (order : Order) where
       low : (x y : ℕ) → x < length m → steps v m x y ≡ true → y < length m
       low x y l q = step-low v order m c x y l q
 
-  accepted-by : (used k : ℕ) (t : Step) → (walked_of v order).step ≡ t → (checked_type v order).answer ≡ Accepted used k → AcceptedAs v order k (checked_type v order).kinds
+  accepted-by : (used k : ℕ) (t : Result Index Refusal) → (walked_of v order).step ≡ t → (checked_type v order).answer ≡ Ok (used, k) → AcceptedAs v order k (checked_type v order).kinds
   unfolding checked_type
-  accepted-by used k (refused n) e q = let z : Refused n ≡ Accepted used k = rw e at q in clash cc
-  accepted-by used k (Next i) e q =
+  accepted-by used k (Err n) e q = let z : Err (Refused n) ≡ Ok (used, k) = rw e at q in clash cc
+  accepted-by used k (Ok i) e q =
       by-test (loop_found (length m) (steps v m))
-      (λ t. let z : Loop ≡ Accepted used k = sym (ap (λ (c : CheckedType). c.answer) (loops i e t)) ∙ q in clash cc)
+      (λ t. let z : Err Loop ≡ Ok (used, k) = sym (ap (λ (c : CheckedType). c.answer) (loops i e t)) ∙ q in clash cc)
       (λ t.
       let p = passes i e t in
-      let z : Accepted i.0 (length m) ≡ Accepted used k = sym (ap (λ (c : CheckedType). c.answer) p) ∙ q in
-      let n : length m ≡ k = cc in
+      let z : Ok (i.0, length m) ≡ Ok (used, k) = sym (ap (λ (c : CheckedType). c.answer) p) ∙ q in
+      let n : length m ≡ k = (ok-pair z).1 in
       subst (λ (x : ℕ). AcceptedAs v order x (checked_type v order).kinds) n (subst (AcceptedAs v order (length m)) (sym (ap (λ (c : CheckedType). c.kinds) p)) (promises i e t)))
 
   -- in an accepted type every kind's parameters are read again without a fault and lead to kinds of its list, and ranks fall
-  pub accepted-as : (used k : ℕ) → (checked_type v order).answer ≡ Accepted used k → AcceptedAs v order k (checked_type v order).kinds
+  pub accepted-as : (used k : ℕ) → (checked_type v order).answer ≡ Ok (used, k) → AcceptedAs v order k (checked_type v order).kinds
   accepted-as used k q = accepted-by used k (walked_of v order).step refl q

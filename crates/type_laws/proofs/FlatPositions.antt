@@ -1,4 +1,5 @@
 -- The flat list of a type without a fault: where the first kind inside a kind stands, and where the next one beside it.
+use Rattle.std.specs.Prelude.{Ok}
 use mathlib.Core.Path.{◌≡◌, refl, sym, ◌∙◌, ap, subst}
 use mathlib.Core.Logic.{◌↔◌}
 use mathlib.Core.List.{List, [], ◌∷◌}
@@ -21,7 +22,6 @@ use Rattle.type_kinds.specs.declared.Labels.{Labels}
 use Rattle.type_parameters.specs.declared.Parameters.{Parameters}
 use Rattle.type_parameters.specs.declared.Parameters.TheVariants.{Fault, Flat as flat, Struct, Exception, Union, Sequence, Array, Alias}
 use Rattle.type_kinds.specs.declared.Kind.{Kind}
-use Rattle.type_counts.specs.declared.Step.TheVariants.{Next}
 use Rattle.cdr.specs.Align.{index_of}
 use Rattle.type_kinds.specs.Parts.{place_of, place_in}
 use Rattle.type_kinds.specs.Members.{members_of, types_of}
@@ -239,7 +239,7 @@ module _ (v : List ℕ) (order : Order) (m : List Kind) (c : Complete v order m)
 -- ---- octets without a fault
 
 module _ (v : List ℕ) (order : Order) where
-  spans-by : (i : Index) → (walked_of v order).step ≡ Next i → (w : Walk) → w ≡ nothing_met
+  spans-by : (i : Index) → (walked_of v order).step ≡ Ok i → (w : Walk) → w ≡ nothing_met
       → walked_of v order ≡ type_at v nesting_limit v (place_of 0) order (index_of 0) w → Span v (walked_of v order).walk.kinds 0 (length (walked_of v order).walk.kinds)
   spans-by i e w z q =
       subst (λ (c : Walked). Span v c.walk.kinds 0 (length c.walk.kinds)) (sym q) (spanned v order w z i (sym (ap (λ (c : Walked). c.step) q) ∙ e))

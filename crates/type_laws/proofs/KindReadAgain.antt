@@ -1,4 +1,5 @@
 -- A type by its kind: an indirection, or a kind that is met, whose parameters are read again without a fault.
+use Rattle.std.specs.Prelude.{Option, Some, None}
 use mathlib.Core.Path.{◌≡◌, refl, sym, ◌∙◌, ap, subst}
 use mathlib.Core.List.{List, [], ◌∷◌, ◌++◌}
 use mathlib.Core.Bool.{true, false, cond}
@@ -15,10 +16,7 @@ use Rattle.cdr.specs.declared.Index.{Index}
 use Rattle.cdr.specs.declared.Place.{Place}
 use Rattle.cdr.specs.declared.Order.{Order}
 use Rattle.cdr.specs.declared.Size.TheVariants.{Four}
-use Rattle.cdr_fields.specs.declared.Field.TheVariants.{Value}
 use Rattle.type_kinds.specs.declared.Inner.TheVariants.{Here, There}
-use Rattle.type_kinds.specs.declared.Lead.{Lead}
-use Rattle.type_kinds.specs.declared.Lead.TheVariants.{LeadsTo, Outside}
 use Rattle.type_parameters.specs.declared.Parameters.{Parameters}
 use Rattle.type_kinds.specs.declared.Kind.{Kind}
 use Rattle.type_counts.specs.declared.Refusal.TheVariants.{Ends, BadTarget}
@@ -46,12 +44,12 @@ use Rattle.type_laws.proofs.CheckedSoFar.{Fits, Below, split, bar-before, bar-la
 
 module _ (v : List ℕ) where
   module _ (s : List ℕ) (b : Place) (order : Order) (i : Index) (w : Walk) (h : Lies v s b.0) (f : Fits w.kinds) (l : Below w.kinds (b.0 + i.0)) (t₀ : Tops v w) where
-    module _ (kind : ℕ) (next : Index) (r : field_of s i Four order ≡ Value kind next) where
+    module _ (kind : ℕ) (next : Index) (r : field_of s i Four order ≡ Some (kind, next)) where
       abbrev over : (i.0 + 4 ≤ next.0) × (next.0 ≤ length s)
       over = field-over v s b h i Four order kind next r
 
       -- an indirection to the place p
-      target : kind ≡ indirection_kind → (x : ℕ) (j : Index) → field_of s next Four order ≡ Value x j → (p : Place) → target_of (place_before b j) x ≡ LeadsTo p
+      target : kind ≡ indirection_kind → (x : ℕ) (j : Index) → field_of s next Four order ≡ Some (x, j) → (p : Place) → target_of (place_before b j) x ≡ Some p
           → Gives (Well v w.kinds b order i) (target_step w p j)
       unfolding target_step spot_at aimed inside_of
       target k x j q p t =
@@ -83,10 +81,10 @@ module _ (v : List ℕ) where
                 new = λ n. absurd (omega arith);
               }
 
-      target-by : kind ≡ indirection_kind → (x : ℕ) (j : Index) → field_of s next Four order ≡ Value x j → (t : Lead) → target_of (place_before b j) x ≡ t
+      target-by : kind ≡ indirection_kind → (x : ℕ) (j : Index) → field_of s next Four order ≡ Some (x, j) → (t : Option Place) → target_of (place_before b j) x ≡ t
           → Gives (Well v w.kinds b order i) (aimed_step t w j)
-      target-by k x j q (LeadsTo p) t = target k x j q p t
-      target-by k x j q Outside t = tt
+      target-by k x j q (Some p) t = target k x j q p t
+      target-by k x j q None t = tt
 
       pub indirection : kind ≡ indirection_kind → Gives (Well v w.kinds b order i) (indirection_at s b order next w)
       unfolding indirection_at
@@ -131,7 +129,7 @@ module _ (v : List ℕ) where
             omega (arith, over.0))
 
         -- the number is read again at its own place
-        there : field_in v b (index_of (here.0 - b.0)) Four order ≡ Value kind next
+        there : field_in v b (index_of (here.0 - b.0)) Four order ≡ Some (kind, next)
         there =
             let z : index_of (here.0 - b.0) ≡ index_of (next.0 - 4) = ap index_of (omega (arith, over.0)) in
             ap (λ (x : Index). field_in v b x Four order) z ∙ field-again v s b h (index_of (next.0 - 4)) Four order kind next (field-there s i order kind next r)

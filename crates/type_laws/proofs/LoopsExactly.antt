@@ -1,5 +1,6 @@
 -- The steps between positions of the list are 01's steps between kinds written, so 39 is given exactly when no octet is at fault and some
 -- kind written returns to itself.
+use Rattle.std.specs.Prelude.{Result, Ok, Err}
 use mathlib.Core.Path.{◌≡◌, refl, sym, ◌∙◌, ap, subst}
 use mathlib.Core.Logic.{◌↔◌}
 use mathlib.Core.List.{List, [], ◌∷◌}
@@ -10,6 +11,7 @@ use borrow.Author.Tests.{eq-eqb, eqb-true}
 use Rattle.choices.specs.Lists.{any_of, Among}
 use Rattle.choices.specs.Lists.Among.{first, later}
 use Rattle.choices.proofs.Choices.{by-test, clash}
+use Rattle.choices.proofs.Tuples.{ok-pair}
 use Rattle.cdr.specs.declared.Index.{Index}
 use Rattle.cdr.specs.declared.Order.{Order}
 use Rattle.type_kinds.specs.declared.Inner.{Inner}
@@ -20,9 +22,6 @@ use Rattle.type_parameters.specs.declared.Parameters.{Parameters}
 use Rattle.type_parameters.specs.declared.Parameters.TheVariants.{Fault, Flat, Struct, Exception, Union, Sequence, Array, Alias}
 use Rattle.type_kinds.specs.declared.Kind.{Kind}
 use Rattle.type_counts.specs.declared.Refusal.{Refusal}
-use Rattle.type_counts.specs.declared.Step.{Step}
-use Rattle.type_counts.specs.declared.Step.TheVariants.{Refused as refused, Next}
-use Rattle.typecode.specs.declared.TypeAnswer.TheVariants.{Accepted, Refused, Loop}
 use Rattle.type_kinds.specs.Parts.{place_in}
 use Rattle.type_kinds.specs.Members.{members_of, types_of}
 use Rattle.type_parameters.specs.Parameters.{parameters_at}
@@ -47,6 +46,7 @@ use Rattle.type_laws.proofs.InnerKnown.{Closed, Switched, Complete}
 use Rattle.type_laws.proofs.PlaceFound.{find-own, position-once, found-place}
 use Rattle.type_laws.proofs.KindsListed.{single, same-union, closed_at, resolves, written_entry, tells-said, inside-known, tells-by, all-written, listed}
 use Rattle.type_laws.proofs.Exactly39.{walked-complete, loops, passes, exactly-39}
+use Rattle.typecode.specs.declared.NoType.TheVariants.{Loop, Refused}
 
 -- ---- some entry of a list
 
@@ -205,15 +205,15 @@ module _ (v : List ℕ) (order : Order) where
   met = (walked_of v order).walk.kinds
 
   -- no refusal applies exactly where the walk over the octets comes to an end
-  ended : (t : Step) → (walked_of v order).step ≡ t → NoFault v order → (end : Index) × ((walked_of v order).step ≡ Next end)
-  ended (refused r) e h = absurd (h r e)
-  ended (Next i) e h = (i, e)
+  ended : (t : Result Index Refusal) → (walked_of v order).step ≡ t → NoFault v order → (end : Index) × ((walked_of v order).step ≡ Ok end)
+  ended (Err r) e h = absurd (h r e)
+  ended (Ok i) e h = (i, e)
 
-  pub no-fault-ends : NoFault v order → (end : Index) × ((walked_of v order).step ≡ Next end)
+  pub no-fault-ends : NoFault v order → (end : Index) × ((walked_of v order).step ≡ Ok end)
   no-fault-ends h = ended (walked_of v order).step refl h
 
-  pub ends-no-fault : (end : Index) → (walked_of v order).step ≡ Next end → NoFault v order
-  ends-no-fault i e r q = let z : refused r ≡ Next i = sym q ∙ e in clash cc
+  pub ends-no-fault : (end : Index) → (walked_of v order).step ≡ Ok end → NoFault v order
+  ends-no-fault i e r q = let z : Err r ≡ Ok i = sym q ∙ e in clash cc
 
   pub fault-complete : NoFault v order → Complete v order met
   fault-complete h = let e = no-fault-ends h in walked-complete v order e.0 e.1
@@ -227,7 +227,7 @@ module _ (v : List ℕ) (order : Order) where
   met-count h = record { kinds = met; listed = met-listed h; many = refl }
 
   -- 39 exactly when no other type refusal applies and some kind written returns to itself
-  pub loops-exactly : ((checked_type v order).answer ≡ Loop) ↔ (NoFault v order × Loops v order)
+  pub loops-exactly : ((checked_type v order).answer ≡ Err Loop) ↔ (NoFault v order × Loops v order)
   loops-exactly = (
     (λ q. let r = (exactly-39 v order).0 q in
         let h = ends-no-fault r.end r.sound in
@@ -237,29 +237,28 @@ module _ (v : List ℕ) (order : Order) where
   )
 
   -- and every other refusal exactly when it is the first fault
-  refuses-by : (r : Refusal) (t : Step) → (walked_of v order).step ≡ t → (checked_type v order).answer ≡ Refused r → FirstFault v order r
+  refuses-by : (r : Refusal) (t : Result Index Refusal) → (walked_of v order).step ≡ t → (checked_type v order).answer ≡ Err (Refused r) → FirstFault v order r
   unfolding checked_type
-  refuses-by r (refused n) e q = let z : Refused n ≡ Refused r = rw e at q in let y : n ≡ r = cc in e ∙ ap refused y
-  refuses-by r (Next i) e q =
+  refuses-by r (Err n) e q = let z : Err (Refused n) ≡ Err (Refused r) = rw e at q in let y : n ≡ r = cc in e ∙ ap Err y
+  refuses-by r (Ok i) e q =
       by-test (loop_found (length met) (steps v met))
-      (λ t. let z : Loop ≡ Refused r = sym (ap (λ (c : CheckedType). c.answer) (loops v order i e t)) ∙ q in clash cc)
-      (λ t. let z : Accepted i.0 (length met) ≡ Refused r = sym (ap (λ (c : CheckedType). c.answer) (passes v order i e t)) ∙ q in clash cc)
+      (λ t. let z : Err Loop ≡ Err (Refused r) = sym (ap (λ (c : CheckedType). c.answer) (loops v order i e t)) ∙ q in clash cc)
+      (λ t. let z : Ok (i.0, length met) ≡ Err (Refused r) = sym (ap (λ (c : CheckedType). c.answer) (passes v order i e t)) ∙ q in clash cc)
 
-  pub refuses-exactly : (r : Refusal) → ((checked_type v order).answer ≡ Refused r) ↔ FirstFault v order r
+  pub refuses-exactly : (r : Refusal) → ((checked_type v order).answer ≡ Err (Refused r)) ↔ FirstFault v order r
   unfolding checked_type
   refuses-exactly r = (refuses-by r (walked_of v order).step refl, (λ e. rw e))
 
   -- an accepted type's k is the number of kinds written
-  accepted-by : (used k : ℕ) (t : Step) → (walked_of v order).step ≡ t → (checked_type v order).answer ≡ Accepted used k → KindCount v order k
+  accepted-by : (used k : ℕ) (t : Result Index Refusal) → (walked_of v order).step ≡ t → (checked_type v order).answer ≡ Ok (used, k) → KindCount v order k
   unfolding checked_type
-  accepted-by used k (refused n) e q = let z : Refused n ≡ Accepted used k = rw e at q in clash cc
-  accepted-by used k (Next i) e q =
+  accepted-by used k (Err n) e q = let z : Err (Refused n) ≡ Ok (used, k) = rw e at q in clash cc
+  accepted-by used k (Ok i) e q =
       by-test (loop_found (length met) (steps v met))
-      (λ t. let z : Loop ≡ Accepted used k = sym (ap (λ (c : CheckedType). c.answer) (loops v order i e t)) ∙ q in clash cc)
+      (λ t. let z : Err Loop ≡ Ok (used, k) = sym (ap (λ (c : CheckedType). c.answer) (loops v order i e t)) ∙ q in clash cc)
       (λ t.
-      let z : Accepted i.0 (length met) ≡ Accepted used k = sym (ap (λ (c : CheckedType). c.answer) (passes v order i e t)) ∙ q in
-      let n : length met ≡ k = cc in
-      subst (KindCount v order) n (met-count (ends-no-fault i e)))
+      let z : Ok (i.0, length met) ≡ Ok (used, k) = sym (ap (λ (c : CheckedType). c.answer) (passes v order i e t)) ∙ q in
+      subst (KindCount v order) (ok-pair z).1 (met-count (ends-no-fault i e)))
 
-  pub accepted-count : (used k : ℕ) → (checked_type v order).answer ≡ Accepted used k → KindCount v order k
+  pub accepted-count : (used k : ℕ) → (checked_type v order).answer ≡ Ok (used, k) → KindCount v order k
   accepted-count used k q = accepted-by used k (walked_of v order).step refl q

@@ -1,4 +1,5 @@
 -- Parameters that may stand below the top: of every kind but null, void and an exception.
+use Rattle.std.specs.Prelude.{Option, Some, None}
 use mathlib.Core.Path.{◌≡◌, refl, ◌∙◌, ap, subst}
 use mathlib.Core.List.{List}
 use mathlib.Core.Bool.{false, true≢false}
@@ -11,17 +12,11 @@ use Rattle.cdr.specs.declared.Index.{Index}
 use Rattle.cdr.specs.declared.Place.{Place}
 use Rattle.cdr.specs.declared.Order.{Order}
 use Rattle.cdr.specs.declared.Size.TheVariants.{Four}
-use Rattle.cdr.specs.declared.Named.{Named}
-use Rattle.cdr.specs.declared.Named.TheVariants.{Is, NoOrder}
 use Rattle.type_kinds.specs.declared.Form.{Form}
 use Rattle.type_kinds.specs.declared.Form.TheVariants.{Unlisted, Plain, Bounded, Composite}
 use Rattle.type_kinds.specs.declared.Layout.{Layout}
 use Rattle.type_kinds.specs.declared.Layout.TheVariants.{Objref as objref, Struct as struct, Union as union, Enum as enum, Sequence as sequence, Array as array, Alias as alias, Exception as exception}
 use Rattle.type_kinds.specs.declared.Inner.{Inner}
-use Rattle.type_kinds.specs.declared.Spot.{Spot}
-use Rattle.type_kinds.specs.declared.Spot.TheVariants.{TypeAt, NoType}
-use Rattle.type_parameters.specs.declared.Element.{Element}
-use Rattle.type_parameters.specs.declared.Element.TheVariants.{Holds, NoElement}
 use Rattle.type_parameters.specs.declared.Parameters.{Parameters}
 use Rattle.type_parameters.specs.declared.Parameters.TheVariants.{Fault}
 use Rattle.cdr.specs.Orders.{order_of}
@@ -51,13 +46,13 @@ form-exception kind e =
     (λ c. let q : Unlisted ≡ Composite exception = rw (a₁, a₂, a₃, a₄, a₅, a₆, a₇, a₈, a₉, a₀, b, c) at e in clash cc))))))))))))
 
 module _ (v : List ℕ) where
-  on-spot : (Q : Parameters → Type 0) (x : Spot) (a : Parameters) (f : Inner → Index → Parameters) → Q a → ((p : Inner) (i : Index) → Q (f p i)) → Q (on_spot x a f)
-  on-spot Q (TypeAt p i) a f g h = h p i
-  on-spot Q NoType a f g h = g
+  on-spot : (Q : Parameters → Type 0) (x : Option (Inner × Index)) (a : Parameters) (f : Inner → Index → Parameters) → Q a → ((p : Inner) (i : Index) → Q (f p i)) → Q (on_spot x a f)
+  on-spot Q (Some (p, i)) a f g h = h p i
+  on-spot Q None a f g h = g
 
-  on-element : (x : Element) (f : Inner → ℕ → Parameters) → ((p : Inner) (n : ℕ) → NotTop (f p n)) → NotTop (on_element x f)
-  on-element (Holds p n) f h = h p n
-  on-element NoElement f h = tt
+  on-element : (x : Option (Inner × ℕ)) (f : Inner → ℕ → Parameters) → ((p : Inner) (n : ℕ) → NotTop (f p n)) → NotTop (on_element x f)
+  on-element (Some (p, n)) f h = h p n
+  on-element None f h = tt
 
   in-not-top : (layout : Layout) (b : Place) (order : Order) → (layout ≡ exception → ⊥) → NotTop (parameters_in layout v b order)
   unfolding union_in
@@ -72,9 +67,9 @@ module _ (v : List ℕ) where
   in-not-top sequence b order e = on-element (element_in v b order) _ (λ p n. tt)
   in-not-top array b order e = on-element (element_in v b order) _ (λ p n. tt)
 
-  order-not-top : (x : Named) (f : Order → Parameters) → ((o : Order) → NotTop (f o)) → NotTop (on_named x f)
-  order-not-top (Is o) f h = h o
-  order-not-top NoOrder f h = tt
+  order-not-top : (x : Option Order) (f : Order → Parameters) → ((o : Order) → NotTop (f o)) → NotTop (on_named x f)
+  order-not-top (Some o) f h = h o
+  order-not-top None f h = tt
 
   encapsulated-not-top : (layout : Layout) (b : Place) → (layout ≡ exception → ⊥) → NotTop (encapsulated layout v b)
   unfolding encapsulated

@@ -1,4 +1,5 @@
 -- The octets of an encapsulation lie in the octets of the whole: what was read in them is read again by place.
+use Rattle.std.specs.Prelude.{Option, Some, None, Result, Ok, Err}
 use mathlib.Core.Path.{◌≡◌, refl, sym, ◌∙◌, ap, subst}
 use mathlib.Core.List.{List, [], ◌∷◌}
 use mathlib.Core.Bool.{false}
@@ -9,24 +10,15 @@ use lib.Dec.{eqb}
 use lib.ListN.{length, get_or, take, drop, length-drop}
 use lib.Seq.{take-length, take-take, drop-drop, get_or-take, get_or-drop, length-take-le}
 use Rattle.choices.proofs.Choices.{by-test, clash}
+use Rattle.choices.proofs.Tuples.{ok-pair, ok-triple}
 use Rattle.cdr.specs.declared.Index.{Index}
 use Rattle.cdr.specs.declared.Place.{Place}
 use Rattle.cdr.specs.declared.Order.{Order}
 use Rattle.cdr.specs.declared.Size.{Size}
 use Rattle.cdr.specs.declared.Size.TheVariants.{Four}
-use Rattle.cdr_fields.specs.declared.Field.{Field}
-use Rattle.cdr_fields.specs.declared.Field.TheVariants.{Value, NoField}
-use Rattle.cdr_fields.specs.declared.Str.{Str}
-use Rattle.cdr_fields.specs.declared.Str.TheVariants.{Characters, BadText, NoText}
-use Rattle.type_kinds.specs.declared.Skip.TheVariants.{EndsAt}
 use Rattle.type_kinds.specs.declared.Labels.{Labels}
 use Rattle.type_kinds.specs.declared.Labels.TheVariants.{Of, NoLabels}
 use Rattle.type_counts.specs.declared.Refusal.TheVariants.{Ends, BadUnion, NoCount}
-use Rattle.type_counts.specs.declared.Step.{Step}
-use Rattle.type_counts.specs.declared.Step.TheVariants.{Refused, Next}
-use Rattle.type_fields.specs.declared.Switch.TheVariants.{NoSwitch, Cases}
-use Rattle.type_counts.specs.declared.Count.{Count}
-use Rattle.type_counts.specs.declared.Count.TheVariants.{Wrong, Stands}
 use Rattle.cdr.specs.Align.{octets, behind_gap, index_of}
 use Rattle.cdr.specs.Number.{number_at, number_of}
 use Rattle.cdr_text.proofs.TextEnds.{run-to}
@@ -40,10 +32,13 @@ use Rattle.type_counts.specs.Counts.{step_from, text_step, then_step, names_step
 use Rattle.type_fields.specs.Fields.{bad_default, switch_from, switch_step, label_before, label_step}
 use Rattle.cdr_fields.proofs.FieldsWithin.{string-facts}
 use Rattle.type_walk.specs.Types.{name_step}
+use Rattle.cdr_fields.specs.declared.StringFault.TheVariants.{BadText, NoText}
+use Rattle.cdr_fields.specs.declared.StringFault.{StringFault}
+use Rattle.type_counts.specs.declared.Refusal.{Refusal}
 
 -- the same number is read at its own place
-pub field-there : (s : List ℕ) (i : Index) (order : Order) (x : ℕ) (j : Index) → field_of s i Four order ≡ Value x j
-    → field_of s (index_of (j.0 - 4)) Four order ≡ Value x j
+pub field-there : (s : List ℕ) (i : Index) (order : Order) (x : ℕ) (j : Index) → field_of s i Four order ≡ Some (x, j)
+    → field_of s (index_of (j.0 - 4)) Four order ≡ Some (x, j)
 field-there s i order x j e =
     let f = field-facts s i Four order x j e in
     let p = behind_gap start i.0 4 in
@@ -91,8 +86,8 @@ module _ (v s : List ℕ) (b : Place) (h : Lies v s b.0) where
   number-again p n order l =
       ap (λ (y : List ℕ). number_of order (take n (drop p y))) h.same ∙ ap (number_of order) (window (drop b.0 v) (length s) p n l)
 
-  module _ (i : Index) (size : Size) (order : Order) (x : ℕ) (j : Index) (e : field_of s i size order ≡ Value x j) where
-    field-whole : field_of (drop b.0 v) i size order ≡ Value x j
+  module _ (i : Index) (size : Size) (order : Order) (x : ℕ) (j : Index) (e : field_of s i size order ≡ Some (x, j)) where
+    field-whole : field_of (drop b.0 v) i size order ≡ Some (x, j)
     field-whole =
         let f = field-facts s i size order x j e in
         let p = behind_gap start i.0 (octets size) in
@@ -103,7 +98,7 @@ module _ (v s : List ℕ) (b : Place) (h : Lies v s b.0) where
         let z : index_of (p + octets size) ≡ j = ap index_of (sym f.ends) in
         n ∙ rw (y, z)
 
-    pub field-again : field_in v b i size order ≡ Value x j
+    pub field-again : field_in v b i size order ≡ Some (x, j)
     unfolding field_in
     field-again = field-whole
 
@@ -112,183 +107,180 @@ module _ (v s : List ℕ) (b : Place) (h : Lies v s b.0) where
 
   -- counted octets are passed over
   module _ (i : Index) (order : Order) where
-    pub counted-again : (n : ℕ) (from : Index) → field_of s i Four order ≡ Value n from → from.0 + n ≤ length s
-        → skip_counted v b i order ≡ EndsAt (index_of (from.0 + n))
+    pub counted-again : (n : ℕ) (from : Index) → field_of s i Four order ≡ Some (n, from) → from.0 + n ≤ length s
+        → skip_counted v b i order ≡ Some (index_of (from.0 + n))
     unfolding skip_counted
     counted-again n from e l =
         let t = run-to (drop b.0 v) from.0 n (omega (arith, h.long, length-drop b.0 v, (field-over i Four order n from e).0)) in
         ap skip_octets (counted_is (drop b.0 v) i order n from (field-whole i Four order n from e) _ t)
 
     -- so is a text that was found good
-    text-by : (t : Str) → string_of s i order ≡ t → (j : Index) → step_from t ≡ Next j → (skip_counted v b i order ≡ EndsAt j) × (i.0 ≤ j.0)
-    text-by (Characters from n) r j e =
+    text-by : (t : Result (Index × ℕ) StringFault) → string_of s i order ≡ t → (j : Index) → step_from t ≡ Ok j → (skip_counted v b i order ≡ Some j) × (i.0 ≤ j.0)
+    text-by (Ok (from, n)) r j e =
         let f = string-facts s i order from n r in
         let o = field-over i Four order (n + 1) from f.0 in
         let q : index_of (from.0 + n + 1) ≡ j = cc in
         let z : from.0 + (n + 1) ≡ from.0 + n + 1 = omega arith in
         let w : j.0 ≡ from.0 + n + 1 = ap (λ (y : Index). y.0) (sym q) in
-        (counted-again (n + 1) from f.0 f.1 ∙ ap (λ (y : ℕ). EndsAt (index_of y)) z ∙ ap EndsAt q, omega (arith, o.0))
-    text-by BadText r j e = clash cc
-    text-by NoText r j e = clash cc
+        (counted-again (n + 1) from f.0 f.1 ∙ ap (λ (y : ℕ). Some (index_of y)) z ∙ ap Some q, omega (arith, o.0))
+    text-by (Err BadText) r j e = clash cc
+    text-by (Err NoText) r j e = clash cc
 
-    pub text-again : (j : Index) → text_step s i order ≡ Next j → (skip_counted v b i order ≡ EndsAt j) × (i.0 ≤ j.0)
+    pub text-again : (j : Index) → text_step s i order ≡ Ok j → (skip_counted v b i order ≡ Some j) × (i.0 ≤ j.0)
     unfolding text_step
     text-again j e = text-by (string_of s i order) refl j e
 
   module _ (order : Order) where
-    names-by : (j : Index) (t : Step) → text_step s (index_of 1) order ≡ t → then_step t (λ i. text_step s i order) ≡ Next j
-        → (names_in v b order ≡ EndsAt j) × (1 ≤ j.0)
+    names-by : (j : Index) (t : Result Index Refusal) → text_step s (index_of 1) order ≡ t → then_step t (λ i. text_step s i order) ≡ Ok j
+        → (names_in v b order ≡ Some j) × (1 ≤ j.0)
     unfolding names_in
-    names-by j (Next i) r e =
+    names-by j (Ok i) r e =
         let a = text-again (index_of 1) order i r in
         let c = text-again i order j e in
         (rw a.0 c.0, omega (arith, a.1, c.1))
-    names-by j (Refused n) r e = clash cc
+    names-by j (Err n) r e = clash cc
 
-    pub names-again : (j : Index) → names_step s order ≡ Next j → (names_in v b order ≡ EndsAt j) × (1 ≤ j.0)
+    pub names-again : (j : Index) → names_step s order ≡ Ok j → (names_in v b order ≡ Some j) × (1 ≤ j.0)
     unfolding names_step
     names-again j e = names-by j (text_step s (index_of 1) order) refl e
 
-    number_by : (i j : Index) (f : Field) → field_of s i Four order ≡ f → on_field f (Refused Ends) (λ n next. Next next) ≡ Next j
-        → (x : ℕ) × (field_of s i Four order ≡ Value x j)
-    number_by i j (Value x next) r e = let q : next ≡ j = cc in (x, r ∙ ap (Value x) q)
-    number_by i j NoField r e = clash cc
+    number_by : (i j : Index) (f : Option (ℕ × Index)) → field_of s i Four order ≡ f → on_field f (Err Ends) (λ n next. Ok next) ≡ Ok j
+        → (x : ℕ) × (field_of s i Four order ≡ Some (x, j))
+    number_by i j (Some (x, next)) r e = let q : next ≡ j = cc in (x, rw (r, q))
+    number_by i j None r e = clash cc
 
-    pub number_read : (i j : Index) → number_step s i order ≡ Next j → (x : ℕ) × (field_of s i Four order ≡ Value x j)
+    pub number_read : (i j : Index) → number_step s i order ≡ Ok j → (x : ℕ) × (field_of s i Four order ≡ Some (x, j))
     unfolding number_step
     number_read i j e = number_by i j (field_of s i Four order) refl e
 
-    count_by : (i : Index) (n : ℕ) (j : Index) (f : Field) → field_of s i Four order ≡ f → count_step s i order ≡ Stands n j
-        → (field_of s i Four order ≡ Value n j) × (0 < n)
+    count_by : (i : Index) (n : ℕ) (j : Index) (f : Option (ℕ × Index)) → field_of s i Four order ≡ f → count_step s i order ≡ Ok (n, j)
+        → (field_of s i Four order ≡ Some (n, j)) × (0 < n)
     unfolding count_step
-    count_by i n j (Value x next) r e =
-        by-test (eqb x 0) (λ a. let q : Wrong NoCount ≡ Stands n j = rw (r, a) at e in clash cc) (λ a.
-        let q : Stands x next ≡ Stands n j = rw (r, a) at e in
-        let y : x ≡ n = cc in
-        let z : next ≡ j = cc in
-        (rw (r, y, z), omega (arith, eqb-false x 0 a)))
-    count_by i n j NoField r e = let q : Wrong Ends ≡ Stands n j = rw r at e in clash cc
+    count_by i n j (Some (x, next)) r e =
+        by-test (eqb x 0) (λ a. let q : ◌≡◌ {A = Result (ℕ × Index) Refusal} (Err NoCount) (Ok (n, j)) = rw (r, a) at e in clash cc) (λ a.
+        let q : ◌≡◌ {A = Result (ℕ × Index) Refusal} (Ok (x, next)) (Ok (n, j)) = rw (r, a) at e in
+        let parts = ok-pair q in
+        (rw (r, parts.0, parts.1), omega (arith, parts.0, eqb-false x 0 a)))
+    count_by i n j None r e = let q : ◌≡◌ {A = Result (ℕ × Index) Refusal} (Err Ends) (Ok (n, j)) = rw r at e in clash cc
 
-    pub count-read : (i : Index) (n : ℕ) (j : Index) → count_step s i order ≡ Stands n j → (field_of s i Four order ≡ Value n j) × (0 < n)
+    pub count-read : (i : Index) (n : ℕ) (j : Index) → count_step s i order ≡ Ok (n, j) → (field_of s i Four order ≡ Some (n, j)) × (0 < n)
     count-read i n j e = count_by i n j (field_of s i Four order) refl e
 
-    any-by : (i : Index) (n : ℕ) (j : Index) (f : Field) → field_of s i Four order ≡ f → on_field f (Wrong Ends) (λ n next. Stands n next) ≡ Stands n j
-        → field_of s i Four order ≡ Value n j
-    any-by i n j (Value x next) r e = let y : x ≡ n = cc in let z : next ≡ j = cc in rw (r, y, z)
-    any-by i n j NoField r e = clash cc
+    any-by : (i : Index) (n : ℕ) (j : Index) (f : Option (ℕ × Index)) → field_of s i Four order ≡ f → on_field {A = Result (ℕ × Index) Refusal} f (Err Ends) (λ n next. Ok (n, next)) ≡ Ok (n, j)
+        → field_of s i Four order ≡ Some (n, j)
+    any-by i n j (Some (x, next)) r e = let parts = ok-pair e in rw (r, parts.0, parts.1)
+    any-by i n j None r e = clash cc
 
-    pub any-read : (i : Index) (n : ℕ) (j : Index) → any_count s i order ≡ Stands n j → field_of s i Four order ≡ Value n j
+    pub any-read : (i : Index) (n : ℕ) (j : Index) → any_count s i order ≡ Ok (n, j) → field_of s i Four order ≡ Some (n, j)
     unfolding any_count
     any-read i n j e = any-by i n j (field_of s i Four order) refl e
 
-    head-by : (n : ℕ) (j : Index) (t : Step) → names_step s order ≡ t → then_count t (λ i. count_step s i order) ≡ Stands n j
-        → (count_in v b order ≡ Value n j) × (0 < n) × (1 ≤ j.0)
+    head-by : (n : ℕ) (j : Index) (t : Result Index Refusal) → names_step s order ≡ t → then_count t (λ i. count_step s i order) ≡ Ok (n, j)
+        → (count_in v b order ≡ Some (n, j)) × (0 < n) × (1 ≤ j.0)
     unfolding count_in
-    head-by n j (Next i) r e =
+    head-by n j (Ok i) r e =
         let a = names-again i r in
         let c = count-read i n j e in
         (rw a.0 (field-again i Four order n j c.0), c.1, omega (arith, a.1, (field-over i Four order n j c.0).0))
-    head-by n j (Refused x) r e = clash cc
+    head-by n j (Err x) r e = clash cc
 
-    pub head-again : (n : ℕ) (j : Index) → head_step s order ≡ Stands n j → (count_in v b order ≡ Value n j) × (0 < n) × (1 ≤ j.0)
+    pub head-again : (n : ℕ) (j : Index) → head_step s order ≡ Ok (n, j) → (count_in v b order ≡ Some (n, j)) × (0 < n) × (1 ≤ j.0)
     unfolding head_step
     head-again n j e = head-by n j (names_step s order) refl e
 
-    exception-by : (n : ℕ) (j : Index) (t : Step) → names_step s order ≡ t → then_count t (λ i. any_count s i order) ≡ Stands n j
-        → (count_in v b order ≡ Value n j) × (1 ≤ j.0)
+    exception-by : (n : ℕ) (j : Index) (t : Result Index Refusal) → names_step s order ≡ t → then_count t (λ i. any_count s i order) ≡ Ok (n, j)
+        → (count_in v b order ≡ Some (n, j)) × (1 ≤ j.0)
     unfolding count_in
-    exception-by n j (Next i) r e =
+    exception-by n j (Ok i) r e =
         let a = names-again i r in
         let c = any-read i n j e in
         (rw a.0 (field-again i Four order n j c), omega (arith, a.1, (field-over i Four order n j c).0))
-    exception-by n j (Refused x) r e = clash cc
+    exception-by n j (Err x) r e = clash cc
 
-    pub exception-again : (n : ℕ) (j : Index) → exception_step s order ≡ Stands n j → (count_in v b order ≡ Value n j) × (1 ≤ j.0)
+    pub exception-again : (n : ℕ) (j : Index) → exception_step s order ≡ Ok (n, j) → (count_in v b order ≡ Some (n, j)) × (1 ≤ j.0)
     unfolding exception_step
     exception-again n j e = exception-by n j (names_step s order) refl e
 
-    length-by : (i j : Index) (t : Count) → count_step s i order ≡ t → after_count t (λ n next. Next next) ≡ Next j
-        → (n : ℕ) × (field_of s i Four order ≡ Value n j) × (0 < n)
-    length-by i j (Stands n next) r e =
+    length-by : (i j : Index) (t : Result (ℕ × Index) Refusal) → count_step s i order ≡ t → after_count t (λ n next. Ok next) ≡ Ok j
+        → (n : ℕ) × (field_of s i Four order ≡ Some (n, j)) × (0 < n)
+    length-by i j (Ok (n, next)) r e =
         let q : next ≡ j = cc in
         let c = count-read i n next r in
-        (n, c.0 ∙ ap (Value n) q, c.1)
-    length-by i j (Wrong x) r e = clash cc
+        (n, rw (c.0, q), c.1)
+    length-by i j (Err x) r e = clash cc
 
-    pub length-read : (i j : Index) → length_step s i order ≡ Next j → (n : ℕ) × (field_of s i Four order ≡ Value n j) × (0 < n)
+    pub length-read : (i j : Index) → length_step s i order ≡ Ok j → (n : ℕ) × (field_of s i Four order ≡ Some (n, j)) × (0 < n)
     unfolding length_step
     length-read i j e = length-by i j (count_step s i order) refl e
 
-    texts-over : (n : ℕ) (i j : Index) → texts_step s order n i ≡ Next j → i.0 ≤ j.0
+    texts-over : (n : ℕ) (i j : Index) → texts_step s order n i ≡ Ok j → i.0 ≤ j.0
     unfolding texts_step
     texts-over zero i j e = let q : i ≡ j = cc in omega (arith, ap (λ (y : Index). y.0) q)
     texts-over (suc n) i j e = go (text_step s i order) refl e (λ k r. texts-over n k j r)
       where
-        go : (t : Step) → text_step s i order ≡ t → then_step t (λ k. texts_step s order n k) ≡ Next j → ((k : Index) → texts_step s order n k ≡ Next j → k.0 ≤ j.0)
+        go : (t : Result Index Refusal) → text_step s i order ≡ t → then_step t (λ k. texts_step s order n k) ≡ Ok j → ((k : Index) → texts_step s order n k ≡ Ok j → k.0 ≤ j.0)
             → i.0 ≤ j.0
-        go (Next k) r e f = omega (arith, (text-again i order k r).1, f k e)
-        go (Refused x) r e f = clash cc
+        go (Ok k) r e f = omega (arith, (text-again i order k r).1, f k e)
+        go (Err x) r e f = clash cc
 
-    enum-by : (j : Index) (t : Count) → head_step s order ≡ t → after_count t (λ n next. texts_step s order n next) ≡ Next j
-        → (n : ℕ) × (k : Index) × (count_in v b order ≡ Value n k) × (0 < n) × (1 ≤ j.0)
-    enum-by j (Stands n k) r e =
+    enum-by : (j : Index) (t : Result (ℕ × Index) Refusal) → head_step s order ≡ t → after_count t (λ n next. texts_step s order n next) ≡ Ok j
+        → (n : ℕ) × (k : Index) × (count_in v b order ≡ Some (n, k)) × (0 < n) × (1 ≤ j.0)
+    enum-by j (Ok (n, k)) r e =
         let a = head-again n k r in (n, k, a.0, a.1, omega (arith, a.2, texts-over n k j e))
-    enum-by j (Wrong x) r e = clash cc
+    enum-by j (Err x) r e = clash cc
 
-    pub enum-again : (j : Index) → enum_step s order ≡ Next j → (n : ℕ) × (k : Index) × (count_in v b order ≡ Value n k) × (0 < n) × (1 ≤ j.0)
+    pub enum-again : (j : Index) → enum_step s order ≡ Ok j → (n : ℕ) × (k : Index) × (count_in v b order ≡ Some (n, k)) × (0 < n) × (1 ≤ j.0)
     unfolding enum_step
     enum-again j e = enum-by j (head_step s order) refl e
 
-    default-by : (x d n : ℕ) (j : Index) (t : Count) → switch_from x t ≡ Cases d n j → (x ≡ d) × (t ≡ Stands n j) × (bad_default d n ≡ false)
-    default-by x d n j (Stands y next) e =
-        by-test (bad_default x y) (λ a. let q : NoSwitch BadUnion ≡ Cases d n j = rw a at e in clash cc) (λ a.
-        let q : Cases x y next ≡ Cases d n j = rw a at e in
-        let f : x ≡ d = cc in
-        let g : y ≡ n = cc in
-        let h : next ≡ j = cc in
-        (f, rw (g, h), subst (λ (k : ℕ). bad_default k n ≡ false) f (subst (λ (k : ℕ). bad_default x k ≡ false) g a)))
-    default-by x d n j (Wrong r) e = clash cc
+    default-by : (x d n : ℕ) (j : Index) (t : Result (ℕ × Index) Refusal) → switch_from x t ≡ Ok (d, n, j) → (x ≡ d) × (t ≡ Ok (n, j)) × (bad_default d n ≡ false)
+    default-by x d n j (Ok (y, next)) e =
+        by-test (bad_default x y) (λ a. let q : ◌≡◌ {A = Result (ℕ × ℕ × Index) Refusal} (Err BadUnion) (Ok (d, n, j)) = rw a at e in clash cc) (λ a.
+        let q : ◌≡◌ {A = Result (ℕ × ℕ × Index) Refusal} (Ok (x, y, next)) (Ok (d, n, j)) = rw a at e in
+        let parts = ok-triple q in
+        (parts.0, rw (parts.1, parts.2), subst (λ (k : ℕ). bad_default k n ≡ false) parts.0 (subst (λ (k : ℕ). bad_default x k ≡ false) parts.1 a)))
+    default-by x d n j (Err r) e = clash cc
 
-    switch_by : (i : Index) (d n : ℕ) (j : Index) (f : Field) → field_of s i Four order ≡ f
-        → on_field f (NoSwitch Ends) (λ d k. switch_from d (count_step s k order)) ≡ Cases d n j
-        → (k : Index) × (field_of s i Four order ≡ Value d k) × (field_of s k Four order ≡ Value n j) × (0 < n) × (bad_default d n ≡ false)
-    switch_by i d n j (Value x k) r e =
+    switch_by : (i : Index) (d n : ℕ) (j : Index) (f : Option (ℕ × Index)) → field_of s i Four order ≡ f
+        → on_field f (Err Ends) (λ d k. switch_from d (count_step s k order)) ≡ Ok (d, n, j)
+        → (k : Index) × (field_of s i Four order ≡ Some (d, k)) × (field_of s k Four order ≡ Some (n, j)) × (0 < n) × (bad_default d n ≡ false)
+    switch_by i d n j (Some (x, k)) r e =
         let a = default-by x d n j (count_step s k order) e in
         let c = count-read k n j a.1 in
-        (k, r ∙ ap (λ (y : ℕ). Value y k) a.0, c.0, c.1, a.2)
-    switch_by i d n j NoField r e = clash cc
+        (k, r ∙ ap (λ (y : ℕ). Some (y, k)) a.0, c.0, c.1, a.2)
+    switch_by i d n j None r e = clash cc
 
-    pub switch-read : (i : Index) (d n : ℕ) (j : Index) → switch_step s i order ≡ Cases d n j
-        → (k : Index) × (field_of s i Four order ≡ Value d k) × (field_of s k Four order ≡ Value n j) × (0 < n) × (bad_default d n ≡ false)
+    pub switch-read : (i : Index) (d n : ℕ) (j : Index) → switch_step s i order ≡ Ok (d, n, j)
+        → (k : Index) × (field_of s i Four order ≡ Some (d, k)) × (field_of s k Four order ≡ Some (n, j)) × (0 < n) × (bad_default d n ≡ false)
     unfolding switch_step
     switch-read i d n j e = switch_by i d n j (field_of s i Four order) refl e
 
-    label-by : (size : Size) (limit default done : ℕ) (first i j : Index) (f : Field) → field_of s i size order ≡ f
-        → label_step (Of size limit) v s b order default done first i ≡ Next j → (skip_field v b i size order ≡ EndsAt j) × (i.0 ≤ j.0)
+    label-by : (size : Size) (limit default done : ℕ) (first i j : Index) (f : Option (ℕ × Index)) → field_of s i size order ≡ f
+        → label_step (Of size limit) v s b order default done first i ≡ Ok j → (skip_field v b i size order ≡ Some j) × (i.0 ≤ j.0)
     unfolding skip_field
-    label-by size limit default done first i j (Value x next) r e =
-        by-test (out_of_kind limit x) (λ a. let q : Refused BadUnion ≡ Next j = rw (r, a) at e in clash cc) (λ a.
-        by-test (label_before (Of size limit) v b order default done first x) (λ c. let q : Refused BadUnion ≡ Next j = rw (r, a, c) at e in clash cc) (λ c.
-        let q : Next next ≡ Next j = rw (r, a, c) at e in
+    label-by size limit default done first i j (Some (x, next)) r e =
+        by-test (out_of_kind limit x) (λ a. let q : Err BadUnion ≡ Ok j = rw (r, a) at e in clash cc) (λ a.
+        by-test (label_before (Of size limit) v b order default done first x) (λ c. let q : Err BadUnion ≡ Ok j = rw (r, a, c) at e in clash cc) (λ c.
+        let q : Ok next ≡ Ok j = rw (r, a, c) at e in
         let z : next ≡ j = cc in
         (rw (field-again i size order x next r, z), omega (arith, (field-over i size order x next r).0, ap (λ (y : Index). y.0) z))))
-    label-by size limit default done first i j NoField r e = let q : Refused Ends ≡ Next j = rw r at e in clash cc
+    label-by size limit default done first i j None r e = let q : Err Ends ≡ Ok j = rw r at e in clash cc
 
-    pub label-again : (labels : Labels) (default done : ℕ) (first i j : Index) → label_step labels v s b order default done first i ≡ Next j
-        → (lead_in labels v b i order ≡ EndsAt j) × (i.0 ≤ j.0)
+    pub label-again : (labels : Labels) (default done : ℕ) (first i j : Index) → label_step labels v s b order default done first i ≡ Ok j
+        → (lead_in labels v b i order ≡ Some j) × (i.0 ≤ j.0)
     label-again (Of size limit) default done first i j e = label-by size limit default done first i j (field_of s i size order) refl e
-    label-again NoLabels default done first i j e = let q : i ≡ j = cc in (ap EndsAt q, omega (arith, ap (λ (y : Index). y.0) q))
+    label-again NoLabels default done first i j e = let q : i ≡ j = cc in (ap Some q, omega (arith, ap (λ (y : Index). y.0) q))
 
-    name_by : (labels : Labels) (default done : ℕ) (first i j : Index) (t : Step) → label_step labels v s b order default done first i ≡ t
-        → then_step t (λ k. text_step s k order) ≡ Next j → (member_at labels v b i order ≡ spot_at v b j order) × (i.0 ≤ j.0)
+    name_by : (labels : Labels) (default done : ℕ) (first i j : Index) (t : Result Index Refusal) → label_step labels v s b order default done first i ≡ t
+        → then_step t (λ k. text_step s k order) ≡ Ok j → (member_at labels v b i order ≡ spot_at v b j order) × (i.0 ≤ j.0)
     unfolding member_at
-    name_by labels default done first i j (Next k) r e =
+    name_by labels default done first i j (Ok k) r e =
         let a = label-again labels default done first i k r in
         let c = text-again k order j e in
         (rw (a.0, c.0), omega (arith, a.1, c.1))
-    name_by labels default done first i j (Refused x) r e = clash cc
+    name_by labels default done first i j (Err x) r e = clash cc
 
-    pub name-again : (labels : Labels) (default done : ℕ) (first i j : Index) → name_step labels v s b order default done first i ≡ Next j
+    pub name-again : (labels : Labels) (default done : ℕ) (first i j : Index) → name_step labels v s b order default done first i ≡ Ok j
         → (member_at labels v b i order ≡ spot_at v b j order) × (i.0 ≤ j.0)
     unfolding name_step
     name-again labels default done first i j e = name_by labels default done first i j (label_step labels v s b order default done first i) refl e

@@ -1,4 +1,5 @@
 -- What the check accepts is read again without a fault, at every level.
+use Rattle.std.specs.Prelude.{Some, Ok}
 use mathlib.Core.Path.{◌≡◌, refl, sym, ◌∙◌, ap, subst}
 use mathlib.Core.List.{List, [], ◌∷◌}
 use mathlib.Core.Bool.{false}
@@ -13,12 +14,10 @@ use Rattle.cdr.specs.declared.Index.{Index}
 use Rattle.cdr.specs.declared.Place.{Place}
 use Rattle.cdr.specs.declared.Order.{Order}
 use Rattle.cdr.specs.declared.Size.TheVariants.{Four}
-use Rattle.cdr_fields.specs.declared.Field.TheVariants.{Value}
 use Rattle.type_kinds.specs.declared.Inner.{Inner}
 use Rattle.type_kinds.specs.declared.Inner.TheVariants.{Here, There}
 use Rattle.type_kinds.specs.declared.Kind.{Kind}
 use Rattle.type_counts.specs.declared.Refusal.TheVariants.{Ends}
-use Rattle.type_counts.specs.declared.Step.TheVariants.{Next}
 use Rattle.cdr.specs.Align.{index_of}
 use Rattle.cdr_fields.specs.Encapsulation.{field_of}
 use Rattle.type_kinds.specs.Forms.{form_of}
@@ -41,7 +40,7 @@ use Rattle.type_laws.proofs.ContentsReadAgain.{inside}
 module _ (v : List ℕ) where
   -- a type by its kind: an indirection, or what `enter` does with a kind that may stand there
   kind-well : (left : ℕ) (enter : Enterer) (s : List ℕ) (b : Place) (order : Order) (i : Index) (w : Walk) → Lies v s b.0 → Fits w.kinds → Below w.kinds (b.0 + i.0) → Tops v w
-      → ((kind : ℕ) (next : Index) → field_of s i Four order ≡ Value kind next → (kind ≡ indirection_kind → ⊥) → Entering (form_of kind) kind left (length w.kinds)
+      → ((kind : ℕ) (next : Index) → field_of s i Four order ≡ Some (kind, next) → (kind ≡ indirection_kind → ⊥) → Entering (form_of kind) kind left (length w.kinds)
       → Gives (Well v w.kinds b order i) (enter (form_of kind) s b order next w))
       → Gives (Well v w.kinds b order i) (type_with left enter s b order i w)
   unfolding type_with
@@ -63,7 +62,7 @@ module _ (v : List ℕ) where
 
   -- a kind that is met, and what follows it
   enter-well : (go : Checker) → Checks v go → (s : List ℕ) (b : Place) (order : Order) (i : Index) (w : Walk) → Lies v s b.0 → Fits w.kinds → Below w.kinds (b.0 + i.0) → Tops v w
-      → (kind : ℕ) (next : Index) → field_of s i Four order ≡ Value kind next → (kind ≡ indirection_kind → ⊥) → length w.kinds < 64
+      → (kind : ℕ) (next : Index) → field_of s i Four order ≡ Some (kind, next) → (kind ≡ indirection_kind → ⊥) → length w.kinds < 64
       → (0 < length w.kinds → top_only kind ≡ false) → Gives (Well v w.kinds b order i) (entered_at v go (form_of kind) s b order next w)
   unfolding entered_at entered w₁
   enter-well go hold s b order i w h f l t₀ kind next r k c top =
@@ -82,7 +81,7 @@ module _ (v : List ℕ) where
 
   entering : (left : ℕ) → left ≤ 16 → (s : List ℕ) (b : Place) (order : Order) (i : Index) (w : Walk) → Lies v s b.0 → Fits w.kinds → Below w.kinds (b.0 + i.0) → Tops v w
       → (left ≡ 16 → length w.kinds ≡ 0)
-      → (kind : ℕ) (next : Index) → field_of s i Four order ≡ Value kind next → (kind ≡ indirection_kind → ⊥) → Entering (form_of kind) kind left (length w.kinds)
+      → (kind : ℕ) (next : Index) → field_of s i Four order ≡ Some (kind, next) → (kind ≡ indirection_kind → ⊥) → Entering (form_of kind) kind left (length w.kinds)
       → Gives (Well v w.kinds b order i) (enter_at v left (form_of kind) s b order next w)
   unfolding enter_at
   entering zero a s b order i w h f l t₀ t kind next r k e = tt
@@ -116,7 +115,7 @@ module _ (v : List ℕ) where
           top = λ o e. absurd (omega (arith, empty));
         }
 
-    whole-well : (i : Index) → whole.step ≡ Next i → Well v w.kinds (place_of 0) order (index_of 0) i whole.walk
+    whole-well : (i : Index) → whole.step ≡ Ok i → Well v w.kinds (place_of 0) order (index_of 0) i whole.walk
     whole-well i e =
         subst (IfNext (λ j. Well v w.kinds (place_of 0) order (index_of 0) j whole.walk)) e
         (type-well nesting_limit (omega arith) v (place_of 0) order (index_of 0) w (lies_whole v) empty-fits (λ j l. absurd (omega (arith, empty))) empty-tops (λ q. empty))
@@ -128,7 +127,7 @@ module _ (v : List ℕ) where
 
     -- the list is complete: the first kind is the top, at the place 0 and in the order that is asked for; places ascend, all that stands inside
     -- its kinds is in it, and each but the top is written inside one before it
-    pub complete : (i : Index) → whole.step ≡ Next i → Complete v order whole.walk.kinds
+    pub complete : (i : Index) → whole.step ≡ Ok i → Complete v order whole.walk.kinds
     complete i e =
         let y = whole-well i e in
         let some = known_some whole.walk.kinds y.type y.known in
@@ -144,7 +143,7 @@ module _ (v : List ℕ) where
         }
 
     -- the whole list is the top and all that is written inside it
-    pub spanned : (i : Index) → whole.step ≡ Next i → Span v whole.walk.kinds 0 (length whole.walk.kinds)
+    pub spanned : (i : Index) → whole.step ≡ Ok i → Span v whole.walk.kinds 0 (length whole.walk.kinds)
     spanned i e =
         let y = whole-well i e in
         let some = known_some whole.walk.kinds y.type y.known in

@@ -9,12 +9,12 @@
 --   Ascending     each kind's place lies before those of the kinds after it
 --   Listed        a list of the kinds written, in order of place, each of them once
 --   KindCount     the number of kinds written
-use Rattle.std.specs.Prelude.{◌≡◌, ◌↔◌, ◌∷◌, ◌<◌}
+use Rattle.std.specs.Prelude.{◌≡◌, ◌↔◌, ◌∷◌, ◌<◌, Err}
 use Rattle.choices.specs.{List, [], false, ℕ, length, Among}
 use Rattle.cdr.specs.{Place, Order}
 use Rattle.type_kinds.specs.{Kind, Here, There}
 use Rattle.type_parameters.specs.{Parameters.parameters_at}
-use Rattle.type_counts.specs.{Refusal, Refused}
+use Rattle.type_counts.specs.{Refusal}
 use Rattle.type_walk.specs.Types.{walked_of}
 use Rattle.type_laws.specs.Written.{is_sequence, KindWritten, Inside}
 
@@ -31,7 +31,7 @@ abbrev pub Loops : List ℕ → Order → Type 0
 Loops v order = (a : Kind) × KindWritten v order a × Leads v order a a
 
 abbrev pub FirstFault : List ℕ → Order → Refusal → Type 0
-FirstFault v order r = (walked_of v order).step ≡ Refused r
+FirstFault v order r = (walked_of v order).step ≡ Err r
 
 abbrev pub NoFault : List ℕ → Order → Type 0
 NoFault v order = (r : Refusal) → FirstFault v order r → ⊥

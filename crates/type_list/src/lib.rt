@@ -24,32 +24,18 @@ pub struct Met {
 // The places that an entry of the list can hold are below this.
 const ENTRY_LIMIT: usize = 65536;
 
-// The position of a kind in the list, or that it is not there.
-#[derive(Clone, Copy)]
-pub enum Position {
-    IsAt(usize),
-    NoPosition,
-}
-
 // How many kinds the list has, of which its arrays have room for the most that a TypeCode may have.
 pub fn held_in(count: usize) -> usize
     ensures { result ≡ min count kinds_limit }
 {
-    if count < KINDS_LIMIT {
-        return count;
-    }
-    KINDS_LIMIT
+    count.min(KINDS_LIMIT)
 }
 
 // The order that an entry of the list says.
 fn order_in(octet: u8) -> Order
     ensures { result ≡ order_in octet }
 {
-    if octet == 1 {
-        Order::Little
-    } else {
-        Order::Big
-    }
+    Order::flagged(octet == 1)
 }
 
 impl Met {
@@ -66,42 +52,27 @@ impl Met {
     }
 
     // The list with one more kind, or as it is where it has no room for that.
+    #[tactic(auto, unfolding(crate::specs::Arrays::added))]
     pub fn add(self, place: Place, start: Place, order: Order) -> Met
         ensures { result ≡ added self place start order }
     {
         let mut met = self;
         let i = met.count;
-        let p = place.0;
-        let b = start.0;
-        if KINDS_LIMIT <= i {
-            return met;
+        if i < KINDS_LIMIT && place.0 < ENTRY_LIMIT && start.0 < ENTRY_LIMIT {
+            met.places[i] = place.0 as u16;
+            met.starts[i] = start.0 as u16;
+            met.orders[i] = order.octet();
+            met.count = i + 1;
         }
-        if ENTRY_LIMIT <= p {
-            return met;
-        }
-        if ENTRY_LIMIT <= b {
-            return met;
-        }
-        met.places[i] = p as u16;
-        met.starts[i] = b as u16;
-        met.orders[i] = order.octet();
-        met.count = i + 1;
         met
     }
 
     // The position of the kind at a place.
-    pub fn position(self, place: Place) -> Position
+    pub fn position(self, place: Place) -> Option<usize>
         ensures { result ≡ position_of (kinds_met self) place }
     {
         let n = held_in(self.count);
-        let mut i: usize = 0;
-        while i < n {
-            if self.places[i] as usize == place.0 {
-                return Position::IsAt(i);
-            }
-            i += 1;
-        }
-        Position::NoPosition
+        self.places[..n].iter().position(|p| *p as usize == place.0)
     }
 }
 
@@ -127,6 +98,7 @@ pub fn entry_at(met: Met, j: usize) -> Kind
 }
 
 // The parameters of the kind at a position.
+#[tactic(auto, unfolding(crate::specs::Met::parameters_of))]
 pub fn parameters_of(types: &[u8], met: Met, j: usize) -> Parameters
     ensures { result ≡ parameters_of types.now (kinds_met met) j }
 {
@@ -134,30 +106,18 @@ pub fn parameters_of(types: &[u8], met: Met, j: usize) -> Parameters
 }
 
 // The parameters of the kind at a place, a fault where the list has none there.
+#[tactic(auto, unfolding(crate::specs::Met::found_at))]
 pub fn found_at(types: &[u8], met: Met, place: Place) -> Parameters
     ensures { result ≡ found_at types.now (kinds_met met) place }
 {
-    let n = held_in(met.count);
-    let mut i: usize = 0;
-    while i < n {
-        if met.places[i] as usize == place.0 {
-            let start = Place(met.starts[i] as usize);
-            let order = order_in(met.orders[i]);
-            return type_parameters::parameters_at(
-                types,
-                Kind {
-                    place,
-                    start,
-                    order,
-                },
-            );
-        }
-        i += 1;
+    match met.position(place) {
+        Some(j) => parameters_of(types, met, j),
+        None => Parameters::Fault,
     }
-    Parameters::Fault
 }
 
 // The parameters of a type inside another. The list is searched for an indirection's target alone.
+#[tactic(auto, unfolding(crate::specs::Met::inside_of))]
 pub fn inside_of(types: &[u8], met: Met, inner: Inner) -> Parameters
     ensures { result ≡ inside_of types.now (kinds_met met) inner }
 {

@@ -1,6 +1,6 @@
 -- The turns of the loops, and what they come to.
 use mathlib.Core.Path.{◌≡◌, refl, sym, ◌∙◌, ap, subst}
-use mathlib.Core.Bool.{true, false, ◌&&◌, ◌||◌, or-false}
+use mathlib.Core.Bool.{◌&&◌, ◌||◌, or-false}
 use mathlib.Core.List.{List}
 use mathlib.Core.Logic.{⊎_elim}
 use Prim.Native.Nat.{ℕ, min, ◌+◌, ◌<◌, ◌≤◌}
@@ -9,11 +9,11 @@ use native.Mathlib.Numerals.{add-one}
 use lib.ListN.{get_or, set, length, length-set}
 use lib.Seq.{get_or-set_same, get_or-set_other}
 use Rattle.choices.proofs.Choices.{by-test}
-use Rattle.type_loops.specs.Loops.{closure, any_below, loop_found, bit_at, cell}
+use Rattle.type_loops.specs.Loops.{closure, loop_found, bit_at, cell}
 use Rattle.type_numbers.specs.{kinds_limit}
 use Rattle.type_loops.specs.Inner.{through_row, RoundDone, Closed, some_returns}
 use Rattle.type_loops.proofs.RowBits.{bit-or}
-use Rattle.type_loops.proofs.SomeBelow.{last-or-below, some-any, any_same}
+use Rattle.type_loops.proofs.SomeBelow.{last-or-below, any_same}
 
 -- what a turn of a round's loop knows: the rows below i are done, and the others are as they were
 pub record RoundTo (n k onward : ℕ) (before after : List ℕ) (i : ℕ) : Type 0 where
@@ -75,22 +75,6 @@ closed-more n k before rows after h r d =
 
 pub closed_all : (n k : ℕ) (before after : List ℕ) → k ≤ n → n ≤ k → Closed n k before after → Closed n n before after
 closed_all n k before after l h r = let e : k ≡ n = omega arith in subst (λ (m : ℕ). Closed n m before after) e r
-
--- the search for a kind that steps to itself
-pub none_yet : (rows : List ℕ) → some_returns 0 rows ≡ false
-unfolding some_returns any_below
-none_yet rows = refl
-
-pub none_more : (i : ℕ) (rows : List ℕ) → some_returns i rows ≡ false → cell rows i i ≡ false → some_returns (i + 1) rows ≡ false
-unfolding some_returns any_below
-none_more i rows e f = rw (add-one i, e, f)
-
-pub none_at_all : (n i : ℕ) (rows : List ℕ) → i ≤ n → n ≤ i → some_returns i rows ≡ false → false ≡ some_returns n rows
-none_at_all n i rows l h e = let q : i ≡ n = omega arith in sym (rw q at e)
-
-pub one-returns : (n i : ℕ) (rows : List ℕ) → i < n → cell rows i i ≡ true → true ≡ some_returns n rows
-unfolding some_returns
-one-returns n i rows l e = sym (some-any n (λ j. cell rows j j) i l e)
 
 -- the search in the closed rows answers as the definition does
 pub some-found : (n m : ℕ) (before after : List ℕ) → m ≡ min n kinds_limit → Closed m m before after

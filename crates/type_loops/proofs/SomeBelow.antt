@@ -1,10 +1,14 @@
 -- Whether a test holds of some number below n, and of how many.
-use mathlib.Core.Path.{◌≡◌, refl}
-use mathlib.Core.Bool.{Bool, true, false, cond, or-true, false≢true}
+use mathlib.Core.Path.{◌≡◌, refl, sym, ◌∙◌, ap}
+use mathlib.Core.List.{List, map, [], ◌∷◌}
+use mathlib.Core.Bool.{Bool, true, false, cond, or-true, or-false, false≢true}
 use mathlib.Core.Logic.{◌⊎◌, ⊎_elim}
 use Prim.Native.Nat.{ℕ, zero, suc, ◌+◌, ◌<◌, ◌≤◌}
 use native.Mathlib.Omega.{arith}
 use native.Mathlib.Nat.{eq-or-lt_of_le}
+use Rattle.std.specs.List.{list_any, range_with_len}
+use Rattle.std.proofs.lemmas.List.Folds.{list_any-append}
+use Rattle.std.proofs.lemmas.List.FromFn.{map-range_with_len_more}
 use Rattle.choices.proofs.Choices.{by-test}
 use Rattle.type_loops.specs.Loops.{any_below}
 
@@ -66,3 +70,21 @@ pub count-all : (n : ℕ) → count_below n (λ z. true) ≡ n
 unfolding count_below
 count-all zero = refl
 count-all (suc n) = omega (arith, count-all n)
+
+-- a test of the numbers below n, one after the other
+any-map : (f : ℕ → Bool) (xs : List ℕ) → list_any (λ b. b) (map f xs) ≡ list_any f xs
+any-map f [] = refl
+any-map f (x ∷ xs) = rw (any-map f xs)
+
+in-range : (f : ℕ → Bool) (n : ℕ) → list_any (λ b. b) (map f (range_with_len 0 n)) ≡ any_below n f
+unfolding any_below
+in-range f zero = refl
+in-range f (suc n) =
+    let on : suc n ≡ n + 1 = omega arith in
+    ap (λ (m : ℕ). list_any (λ b. b) (map f (range_with_len 0 m))) on
+    ∙ ap (list_any (λ b. b)) (map-range_with_len_more f 0 n n (omega arith))
+    ∙ list_any-append (λ b. b) (map f (range_with_len 0 n)) (f n ∷ [])
+    ∙ rw (in-range f n, or-false (f n))
+
+pub any-in-range : (f : ℕ → Bool) (n : ℕ) → list_any f (range_with_len 0 n) ≡ any_below n f
+any-in-range f n = sym (any-map f (range_with_len 0 n)) ∙ in-range f n

@@ -15,26 +15,21 @@ pub struct Steps {
 }
 
 // Puts a step from kind i to kind j into rows of steps; they stay as they are where there is no row i or no bit j.
+#[tactic(auto, unfolding(crate::specs::Loops::with_step))]
 pub fn add_step(rows: &mut [u64], i: usize, j: usize)
     ensures { rows.new ≡ with_step rows.old i j }
 {
-    if rows.len() <= i {
-        return;
+    if i < rows.len() && j < KINDS_LIMIT {
+        rows[i] = with_bit(rows[i], j);
     }
-    if KINDS_LIMIT <= j {
-        return;
-    }
-    rows[i] = with_bit(rows[i], j);
 }
 
 // Whether some kind below n, or below 64 where n is more, returns to itself in one or more steps.
 pub fn has_loop(steps: Steps, n: usize) -> bool
     ensures { result ≡ loop_found (min n kinds_limit) (cell steps.rows) }
 {
-    if n < KINDS_LIMIT {
-        return some_returns(closed(steps, n), n);
-    }
-    some_returns(closed(steps, KINDS_LIMIT), KINDS_LIMIT)
+    let n = n.min(KINDS_LIMIT);
+    some_returns(closed(steps, n), n)
 }
 
 // Whether some kind below n has a step to itself.
@@ -42,15 +37,7 @@ fn some_returns(steps: Steps, n: usize) -> bool
     requires { n ≤ kinds_limit }
     ensures { result ≡ some_returns n steps.rows }
 {
-    let mut i = 0;
-    while i < n {
-        let row = steps.rows[i];
-        if has_bit(row, i) {
-            return true;
-        }
-        i += 1;
-    }
-    false
+    (0..n).any(|i| has_bit(steps.rows[i], i))
 }
 
 // From each kind below n a step to every kind that it leads to through kinds below n.
@@ -59,12 +46,10 @@ fn closed(steps: Steps, n: usize) -> Steps
     ensures { Closed n n steps.rows result.rows }
 {
     let mut rows = steps.rows;
-    let mut k = 0;
-    while k < n {
+    for k in 0..n {
         close_round(&mut rows, n, k);
-        k += 1;
     }
-    Steps { rows: rows }
+    Steps { rows }
 }
 
 // The round for kind k: each kind below n that steps to k steps to where k steps.
@@ -73,25 +58,22 @@ fn close_round(rows: &mut [u64; KINDS_LIMIT], n: usize, k: usize)
     ensures { RoundDone n k rows.old rows.new }
 {
     let onward = rows[k];
-    let mut i = 0;
-    while i < n {
+    for i in 0..n {
         rows[i] = through_row(rows[i], k, onward);
-        i += 1;
     }
 }
 
 // A row after the round for kind k, whose own row is `onward`.
+#[tactic(auto, unfolding(crate::specs::Inner::through_row))]
 fn through_row(row: u64, k: usize, onward: u64) -> u64
     requires { k < kinds_limit }
     ensures { result ≡ through_row row k onward }
 {
-    if has_bit(row, k) {
-        return row | onward;
-    }
-    row
+    if has_bit(row, k) { row | onward } else { row }
 }
 
 // Whether bit j of a row is set.
+#[tactic(auto, using(crate::proofs::RowBits::bit_shifted))]
 fn has_bit(row: u64, j: usize) -> bool
     requires { j < kinds_limit }
     ensures { result ≡ bit_at row j }

@@ -1,4 +1,5 @@
 -- A kind without parameters is one that is listed so: of whatever octets.
+use Rattle.std.specs.Prelude.{Option, Some, None}
 use mathlib.Core.Path.{◌≡◌, refl, subst}
 use mathlib.Core.List.{List}
 use mathlib.Core.Bool.{Bool, true, false, cond}
@@ -9,21 +10,13 @@ use Rattle.choices.proofs.Choices.{clash}
 use Rattle.cdr.specs.declared.Index.{Index}
 use Rattle.cdr.specs.declared.Place.{Place}
 use Rattle.cdr.specs.declared.Order.{Order}
-use Rattle.cdr.specs.declared.Named.{Named}
-use Rattle.cdr.specs.declared.Named.TheVariants.{Is, NoOrder}
 use Rattle.cdr.specs.declared.Size.TheVariants.{Four}
-use Rattle.cdr_fields.specs.declared.Field.{Field}
-use Rattle.cdr_fields.specs.declared.Field.TheVariants.{Value, NoField}
 use Rattle.type_kinds.specs.declared.Kind.{Kind}
 use Rattle.type_kinds.specs.declared.Inner.{Inner}
 use Rattle.type_kinds.specs.declared.Form.{Form}
 use Rattle.type_kinds.specs.declared.Form.TheVariants.{Unlisted, Plain, Bounded, Composite}
 use Rattle.type_kinds.specs.declared.Layout.{Layout}
 use Rattle.type_kinds.specs.declared.Layout.TheVariants.{Objref as objref, Struct as struct, Union as union, Enum as enum, Sequence as sequence, Array as array, Alias as alias, Exception as exception}
-use Rattle.type_kinds.specs.declared.Spot.{Spot}
-use Rattle.type_kinds.specs.declared.Spot.TheVariants.{TypeAt, NoType}
-use Rattle.type_parameters.specs.declared.Element.{Element}
-use Rattle.type_parameters.specs.declared.Element.TheVariants.{Holds, NoElement}
 use Rattle.type_kinds.specs.declared.Inert.TheVariants.{Leaf}
 use Rattle.type_parameters.specs.declared.Parameters.{Parameters}
 use Rattle.type_parameters.specs.declared.Parameters.TheVariants.{Fault, Flat}
@@ -39,21 +32,21 @@ Listed p = (kind : ℕ) → p ≡ Flat (Leaf kind) → form_of kind ≡ Plain
 fault-listed : Listed Fault
 fault-listed kind e = clash cc
 
-on-field : (x : Field) (f : ℕ → Index → Parameters) → ((n : ℕ) (i : Index) → Listed (f n i)) → Listed (on_field x Fault f)
-on-field (Value n i) f h = h n i
-on-field NoField f h = fault-listed
+on-field : (x : Option (ℕ × Index)) (f : ℕ → Index → Parameters) → ((n : ℕ) (i : Index) → Listed (f n i)) → Listed (on_field x Fault f)
+on-field (Some (n, i)) f h = h n i
+on-field None f h = fault-listed
 
-on-spot : (x : Spot) (f : Inner → Index → Parameters) → ((y : Inner) (i : Index) → Listed (f y i)) → Listed (on_spot x Fault f)
-on-spot (TypeAt y i) f h = h y i
-on-spot NoType f h = fault-listed
+on-spot : (x : Option (Inner × Index)) (f : Inner → Index → Parameters) → ((y : Inner) (i : Index) → Listed (f y i)) → Listed (on_spot x Fault f)
+on-spot (Some (y, i)) f h = h y i
+on-spot None f h = fault-listed
 
-on-element : (x : Element) (f : Inner → ℕ → Parameters) → ((y : Inner) (n : ℕ) → Listed (f y n)) → Listed (on_element x f)
-on-element (Holds y n) f h = h y n
-on-element NoElement f h = fault-listed
+on-element : (x : Option (Inner × ℕ)) (f : Inner → ℕ → Parameters) → ((y : Inner) (n : ℕ) → Listed (f y n)) → Listed (on_element x f)
+on-element (Some (y, n)) f h = h y n
+on-element None f h = fault-listed
 
-on-order : (x : Named) (f : Order → Parameters) → ((o : Order) → Listed (f o)) → Listed (on_named x f)
-on-order (Is o) f h = h o
-on-order NoOrder f h = fault-listed
+on-order : (x : Option Order) (f : Order → Parameters) → ((o : Order) → Listed (f o)) → Listed (on_named x f)
+on-order (Some o) f h = h o
+on-order None f h = fault-listed
 
 on-cond : (t : Bool) (p : Parameters) → Listed p → Listed (cond t p Fault)
 on-cond true p h = h

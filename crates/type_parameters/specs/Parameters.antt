@@ -4,6 +4,7 @@
 --   count_in             the count after id and name
 --   type_in              the type after id and name
 --   element_in           the type and the number after it, of a sequence or an array
+--   listed_fields            the members that are listed after id and name
 --   on_element           what follows a type and a number
 --   union_in             default and count after a union's discriminant
 --   parameters_in        what an encapsulation of a layout holds: "objref: id, name. Alias: id, name, type." and so on
@@ -11,14 +12,11 @@
 --   encapsulated        the same behind its order octet
 --   parameters_after     what follows a kind that was read
 --   parameters_at        the parameters of a kind that is written
-use Rattle.std.specs.Prelude.{◌+◌, ◌-◌}
+use Rattle.std.specs.Prelude.{◌+◌, ◌-◌, Option, Some, None}
 use Rattle.choices.specs.{ℕ, List, cond, ltb, length, get_or}
-use Rattle.cdr.specs.{Index, Place, Order, Named, Is, NoOrder, Four, index_of, order_of}
-use Rattle.cdr_fields.specs.{Field, NoField}
-use Rattle.type_kinds.specs.Names.{Form, Unlisted, Plain, Bounded, Composite, Layout, Kind, Inner, Spot, NoType}
-use Rattle.type_parameters.specs.{declared.Element.Element, declared.Element.TheVariants.Holds}
+use Rattle.cdr.specs.{Index, Place, Order, Four, index_of, order_of}
+use Rattle.type_kinds.specs.Names.{Form, Unlisted, Plain, Bounded, Composite, Layout, Kind, Inner}
 use Rattle.type_kinds.specs.Names.{Fields, Leaf, Text, Objref, Enum}
-use Rattle.type_parameters.specs.{declared.Element.TheVariants.NoElement}
 use Rattle.type_kinds.specs.{Forms.form_of}
 use Rattle.type_parameters.specs.{declared.Parameters.Parameters}
 use Rattle.type_kinds.specs.declared.Layout.TheVariants.{Objref as objref, Struct as struct, Union as union, Enum as enum}
@@ -29,19 +27,22 @@ use Rattle.type_kinds.specs.Parts.{place_of, on_field, on_skip, on_spot, field_i
 abbrev pub member_fields : Place → Order → ℕ → Index → Fields
 member_fields b order n first = record { start = b; order = order; count = n; first = first }
 
-unfoldable pub count_in : List ℕ → Place → Order → Field
-count_in v b order = on_skip (names_in v b order) NoField (λ i. field_in v b i Four order)
+unfoldable pub count_in : List ℕ → Place → Order → Option (ℕ × Index)
+count_in v b order = on_skip (names_in v b order) None (λ i. field_in v b i Four order)
 
-unfoldable pub type_in : List ℕ → Place → Order → Spot
-type_in v b order = on_skip (names_in v b order) NoType (λ i. spot_at v b i order)
+unfoldable pub type_in : List ℕ → Place → Order → Option (Inner × Index)
+type_in v b order = on_skip (names_in v b order) None (λ i. spot_at v b i order)
 
-unfoldable pub element_in : List ℕ → Place → Order → Element
+unfoldable pub element_in : List ℕ → Place → Order → Option (Inner × ℕ)
 element_in v b order =
-    on_spot (spot_at v b (index_of 1) order) NoElement (λ x i. on_field (field_in v b i Four order) NoElement (λ n next. Holds x n))
+    on_spot (spot_at v b (index_of 1) order) None (λ x i. on_field (field_in v b i Four order) None (λ n next. Some (x, n)))
 
-abbrev pub on_element : Element → (Inner → ℕ → Parameters) → Parameters
-on_element (Holds x n) f = f x n
-on_element NoElement f = Fault
+unfoldable pub listed_fields : List ℕ → Place → Order → Option Fields
+listed_fields v b order = on_field (count_in v b order) None (λ n next. Some (member_fields b order n next))
+
+abbrev pub on_element : Option (Inner × ℕ) → (Inner → ℕ → Parameters) → Parameters
+on_element (Some (x, n)) f = f x n
+on_element None f = Fault
 
 unfoldable pub union_in : List ℕ → Place → Order → Inner → Index → Parameters
 union_in v b order d i =
@@ -58,9 +59,9 @@ parameters_in enum v b order = on_field (count_in v b order) Fault (λ n next. F
 parameters_in sequence v b order = on_element (element_in v b order) (λ x n. Sequence x n)
 parameters_in array v b order = on_element (element_in v b order) (λ x n. Array x n)
 
-abbrev pub on_named : Named → (Order → Parameters) → Parameters
-on_named (Is order) f = f order
-on_named NoOrder f = Fault
+abbrev pub on_named : Option Order → (Order → Parameters) → Parameters
+on_named (Some order) f = f order
+on_named None f = Fault
 
 unfoldable pub encapsulated : Layout → List ℕ → Place → Parameters
 encapsulated layout v b = cond (ltb b.0 (length v)) (on_named (order_of (get_or v b.0 0)) (λ order. parameters_in layout v b order)) Fault

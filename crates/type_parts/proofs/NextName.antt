@@ -1,26 +1,18 @@
 -- The names of an enum, turn by turn.
+use Rattle.std.specs.Prelude.{Ok, Err}
 use mathlib.Core.Path.{◌≡◌}
 use mathlib.Core.List.{List}
-use Prim.Native.Nat.{ℕ, suc, ◌+◌, ◌-◌, ◌≤◌, ◌<◌}
-use native.Mathlib.Omega.{arith}
+use Prim.Native.Nat.{ℕ, suc}
 use Rattle.cdr.specs.declared.Index.{Index}
 use Rattle.cdr.specs.declared.Order.{Order}
 use Rattle.type_counts.specs.declared.Refusal.{Refusal}
-use Rattle.type_counts.specs.declared.Step.TheVariants.{Refused, Next}
 use Rattle.type_counts.specs.Counts.{text_step, texts_step}
 
-module _ (s : List ℕ) (order : Order) (n k : ℕ) (i : Index) where
-  left-suc : k < n → n - k ≡ suc (n - (k + 1))
-  left-suc h = omega arith
-
-  pub texts-refused : k < n → (r : Refusal) → text_step s i order ≡ Refused r → texts_step s order (n - k) i ≡ Refused r
+module _ (s : List ℕ) (order : Order) (i : Index) where
+  pub texts-refused : (r : Refusal) → text_step s i order ≡ Err r → (m : ℕ) → texts_step s order (suc m) i ≡ Err r
   unfolding texts_step
-  texts-refused h r e = rw (left-suc h, e)
+  texts-refused r e m = rw e
 
-  pub texts-next : k < n → (j : Index) → text_step s i order ≡ Next j → texts_step s order (n - k) i ≡ texts_step s order (n - (k + 1)) j
+  pub texts-next : (j : Index) → text_step s i order ≡ Ok j → (m : ℕ) → texts_step s order (suc m) i ≡ texts_step s order m j
   unfolding texts_step
-  texts-next h j e = rw (left-suc h, e)
-
-  pub texts-end : n ≤ k → texts_step s order (n - k) i ≡ Next i
-  unfolding texts_step
-  texts-end h = let z : n - k ≡ 0 = omega arith in rw z
+  texts-next j e m = rw e

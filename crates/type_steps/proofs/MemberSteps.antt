@@ -1,4 +1,5 @@
 -- A kind's steps to its members, one after the other.
+use Rattle.std.specs.Prelude.{Some, None}
 use mathlib.Core.Path.{◌≡◌, refl, ◌∙◌, subst}
 use lib.ListN.{length}
 use mathlib.Core.List.{List}
@@ -10,7 +11,6 @@ use Rattle.cdr.specs.declared.Index.{Index}
 use Rattle.cdr.specs.declared.Place.{Place}
 use Rattle.cdr.specs.declared.Order.{Order}
 use Rattle.type_kinds.specs.declared.Labels.{Labels}
-use Rattle.type_kinds.specs.declared.Spot.TheVariants.{TypeAt, NoType}
 use Rattle.type_kinds.specs.Parts.{place_in, member_at}
 use Rattle.type_kinds.specs.Members.{members_from, types_of}
 use Rattle.choices.specs.Lists.{any_of}
@@ -49,12 +49,12 @@ module _ {labels : Labels} {v : List ℕ} {m : List Kind} {b : Place} {order : O
     unfolding members_from types_of any_of
     members-all h = let e : n - k ≡ 0 = omega arith in done (λ z. rw e)
 
-    pub members-cut : k < n → member_at labels v b at order ≡ NoType
+    pub members-cut : k < n → member_at labels v b at order ≡ None
         → Noted (length m) before i (among labels v m b order n first) now
     unfolding members_from types_of any_of
     members-cut h s = done (λ z. rw (left-suc h, s))
 
-    module _ (h : k < n) {x : Inner} {next : Index} (s : member_at labels v b at order ≡ TypeAt x next) where
+    module _ (h : k < n) {x : Inner} {next : Index} (s : member_at labels v b at order ≡ Some (x, next)) where
       one_more : (z : ℕ)
           → (stands m (place_in x) z || among labels v m b order (n - (k + 1)) next z) ≡ among labels v m b order (n - k) at z
       unfolding members_from types_of any_of

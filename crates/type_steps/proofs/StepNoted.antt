@@ -1,4 +1,5 @@
 -- What is added to a table of steps: nothing, two things, and the step to the kind at a place.
+use Rattle.std.specs.Prelude.{Some, None}
 use mathlib.Core.Path.{◌≡◌, refl, sym, ◌∙◌, ap}
 use mathlib.Core.List.{List}
 use mathlib.Core.Bool.{Bool, true, false, ◌&&◌, ◌||◌, and-false}
@@ -13,7 +14,6 @@ use Rattle.type_loops.specs.Loops.{cell, with_step}
 use Rattle.type_numbers.specs.{kinds_limit}
 use Rattle.type_loops.proofs.CellsAfter.{with_cell, with-length}
 use Rattle.type_kinds.specs.declared.Kind.{Kind}
-use Rattle.type_list.specs.declared.Position.TheVariants.{IsAt, NoPosition}
 use Rattle.type_list.specs.Met.{find_kind, position_of}
 use Rattle.type_list.proofs.Positions.{position-facts, position-nowhere}
 use Rattle.type_steps.specs.Steps.{stands}
@@ -54,12 +54,12 @@ module _ (n : ℕ) (before : List ℕ) (i : ℕ) where
 
 -- a kind's step to the kind at a place
 module _ (m : List Kind) (p : Place) (i : ℕ) (rows : List ℕ) where
-  pub noted-nowhere : position_of m p ≡ NoPosition → Noted (length m) rows i (stands m p) rows
+  pub noted-nowhere : position_of m p ≡ None → Noted (length m) rows i (stands m p) rows
   noted-nowhere e =
       let past = ltb-false (find_kind m p) (length m) (position-nowhere m p e) in
       noted-none (length m) rows i (stands m p) (λ z k. ne_eqb (find_kind m p) z (λ q. omega (arith, k, past, q)))
 
-  module _ (j : ℕ) (e : position_of m p ≡ IsAt j) where
+  module _ (j : ℕ) (e : position_of m p ≡ Some j) where
     stands_at : (z : ℕ) → eqb j z ≡ stands m p z
     stands_at z = ap (λ (x : ℕ). eqb x z) (sym (position-facts m p j e).0)
 

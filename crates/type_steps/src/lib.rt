@@ -9,8 +9,8 @@ ghost use Rattle.type_steps.specs.Steps.{stands, any_stands, steps};
 ghost use Rattle.type_steps.specs.Inner.{Noted, RowsFilled};
 
 use cdr::Place;
-use type_kinds::{Fields, Labels, Spot};
-use type_list::{Met, Position};
+use type_kinds::{Fields, Labels};
+use type_list::Met;
 use type_loops::Steps;
 use type_numbers::KINDS_LIMIT;
 use type_parameters::Parameters;
@@ -27,14 +27,11 @@ pub fn loops_back(types: &[u8], met: Met) -> bool
 fn step_table(types: &[u8], met: Met) -> Steps
     ensures { RowsFilled types.now (kinds_met met) (length (kinds_met met)) result.rows }
 {
-    let n = type_list::held_in(met.count);
-    let mut rows: [u64; KINDS_LIMIT] = [0; KINDS_LIMIT];
-    let mut i = 0;
-    while i < n {
+    let mut rows = [0; KINDS_LIMIT];
+    for i in 0..type_list::held_in(met.count) {
         steps_from(types, met, i, &mut rows);
-        i += 1;
     }
-    Steps { rows: rows }
+    Steps { rows }
 }
 
 // Puts the steps from kind i into rows.
@@ -43,37 +40,22 @@ fn steps_from(types: &[u8], met: Met, i: usize, rows: &mut [u64])
     ensures { Noted (length (kinds_met met)) rows.old i (steps types.now (kinds_met met) i) rows.new }
 {
     match type_list::parameters_of(types, met, i) {
-        Parameters::Fault => {}
-        Parameters::Flat(_) => {}
-        Parameters::Struct(fields) => member_steps(Labels::NoLabels, types, fields, met, i, rows),
-        Parameters::Exception(fields) => member_steps(
-            Labels::NoLabels,
-            types,
-            fields,
-            met,
-            i,
-            rows,
-        ),
+        Parameters::Fault | Parameters::Flat(_) => {}
+        Parameters::Struct(fields) | Parameters::Exception(fields) => {
+            member_steps(Labels::NoLabels, types, fields, met, i, rows)
+        }
         Parameters::Union {
             fields,
             discriminant,
-            default: _,
+            ..
         } => {
             let place = type_kinds::place_in(discriminant);
             note(met, place, i, rows);
             let labels = type_unions::labels_for(types, met, place);
             member_steps(labels, types, fields, met, i, rows)
         }
-        Parameters::Sequence {
-            element: _,
-            bound: _,
-        } => {}
-        Parameters::Array { element, length: _ } => note(
-            met,
-            type_kinds::place_in(element),
-            i,
-            rows,
-        ),
+        Parameters::Sequence { .. } => {}
+        Parameters::Array { element, .. } => note(met, type_kinds::place_in(element), i, rows),
         Parameters::Alias(inner) => note(met, type_kinds::place_in(inner), i, rows),
     }
 }
@@ -84,19 +66,19 @@ fn member_steps(labels: Labels, types: &[u8], fields: Fields, met: Met, i: usize
     ensures { Noted (length (kinds_met met)) rows.old i
         (λ z. any_stands (kinds_met met) z (types_of (members_of labels types.now fields))) rows.new }
 {
-    let start = fields.start;
-    let order = fields.order;
-    let count = fields.count;
     let mut at = fields.first;
-    let mut k: u64 = 0;
-    while k < count {
-        let Spot::TypeAt { inner, next } = type_kinds::member_at(labels, types, start, at, order)
-        else {
+    for _ in 0..fields.count {
+        let Some((inner, next)) = type_kinds::member_at(
+            labels,
+            types,
+            fields.start,
+            at,
+            fields.order,
+        ) else {
             return;
         };
         note(met, type_kinds::place_in(inner), i, rows);
         at = next;
-        k += 1;
     }
 }
 
@@ -105,8 +87,7 @@ fn note(met: Met, place: Place, i: usize, rows: &mut [u64])
     requires { i < length rows.old }
     ensures { Noted (length (kinds_met met)) rows.old i (stands (kinds_met met) place) rows.new }
 {
-    match met.position(place) {
-        Position::IsAt(j) => type_loops::add_step(rows, i, j),
-        Position::NoPosition => {}
+    if let Some(j) = met.position(place) {
+        type_loops::add_step(rows, i, j);
     }
 }

@@ -3,9 +3,9 @@ ghost use Rattle.std.specs.Prelude.{◌≡◌};
 ghost use Rattle.type_kinds.specs.Members.{label_at, members_of};
 ghost use Rattle.type_unions.specs.Arms.{counts, is_sought, first_sought, case_of, default_of, chosen_of};
 
-use crate::{Arm, Sought};
+use crate::Sought;
 use cdr::{Index, Order, Place};
-use type_kinds::{Fields, Labels, Spot};
+use type_kinds::{Fields, Inner, Labels};
 
 // The default of a union that has none, a long of -1.
 pub const NO_DEFAULT: u64 = 0xFFFFFFFF;
@@ -18,28 +18,40 @@ pub fn counts(default: u64, number: u64) -> bool
 }
 
 // The member with this label, else the default, else none.
-pub fn chosen_of(labels: Labels, types: &[u8], fields: Fields, default: u64, label: u64) -> Arm
+#[tactic(auto, unfolding(crate::specs::Arms::chosen_of))]
+pub fn chosen_of(
+    labels: Labels,
+    types: &[u8],
+    fields: Fields,
+    default: u64,
+    label: u64,
+) -> Option<Inner>
     ensures { result ≡ chosen_of (members_of labels types.now fields) default label }
 {
-    match case_of(labels, types, fields, default, label) {
-        Arm::Chosen(inner) => Arm::Chosen(inner),
-        Arm::NoneChosen => default_of(labels, types, fields, default),
-    }
+    let case = case_of(labels, types, fields, default, label);
+    case.or_else(|| default_of(labels, types, fields, default))
 }
 
 // The first member with this label, of those whose labels count.
-pub fn case_of(labels: Labels, types: &[u8], fields: Fields, default: u64, label: u64) -> Arm
+pub fn case_of(
+    labels: Labels,
+    types: &[u8],
+    fields: Fields,
+    default: u64,
+    label: u64,
+) -> Option<Inner>
     ensures { result ≡ case_of default label (members_of labels types.now fields) }
 {
     first_sought(Sought::ByLabel { default, label }, labels, types, fields)
 }
 
 // The default member, if there is one.
-fn default_of(labels: Labels, types: &[u8], fields: Fields, default: u64) -> Arm
+#[tactic(auto, unfolding(crate::specs::Arms::default_of, crate::specs::Arms::member_no, choices::specs::Branch::choose))]
+fn default_of(labels: Labels, types: &[u8], fields: Fields, default: u64) -> Option<Inner>
     ensures { result ≡ default_of (members_of labels types.now fields) default }
 {
     if default == NO_DEFAULT {
-        return Arm::NoneChosen;
+        return None;
     }
     first_sought(Sought::ByNumber(default), labels, types, fields)
 }
@@ -58,34 +70,24 @@ fn is_sought(
 {
     match sought {
         Sought::ByLabel { default, label } => {
-            if counts(default, number) {
-                return type_kinds::label_at(labels, types, start, at, order) == label;
-            }
-            false
+            counts(default, number)
+                && type_kinds::label_at(labels, types, start, at, order) == label
         }
         Sought::ByNumber(wanted) => number == wanted,
     }
 }
 
 // The first member that is sought.
-fn first_sought(sought: Sought, labels: Labels, types: &[u8], fields: Fields) -> Arm
+fn first_sought(sought: Sought, labels: Labels, types: &[u8], fields: Fields) -> Option<Inner>
     ensures { result ≡ first_sought sought 0 (members_of labels types.now fields) }
 {
-    let start = fields.start;
-    let order = fields.order;
-    let count = fields.count;
     let mut at = fields.first;
-    let mut k: u64 = 0;
-    while k < count {
-        let Spot::TypeAt { inner, next } = type_kinds::member_at(labels, types, start, at, order)
-        else {
-            return Arm::NoneChosen;
-        };
-        if is_sought(sought, labels, types, start, order, k, at) {
-            return Arm::Chosen(inner);
+    for k in 0..fields.count {
+        let (inner, next) = type_kinds::member_at(labels, types, fields.start, at, fields.order)?;
+        if is_sought(sought, labels, types, fields.start, fields.order, k, at) {
+            return Some(inner);
         }
         at = next;
-        k += 1;
     }
-    Arm::NoneChosen
+    None
 }

@@ -18,34 +18,18 @@ fn sized(size: Size, limit: u64) -> Labels
 }
 
 // The labels of a kind without parameters.
+#[tactic(auto, unfolding(crate::specs::Discriminants::leaf_labels))]
 fn leaf_labels(kind: u64) -> Labels
     ensures { result ≡ leaf_labels kind }
 {
-    if kind == type_numbers::SHORT {
-        return sized(Size::Two, 0);
+    match kind {
+        type_numbers::SHORT | type_numbers::USHORT => sized(Size::Two, 0),
+        type_numbers::LONG | type_numbers::ULONG => sized(Size::Four, 0),
+        type_numbers::BOOLEAN => sized(Size::One, 2),
+        type_numbers::CHAR => sized(Size::One, 0),
+        type_numbers::LONG_LONG | type_numbers::UNSIGNED_LONG_LONG => sized(Size::Eight, 0),
+        _ => Labels::NoLabels,
     }
-    if kind == type_numbers::LONG {
-        return sized(Size::Four, 0);
-    }
-    if kind == type_numbers::USHORT {
-        return sized(Size::Two, 0);
-    }
-    if kind == type_numbers::ULONG {
-        return sized(Size::Four, 0);
-    }
-    if kind == type_numbers::BOOLEAN {
-        return sized(Size::One, 2);
-    }
-    if kind == type_numbers::CHAR {
-        return sized(Size::One, 0);
-    }
-    if kind == type_numbers::LONG_LONG {
-        return sized(Size::Eight, 0);
-    }
-    if kind == type_numbers::UNSIGNED_LONG_LONG {
-        return sized(Size::Eight, 0);
-    }
-    Labels::NoLabels
 }
 
 // The labels of a kind that holds no other.
@@ -54,8 +38,7 @@ fn inert_labels(inert: Inert) -> Labels
 {
     match inert {
         Inert::Leaf(kind) => leaf_labels(kind),
-        Inert::Text(_) => Labels::NoLabels,
-        Inert::Objref => Labels::NoLabels,
+        Inert::Text(_) | Inert::Objref => Labels::NoLabels,
         Inert::Enum(names) => sized(Size::Four, names),
     }
 }
@@ -67,22 +50,12 @@ fn discriminant_of(parameters: Parameters) -> Discriminant
     match parameters {
         Parameters::Flat(inert) => Discriminant::Says(inert_labels(inert)),
         Parameters::Alias(inner) => Discriminant::Through(inner),
-        Parameters::Fault => Discriminant::Says(Labels::NoLabels),
-        Parameters::Struct(_) => Discriminant::Says(Labels::NoLabels),
-        Parameters::Exception(_) => Discriminant::Says(Labels::NoLabels),
-        Parameters::Union {
-            fields: _,
-            discriminant: _,
-            default: _,
-        } => Discriminant::Says(Labels::NoLabels),
-        Parameters::Sequence {
-            element: _,
-            bound: _,
-        } => Discriminant::Says(Labels::NoLabels),
-        Parameters::Array {
-            element: _,
-            length: _,
-        } => Discriminant::Says(Labels::NoLabels),
+        Parameters::Fault
+        | Parameters::Struct(_)
+        | Parameters::Exception(_)
+        | Parameters::Union { .. }
+        | Parameters::Sequence { .. }
+        | Parameters::Array { .. } => Discriminant::Says(Labels::NoLabels),
     }
 }
 
@@ -91,8 +64,7 @@ pub fn labels_for(types: &[u8], met: Met, place: Place) -> Labels
     ensures { result ≡ labels_for types.now (kinds_met met) place }
 {
     let mut at = place;
-    let mut left: usize = type_numbers::KINDS_LIMIT;
-    while 0 < left {
+    for _ in 0..type_numbers::KINDS_LIMIT {
         match discriminant_of(type_list::found_at(types, met, at)) {
             Discriminant::Through(next) => {
                 at = type_kinds::place_in(next);
@@ -101,14 +73,14 @@ pub fn labels_for(types: &[u8], met: Met, place: Place) -> Labels
                 return labels;
             }
         }
-        left -= 1;
     }
     Labels::NoLabels
 }
 
 // Whether a label is not below its limit.
+#[tactic(auto, unfolding(crate::specs::Discriminants::out_of_kind))]
 pub fn out_of_kind(limit: u64, label: u64) -> bool
     ensures { result ≡ out_of_kind limit label }
 {
-    if limit == 0 { false } else { limit <= label }
+    limit != 0 && limit <= label
 }

@@ -23,10 +23,3 @@ pub enum Sought {
     ByLabel { default: u64, label: u64 },
     ByNumber(u64),
 }
-
-// The type of a member that is chosen, or that none is.
-#[derive(Clone, Copy)]
-pub enum Arm {
-    Chosen(Inner),
-    NoneChosen,
-}

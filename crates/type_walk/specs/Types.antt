@@ -25,21 +25,21 @@
 --   enter_at           a kind of a form with so many levels left; with none left no kind may stand there
 --   type_at            a TypeCode with so many levels left
 --   walked_of          the check of octets as a TypeCode: "42 over 16,384 octets (before all else)"
-use Rattle.std.specs.Prelude.{◌+◌, ◌-◌}
+use Rattle.std.specs.Prelude.{◌+◌, ◌-◌, Option, Some, None, Result, Ok, Err}
 use Rattle.choices.specs.{ℕ, zero, suc, List, false, cond, ltb, eqb, length, get_or, take, drop, choose}
 use Rattle.cdr.specs.{octets_limit, Index, Place, Order, Four, index_of}
 use Rattle.cdr_fields.specs.{field_of}
-use Rattle.type_kinds.specs.{Form, Unlisted, Plain, Bounded, Composite, Layout, Lead, LeadsTo, Outside, Labels, Of, NoLabels, Kind, place_of}
+use Rattle.type_kinds.specs.{Form, Unlisted, Plain, Bounded, Composite, Layout, Labels, Of, NoLabels, Kind, place_of}
 use Rattle.type_kinds.specs.{place_in, on_field, Forms.form_of, Parts.on_spot, Parts.place_before, Parts.target_of, Parts.spot_at}
 use Rattle.type_numbers.specs.{indirection_kind}
 use Rattle.type_kinds.specs.declared.Layout.TheVariants.{Objref, Struct, Union, Enum, Sequence, Array, Alias, Exception}
 use Rattle.type_list.specs.{Met.find_kind}
 use Rattle.type_unions.specs.{Discriminants.labels_for, Arms.no_default}
-use Rattle.type_counts.specs.{Ends, NoSuchKind, BadEncapsulation, BadUnion, BadTarget, TooDeep, TooLong, Step, Part, NoPart, Inside}
+use Rattle.type_counts.specs.{Ends, NoSuchKind, BadEncapsulation, BadUnion, BadTarget, TooDeep, TooLong}
 use Rattle.type_counts.specs.Counts.{then_step, text_step, names_step, number_step, length_step, head_step, exception_step, enum_step, part_of}
-use Rattle.type_fields.specs.{Entry, NoEntry, Enters, Switch, NoSwitch, Cases}
 use Rattle.type_fields.specs.Fields.{nesting_limit, kind_entry, switch_step, label_step}
 use Rattle.type_walk.specs.Walk.{Walk, Walked, nothing_met, entered, closed_at, refused_as, goes_on_at, on_step, count_then, after_type}
+use Rattle.type_counts.specs.declared.Refusal.{Refusal}
 
 unfoldable pub target_step : Walk → Place → Index → Walked
 target_step w p next =
@@ -47,9 +47,9 @@ target_step w p next =
     (cond (get_or w.barred (find_kind w.kinds p) false) (refused_as BadTarget w) (goes_on_at next w))
     (refused_as BadTarget w)
 
-abbrev pub aimed_step : Lead → Walk → Index → Walked
-aimed_step (LeadsTo p) w next = target_step w p next
-aimed_step Outside w next = refused_as BadTarget w
+abbrev pub aimed_step : Option Place → Walk → Index → Walked
+aimed_step (Some p) w next = target_step w p next
+aimed_step None w next = refused_as BadTarget w
 
 unfoldable pub indirection_at : List ℕ → Place → Order → Index → Walk → Walked
 indirection_at s b order i w =
@@ -58,7 +58,7 @@ indirection_at s b order i w =
 abbrev pub Checker : Type 0
 Checker = List ℕ → Place → Order → Index → Walk → Walked
 
-unfoldable pub name_step : Labels → List ℕ → List ℕ → Place → Order → ℕ → ℕ → Index → Index → Step
+unfoldable pub name_step : Labels → List ℕ → List ℕ → Place → Order → ℕ → ℕ → Index → Index → Result Index Refusal
 name_step labels v s b order default done first i = then_step (label_step labels v s b order default done first i) (λ h. text_step s h order)
 
 unfoldable pub members_at : List ℕ → Checker → Labels → ℕ → List ℕ → Place → Order → Index → ℕ → ℕ → Index → Walk → Walked
@@ -70,13 +70,13 @@ members_at v go sort default s b order first (suc n) done i w =
 unfoldable pub labels_at : List ℕ → List Kind → Place → Index → Order → Labels
 labels_at v ks b i order = on_spot (spot_at v b i order) NoLabels (λ x next. labels_for v ks (place_in x))
 
-abbrev pub switch_head : Labels → List ℕ → Index → Order → Switch
-switch_head NoLabels s i order = NoSwitch BadUnion
+abbrev pub switch_head : Labels → List ℕ → Index → Order → Result (ℕ × ℕ × Index) Refusal
+switch_head NoLabels s i order = Err BadUnion
 switch_head (Of size limit) s i order = switch_step s i order
 
-abbrev pub cases_then : Switch → Walk → (ℕ → ℕ → Index → Walked) → Walked
-cases_then (NoSwitch r) w f = refused_as r w
-cases_then (Cases default n next) w f = f default n next
+abbrev pub cases_then : Result (ℕ × ℕ × Index) Refusal → Walk → (ℕ → ℕ → Index → Walked) → Walked
+cases_then (Err r) w f = refused_as r w
+cases_then (Ok (default, n, next)) w f = f default n next
 
 unfoldable pub switched_at : List ℕ → Checker → Labels → List ℕ → Place → Order → Index → Walk → Walked
 switched_at v go labels s b order i w =
@@ -104,9 +104,9 @@ contents_at v go Array s b order w =
 unfoldable pub ended_at : ℕ → ℕ → ℕ → Walked → Walked
 ended_at here n e c = after_type c (λ i w. cond (eqb i.0 n) (goes_on_at (index_of e) (closed_at w here)) (refused_as BadEncapsulation w))
 
-abbrev pub part_then : Part → Walk → (ℕ → ℕ → Order → Walked) → Walked
-part_then (NoPart r) w f = refused_as r w
-part_then (Inside x e order) w f = f x e order
+abbrev pub part_then : Result (ℕ × ℕ × Order) Refusal → Walk → (ℕ → ℕ → Order → Walked) → Walked
+part_then (Err r) w f = refused_as r w
+part_then (Ok (x, e, order)) w f = f x e order
 
 unfoldable pub composite_at : List ℕ → Checker → Layout → List ℕ → Place → Order → Index → Walk → ℕ → Walked
 composite_at v go layout s b order i w here =
@@ -125,9 +125,9 @@ entered_at v go form s b order next w = inside_at v go form s b order next (ente
 abbrev pub Enterer : Type 0
 Enterer = Form → List ℕ → Place → Order → Index → Walk → Walked
 
-abbrev pub on_entry : Entry → Walk → (Unit {0} → Walked) → Walked
-on_entry (NoEntry r) w f = refused_as r w
-on_entry Enters w f = f tt
+abbrev pub on_entry : Result Unit Refusal → Walk → (Unit {0} → Walked) → Walked
+on_entry (Err r) w f = refused_as r w
+on_entry (Ok tt) w f = f tt
 
 unfoldable pub type_with : ℕ → Enterer → Checker
 type_with left enter s b order i w =

@@ -12,13 +12,13 @@
 --   on_step         what follows, unless it is refused
 --   count_then      what follows a count, unless it is refused
 --   after_type          what follows a type that was checked
-use Rattle.std.specs.Prelude.{◌∷◌, ◌++◌}
+use Rattle.std.specs.Prelude.{◌∷◌, ◌++◌, Result, Ok, Err}
 use Rattle.choices.specs.{ℕ, List, [], Bool, true, false, length, set, take}
 use Rattle.cdr.specs.{Index, Place, Order}
 use Rattle.type_kinds.specs.{Kind, Form, Unlisted, Plain, Bounded, Composite, Layout, written_at}
 use Rattle.type_kinds.specs.declared.Layout.TheVariants.{Objref, Struct, Union, Enum, Sequence, Array, Alias, Exception}
 use Rattle.type_list.specs.Arrays.{kinds_met}
-use Rattle.type_counts.specs.{Refusal, Step, Refused, Next, Count, Wrong, Stands}
+use Rattle.type_counts.specs.{Refusal}
 use Rattle.type_walk.specs.declared.Walk as kept
 use Rattle.type_walk.specs.declared.Walked as left
 
@@ -27,7 +27,7 @@ pub record Walk : Type 0 where
   pub barred : List Bool
 
 pub record Walked : Type 0 where
-  pub step : Step
+  pub step : Result Index Refusal
   pub walk : Walk
 
 abbrev pub seen : kept.Walk → Walk
@@ -62,18 +62,18 @@ unfoldable pub closed_at : Walk → ℕ → Walk
 closed_at w here = record { kinds = w.kinds; barred = set w.barred here false }
 
 abbrev pub refused_as : Refusal → Walk → Walked
-refused_as r w = record { step = Refused r; walk = w }
+refused_as r w = record { step = Err r; walk = w }
 
 abbrev pub goes_on_at : Index → Walk → Walked
-goes_on_at i w = record { step = Next i; walk = w }
+goes_on_at i w = record { step = Ok i; walk = w }
 
-abbrev pub on_step : Step → Walk → (Index → Walked) → Walked
-on_step (Refused r) w f = refused_as r w
-on_step (Next i) w f = f i
+abbrev pub on_step : Result Index Refusal → Walk → (Index → Walked) → Walked
+on_step (Err r) w f = refused_as r w
+on_step (Ok i) w f = f i
 
-abbrev pub count_then : Count → Walk → (ℕ → Index → Walked) → Walked
-count_then (Wrong r) w f = refused_as r w
-count_then (Stands n next) w f = f n next
+abbrev pub count_then : Result (ℕ × Index) Refusal → Walk → (ℕ → Index → Walked) → Walked
+count_then (Err r) w f = refused_as r w
+count_then (Ok (n, next)) w f = f n next
 
 abbrev pub after_type : Walked → (Index → Walk → Walked) → Walked
 after_type c f = on_step c.step c.walk (λ i. f i c.walk)

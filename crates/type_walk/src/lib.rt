@@ -6,14 +6,14 @@ ghost use Rattle.cdr.specs.{octets_limit};
 ghost use Rattle.type_numbers.specs.Kinds.{kinds_limit};
 ghost use Rattle.type_kinds.specs.Parts.{place_before};
 ghost use Rattle.type_list.specs.Arrays.{kinds_met};
-ghost use Rattle.type_walk.specs.Walk.{seen, seen_as};
+ghost use Rattle.type_kinds.specs.declared.Labels.TheVariants.{NoLabels};
+ghost use Rattle.type_unions.specs.Arms.{no_default};
+ghost use Rattle.type_walk.specs.Walk.{seen, seen_as, goes_on_at, on_step, count_then};
 ghost use Rattle.type_walk.specs.Types.{indirection_at, discriminant_at, members_at, labels_at, contents_at, inside_at, type_at, walked_of};
 
 use cdr::{Index, Order, Place, Size};
-use cdr_fields::Field;
-use type_counts::{Count, Part, Refusal, Step};
-use type_fields::{Entry, Switch};
-use type_kinds::{Form, Labels, Layout, Lead, Spot};
+use type_counts::Refusal;
+use type_kinds::{Form, Labels, Layout};
 use type_list::Met;
 
 mod walks;
@@ -28,11 +28,12 @@ pub struct Walk {
 // Where a check goes on, or why it does not; and what it has met.
 #[derive(Clone, Copy)]
 pub struct Walked {
-    pub step: Step,
+    pub step: Result<Index, Refusal>,
     pub walk: Walk,
 }
 
 // Checks octets as a TypeCode in a byte order: where it ends or why it is refused, 42 and 30 to 38 and 40, and the kinds met.
+#[tactic(auto, unfolding(crate::specs::Types::walked_of, choices::specs::Branch::choose))]
 pub fn walk_type(types: &[u8], order: Order) -> Walked
     ensures { seen_as result ≡ walked_of types.now order }
 {
@@ -60,34 +61,29 @@ fn place_before(start: Place, next: Index) -> Place
 }
 
 // Where an indirection leads whose offset stands at an index.
-fn indirection(part: &[u8], start: Place, order: Order, at: Index, walk: Walk) -> Walked
+fn indirection(
+    part: &[u8],
+    start: Place,
+    order: Order,
+    at: Index,
+    walk: Walk,
+) -> Result<Index, Refusal>
     requires { start.0 + length part.now ≤ octets_limit }
-    ensures { seen_as result ≡ indirection_at part.now start order at (seen walk) }
+    ensures { on_step result (seen walk) (λ i. goes_on_at i (seen walk)) ≡ indirection_at part.now start order at (seen walk) }
 {
-    let Field::Value {
-        value: offset,
-        next,
-    } = cdr_fields::read_field(part, at, Size::Four, order)
-    else {
-        return walks::refused(Refusal::Ends, walk);
-    };
-    match type_kinds::target_of(place_before(start, next), offset) {
-        Lead::LeadsTo(place) => walks::target_step(walk, place, next),
-        Lead::Outside => walks::refused(Refusal::BadTarget, walk),
-    }
+    let (offset, next) = cdr_fields::read_field(part, at, Size::Four, order).ok_or(Refusal::Ends)?;
+    let place = type_kinds::target_of(place_before(start, next), offset).ok_or(Refusal::BadTarget)?;
+    walks::target_step(walk, place, next)
 }
 
 // What the discriminant at an index says of labels.
+#[tactic(auto, unfolding(crate::specs::Types::labels_at))]
 fn labels_at(types: &[u8], met: Met, start: Place, at: Index, order: Order) -> Labels
     ensures { result ≡ labels_at types.now (kinds_met met) start at order }
 {
     match type_kinds::spot_at(types, start, at, order) {
-        Spot::TypeAt { inner, next: _ } => type_unions::labels_for(
-            types,
-            met,
-            type_kinds::place_in(inner),
-        ),
-        Spot::NoType => Labels::NoLabels,
+        Some((inner, _)) => type_unions::labels_for(types, met, type_kinds::place_in(inner)),
+        None => Labels::NoLabels,
     }
 }
 
@@ -105,18 +101,17 @@ fn check(
     requires { start.0 + length part.now ≤ octets_limit }
     ensures { seen_as result ≡ type_at types.now left part.now start order at (seen walk) }
 {
-    let Field::Value { value: kind, next } = cdr_fields::read_field(part, at, Size::Four, order)
-    else {
+    let Some((kind, next)) = cdr_fields::read_field(part, at, Size::Four, order) else {
         return walks::refused(Refusal::Ends, walk);
     };
     if kind == type_numbers::INDIRECTION {
-        return indirection(part, start, order, next, walk);
+        return walks::on(indirection(part, start, order, next, walk), walk);
     }
     let form = type_kinds::form_of(kind);
     let here = walks::count(walk);
     match type_fields::entry_of(form, kind, left, here) {
-        Entry::NoEntry(refusal) => walks::refused(refusal, walk),
-        Entry::Enters => {
+        Err(refusal) => walks::refused(refusal, walk),
+        Ok(()) => {
             let place = place_before(start, next);
             let entered = walks::enter(walk, place, start, order, form);
             inside(
@@ -155,12 +150,8 @@ fn inside(
         Form::Plain => walks::goes_on(at, walks::close(walk, here)),
         Form::Bounded => walks::bounded(part, order, at, walk, here),
         Form::Composite(layout) => match type_parts::part_at(part, at, order) {
-            Part::NoPart(refusal) => walks::refused(refusal, walk),
-            Part::Inside {
-                start: from,
-                end,
-                order: o,
-            } => {
+            Err(refusal) => walks::refused(refusal, walk),
+            Ok((from, end, o)) => {
                 let first = Place(start.0 + from);
                 let walked = parameters(types, layout, &part[from..end], first, o, left, walk);
                 walks::ended(walked, here, end - from, end)
@@ -186,40 +177,14 @@ fn parameters(
     match layout {
         Layout::Objref => walks::on(type_counts::names_step(part, order), walk),
         Layout::Enum => walks::on(type_parts::enum_step(part, order), walk),
-        Layout::Struct => match type_counts::head_step(part, order) {
-            Count::Wrong(refusal) => walks::refused(refusal, walk),
-            Count::Stands { count, next } => {
-                member_types(
-                    types,
-                    Labels::NoLabels,
-                    type_unions::NO_DEFAULT,
-                    part,
-                    start,
-                    order,
-                    next,
-                    count,
-                    left,
-                    walk,
-                )
-            }
-        },
-        Layout::Exception => match type_counts::exception_step(part, order) {
-            Count::Wrong(refusal) => walks::refused(refusal, walk),
-            Count::Stands { count, next } => {
-                member_types(
-                    types,
-                    Labels::NoLabels,
-                    type_unions::NO_DEFAULT,
-                    part,
-                    start,
-                    order,
-                    next,
-                    count,
-                    left,
-                    walk,
-                )
-            }
-        },
+        Layout::Struct => {
+            let head = type_counts::head_step(part, order);
+            unlabelled(types, head, part, start, order, left, walk)
+        }
+        Layout::Exception => {
+            let head = type_counts::exception_step(part, order);
+            unlabelled(types, head, part, start, order, left, walk)
+        }
         Layout::Sequence => {
             let walked = check(types, part, start, order, Index(1), left, walk);
             walks::then_number(part, order, walked)
@@ -229,13 +194,45 @@ fn parameters(
             walks::then_length(part, order, walked)
         }
         Layout::Alias => match type_counts::names_step(part, order) {
-            Step::Refused(refusal) => walks::refused(refusal, walk),
-            Step::Next(i) => check(types, part, start, order, i, left, walk),
+            Err(refusal) => walks::refused(refusal, walk),
+            Ok(i) => check(types, part, start, order, i, left, walk),
         },
         Layout::Union => match type_counts::names_step(part, order) {
-            Step::Refused(refusal) => walks::refused(refusal, walk),
-            Step::Next(i) => switched(types, part, start, order, i, left, walk),
+            Err(refusal) => walks::refused(refusal, walk),
+            Ok(i) => switched(types, part, start, order, i, left, walk),
         },
+    }
+}
+
+// Members without labels, behind a head that tells their number.
+#[cycle(walk)]
+fn unlabelled(
+    types: &[u8],
+    head: Result<(u64, Index), Refusal>,
+    part: &[u8],
+    start: Place,
+    order: Order,
+    left: u8,
+    walk: Walk,
+) -> Walked
+    requires { start.0 + length part.now ≤ octets_limit }
+    ensures { seen_as result ≡ count_then head (seen walk) (λ n next. members_at types.now (type_at types.now left) NoLabels no_default part.now
+        start order next n 0 next (seen walk)) }
+{
+    match head {
+        Err(refusal) => walks::refused(refusal, walk),
+        Ok((count, next)) => member_types(
+            types,
+            Labels::NoLabels,
+            type_unions::NO_DEFAULT,
+            part,
+            start,
+            order,
+            next,
+            count,
+            left,
+            walk,
+        ),
     }
 }
 
@@ -255,19 +252,13 @@ fn switched(
 {
     let walked = check(types, part, start, order, at, left, walk);
     let w = walked.walk;
-    let met = w.met;
-    let step = walked.step;
-    match step {
-        Step::Refused(refusal) => walks::refused(refusal, w),
-        Step::Next(i) => {
-            let labels = labels_at(types, met, start, at, order);
+    match walked.step {
+        Err(refusal) => walks::refused(refusal, w),
+        Ok(i) => {
+            let labels = labels_at(types, w.met, start, at, order);
             match walks::switch_head(labels, part, i, order) {
-                Switch::NoSwitch(refusal) => walks::refused(refusal, w),
-                Switch::Cases {
-                    default,
-                    count,
-                    next,
-                } => member_types(
+                Err(refusal) => walks::refused(refusal, w),
+                Ok((default, count, next)) => member_types(
                     types, labels, default, part, start, order, next, count, left, w,
                 ),
             }
@@ -295,28 +286,24 @@ fn member_types(
 {
     let mut w = walk;
     let mut at = first;
-    let mut k: u64 = 0;
-    while k < count {
-        let name = walks::name_after(labels, types, part, start, order, default, k, first, at);
-        match name {
-            Step::Refused(refusal) => {
+    for k in 0..count {
+        match walks::name_after(labels, types, part, start, order, default, k, first, at) {
+            Err(refusal) => {
                 return walks::refused(refusal, w);
             }
-            Step::Next(i) => {
+            Ok(i) => {
                 let walked = check(types, part, start, order, i, left, w);
-                let step = walked.step;
                 w = walked.walk;
-                match step {
-                    Step::Refused(refusal) => {
+                match walked.step {
+                    Err(refusal) => {
                         return walks::refused(refusal, w);
                     }
-                    Step::Next(next) => {
+                    Ok(next) => {
                         at = next;
                     }
                 }
             }
         }
-        k += 1;
     }
     walks::goes_on(at, w)
 }

@@ -8,10 +8,9 @@ ghost use Rattle.type_counts.specs.Counts.{number_step, length_step};
 
 use crate::{Walk, Walked};
 use cdr::{Index, Order, Place};
-use type_counts::{Refusal, Step};
-use type_fields::Switch;
+use type_counts::Refusal;
 use type_kinds::{Form, Labels, Layout};
-use type_list::{Met, Position};
+use type_list::Met;
 
 // No kind met.
 pub(crate) fn nothing_met() -> Walk
@@ -28,7 +27,7 @@ pub(crate) fn refused(refusal: Refusal, walk: Walk) -> Walked
     ensures { seen_as result ≡ refused_as refusal (seen walk) }
 {
     Walked {
-        step: Step::Refused(refusal),
+        step: Err(refusal),
         walk,
     }
 }
@@ -37,14 +36,11 @@ pub(crate) fn refused(refusal: Refusal, walk: Walk) -> Walked
 pub(crate) fn goes_on(at: Index, walk: Walk) -> Walked
     ensures { seen_as result ≡ goes_on_at at (seen walk) }
 {
-    Walked {
-        step: Step::Next(at),
-        walk,
-    }
+    Walked { step: Ok(at), walk }
 }
 
 // The check goes on after a step, or ends.
-pub(crate) fn on(step: Step, walk: Walk) -> Walked
+pub(crate) fn on(step: Result<Index, Refusal>, walk: Walk) -> Walked
     ensures { seen_as result ≡ on_step step (seen walk) (λ i. goes_on_at i (seen walk)) }
 {
     Walked { step, walk }
@@ -54,50 +50,32 @@ pub(crate) fn on(step: Step, walk: Walk) -> Walked
 pub(crate) fn count(walk: Walk) -> usize
     ensures { result ≡ length (seen walk).kinds }
 {
-    let met = walk.met;
-    type_list::held_in(met.count)
+    type_list::held_in(walk.met.count)
 }
 
 // Whether the kind at a position is no target yet.
 fn barred_at(barred: [bool; type_numbers::KINDS_LIMIT], i: usize) -> bool
     ensures { result ≡ get_or barred i false }
 {
-    if i < type_numbers::KINDS_LIMIT {
-        barred[i]
-    } else {
-        false
-    }
+    i < type_numbers::KINDS_LIMIT && barred[i]
 }
 
 // The target of an indirection is judged.
-pub(crate) fn target_step(walk: Walk, place: Place, next: Index) -> Walked
-    ensures { seen_as result ≡ target_step (seen walk) place next }
+pub(crate) fn target_step(walk: Walk, place: Place, next: Index) -> Result<Index, Refusal>
+    ensures { on_step result (seen walk) (λ i. goes_on_at i (seen walk)) ≡ target_step (seen walk) place next }
 {
-    let met = walk.met;
-    let barred = walk.barred;
-    let Position::IsAt(i) = met.position(place) else {
-        return refused(Refusal::BadTarget, walk);
-    };
-    if barred_at(barred, i) {
-        return refused(Refusal::BadTarget, walk);
+    let i = walk.met.position(place).ok_or(Refusal::BadTarget)?;
+    if barred_at(walk.barred, i) {
+        return Err(Refusal::BadTarget);
     }
-    goes_on(next, walk)
+    Ok(next)
 }
 
 // Whether a kind of a layout is no target while it is read.
 fn layout_barred(layout: Layout) -> bool
     ensures { result ≡ layout_barred layout }
 {
-    match layout {
-        Layout::Objref => true,
-        Layout::Struct => false,
-        Layout::Union => false,
-        Layout::Enum => true,
-        Layout::Sequence => true,
-        Layout::Array => true,
-        Layout::Alias => true,
-        Layout::Exception => true,
-    }
+    !matches!(layout, Layout::Struct | Layout::Union)
 }
 
 // Whether a kind of a form is no target while it is read.
@@ -105,9 +83,7 @@ fn is_barred(form: Form) -> bool
     ensures { result ≡ is_barred form }
 {
     match form {
-        Form::Unlisted => true,
-        Form::Plain => true,
-        Form::Bounded => true,
+        Form::Unlisted | Form::Plain | Form::Bounded => true,
         Form::Composite(layout) => layout_barred(layout),
     }
 }
@@ -144,26 +120,22 @@ pub(crate) fn bounded(part: &[u8], order: Order, at: Index, walk: Walk, here: us
     ensures { seen_as result ≡ on_step (number_step part.now at order) (seen walk) (λ next. goes_on_at next (closed_at (seen walk) here)) }
 {
     match type_counts::number_step(part, at, order) {
-        Step::Refused(refusal) => refused(refusal, walk),
-        Step::Next(next) => goes_on(next, close(walk, here)),
+        Err(refusal) => refused(refusal, walk),
+        Ok(next) => goes_on(next, close(walk, here)),
     }
 }
 
 // The parameters have to end with their encapsulation.
+#[tactic(auto, unfolding(crate::specs::Types::ended_at))]
 pub(crate) fn ended(walked: Walked, here: usize, length: usize, end: usize) -> Walked
     requires { here < kinds_limit }
     ensures { seen_as result ≡ ended_at here length end (seen_as walked) }
 {
     let walk = walked.walk;
-    let step = walked.step;
-    match step {
-        Step::Refused(refusal) => refused(refusal, walk),
-        Step::Next(i) => {
-            if i.0 == length {
-                return goes_on(Index(end), close(walk, here));
-            }
-            refused(Refusal::BadEncapsulation, walk)
-        }
+    match walked.step {
+        Err(refusal) => refused(refusal, walk),
+        Ok(i) if i.0 == length => goes_on(Index(end), close(walk, here)),
+        Ok(_) => refused(Refusal::BadEncapsulation, walk),
     }
 }
 
@@ -171,27 +143,28 @@ pub(crate) fn ended(walked: Walked, here: usize, length: usize, end: usize) -> W
 pub(crate) fn then_number(part: &[u8], order: Order, walked: Walked) -> Walked
     ensures { seen_as result ≡ after_type (seen_as walked) (λ i w. on_step (number_step part.now i order) w (λ next. goes_on_at next w)) }
 {
-    let walk = walked.walk;
-    let step = walked.step;
-    match step {
-        Step::Refused(refusal) => refused(refusal, walk),
-        Step::Next(i) => on(type_counts::number_step(part, i, order), walk),
-    }
+    on(
+        walked
+            .step
+            .and_then(|i| type_counts::number_step(part, i, order)),
+        walked.walk,
+    )
 }
 
 // The length after an array's type.
 pub(crate) fn then_length(part: &[u8], order: Order, walked: Walked) -> Walked
     ensures { seen_as result ≡ after_type (seen_as walked) (λ i w. on_step (length_step part.now i order) w (λ next. goes_on_at next w)) }
 {
-    let walk = walked.walk;
-    let step = walked.step;
-    match step {
-        Step::Refused(refusal) => refused(refusal, walk),
-        Step::Next(i) => on(type_counts::length_step(part, i, order), walk),
-    }
+    on(
+        walked
+            .step
+            .and_then(|i| type_counts::length_step(part, i, order)),
+        walked.walk,
+    )
 }
 
 // A member's name behind its label.
+#[tactic(auto, unfolding(crate::specs::Types::name_step))]
 pub(crate) fn name_after(
     labels: Labels,
     types: &[u8],
@@ -202,21 +175,24 @@ pub(crate) fn name_after(
     done: u64,
     first: Index,
     at: Index,
-) -> Step
+) -> Result<Index, Refusal>
     ensures { result ≡ name_step labels types.now part.now start order default done first at }
 {
-    match type_fields::label_step(labels, types, part, start, order, default, done, first, at) {
-        Step::Refused(refusal) => Step::Refused(refusal),
-        Step::Next(i) => type_counts::text_step(part, i, order),
-    }
+    let i = type_fields::label_step(labels, types, part, start, order, default, done, first, at)?;
+    type_counts::text_step(part, i, order)
 }
 
 // Default and count of a union, if its discriminant may be one.
-pub(crate) fn switch_head(labels: Labels, part: &[u8], at: Index, order: Order) -> Switch
+pub(crate) fn switch_head(
+    labels: Labels,
+    part: &[u8],
+    at: Index,
+    order: Order,
+) -> Result<(u64, u64, Index), Refusal>
     ensures { result ≡ switch_head labels part.now at order }
 {
     match labels {
-        Labels::NoLabels => Switch::NoSwitch(Refusal::BadUnion),
-        Labels::Of { size: _, limit: _ } => type_fields::switch_step(part, at, order),
+        Labels::NoLabels => Err(Refusal::BadUnion),
+        Labels::Of { .. } => type_fields::switch_step(part, at, order),
     }
 }

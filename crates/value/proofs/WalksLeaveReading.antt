@@ -1,4 +1,5 @@
 -- What the walks over a value leave: the reading's numbers, and its items in the table.
+use Rattle.std.specs.Prelude.{Result, Ok, Err}
 use mathlib.Core.Path.{◌≡◌, sym, ap, subst, ◌∙◌}
 use mathlib.Core.List.{List, [], ◌∷◌}
 use mathlib.Core.Bool.{true, false}
@@ -7,6 +8,7 @@ use native.Mathlib.Omega.{arith}
 use lib.ListN.{length, get_or}
 use borrow.Author.Tests.{eq-eqb, ne_eqb, lt-ltb, le-ltb}
 use Rattle.choices.specs.Branch.{choose}
+use Rattle.value_items.specs.declared.ItemValue.{ItemValue}
 use Rattle.value_items.specs.Items.{item_of}
 use Rattle.value_meaning.specs.declared.ValueAnswer.{ValueAnswer}
 use Rattle.value_meaning.specs.declared.ValueAnswer.TheVariants.{Accepted, Refused}
@@ -19,7 +21,6 @@ use Rattle.value_cursor.specs.declared.Cursor.{Cursor}
 use Rattle.value_cursor.specs.Lent.{lent_sink}
 use Rattle.value_cursor.specs.Walk.{state_of, cursor_start}
 use Rattle.value_leaves.proofs.ItemsInTable.{filled, row, picked}
-use Rattle.value.specs.declared.ItemAnswer.TheVariants.{Given, Refused as refused_item}
 use Rattle.value.specs.Single.{given_by}
 use Rattle.value_typed.specs.Typed.{FitsWords}
 use Rattle.value_typed.proofs.AfterWalk.{after-walk}
@@ -74,24 +75,24 @@ module _ (t : Checked) (x : Source) (bounded : FitsWords t x) where
     abbrev whole : St Log
     whole = reading any_room x t
 
-    pub picked-refused : (c.fault ≡ 0 → ⊥) → refused_item c.fault ≡ given_by whole n
+    pub picked-refused : (c.fault ≡ 0 → ⊥) → ◌≡◌ {A = Result ItemValue ℕ} (Err c.fault) (given_by whole n)
     unfolding given_by choose
     picked-refused z =
         let w = after-walk t x bounded false true n (0 ∷ 0 ∷ 0 ∷ []) c after e in
-        ap refused_item w.fault ∙ sym (rw (ne_eqb whole.fault 0 (λ y. z (w.fault ∙ y))))
+        ap Err w.fault ∙ sym (rw (ne_eqb whole.fault 0 (λ y. z (w.fault ∙ y))))
 
-    pub picked_none : c.fault ≡ 0 → c.items ≤ n → refused_item 49 ≡ given_by whole n
+    pub picked_none : c.fault ≡ 0 → c.items ≤ n → ◌≡◌ {A = Result ItemValue ℕ} (Err 49) (given_by whole n)
     unfolding given_by choose
     picked_none z h =
         let w = after-walk t x bounded false true n (0 ∷ 0 ∷ 0 ∷ []) c after e in
         let l : length whole.kept.items ≤ n = let i = w.items in omega arith in
         sym (rw (eq-eqb whole.fault 0 (sym w.fault ∙ z), le-ltb n (length whole.kept.items) l))
 
-    pub picked-item : c.fault ≡ 0 → n < c.items → Given (item_of (get_or after 0 0) (get_or after 2 0)) ≡ given_by whole n
+    pub picked-item : c.fault ≡ 0 → n < c.items → ◌≡◌ {A = Result ItemValue ℕ} (Ok (item_of (get_or after 0 0) (get_or after 2 0))) (given_by whole n)
     unfolding given_by choose
     picked-item z h =
         let w = after-walk t x bounded false true n (0 ∷ 0 ∷ 0 ∷ []) c after e in
         let l : n < length whole.kept.items = let i = w.items in omega arith in
         let p : after ≡ row (item_no whole.kept.items n) = w.rows ∙ picked n whole.kept.items l in
-        ap (λ (r : List ℕ). Given (item_of (get_or r 0 0) (get_or r 2 0))) p
+        ap (λ (r : List ℕ). Ok (item_of (get_or r 0 0) (get_or r 2 0))) p
         ∙ sym (rw (eq-eqb whole.fault 0 (sym w.fault ∙ z), lt-ltb n (length whole.kept.items) l))

@@ -16,14 +16,6 @@ use type_list::Met;
 use value_cursor::Mode;
 use value_items::ItemValue;
 use value_meaning::ValueAnswer;
-use value_typed::Judged;
-
-// What a single item asked for by its number is, or 01's number of the refusal.
-#[derive(Clone, Copy)]
-pub enum ItemAnswer {
-    Given(ItemValue),
-    Refused(u32),
-}
 
 // Reads a value into the table, three numbers an item; a refusal leaves it as it was.
 pub fn read_value(
@@ -38,15 +30,13 @@ pub fn read_value(
         × (table.new ≡ table_after types.now torder (source value.now order start) table.old) }
 {
     let c = value_typed::check(types, torder, value.len());
-    let met = c.met;
-    let judged = c.judged;
-    match judged {
-        Judged::Accepted => read_into(types, met, value, order, start, table),
-        Judged::Refused(number) => ValueAnswer::Refused { number, visits: 0 },
+    match c.judged {
+        Ok(()) => read_into(types, c.met, value, order, start, table),
+        Err(number) => ValueAnswer::Refused { number, visits: 0 },
     }
 }
 
-// Reads a value for the item of a number, counted from 0.
+// Reads a value for the item of a number, counted from 0, or 01's number of the refusal.
 pub fn read_item(
     types: &[u8],
     torder: Order,
@@ -54,16 +44,12 @@ pub fn read_item(
     order: Order,
     start: Index,
     number: u64,
-) -> ItemAnswer
+) -> Result<ItemValue, u32>
     ensures { result ≡ item_answer types.now torder (source value.now order start) number }
 {
     let c = value_typed::check(types, torder, value.len());
-    let met = c.met;
-    let judged = c.judged;
-    match judged {
-        Judged::Accepted => pick(types, met, value, order, start, number),
-        Judged::Refused(refusal) => ItemAnswer::Refused(refusal),
-    }
+    c.judged?;
+    pick(types, c.met, value, order, start, number)
 }
 
 // Reads under a checked type: a first walk finds a refusal, and a second one fills the table.
@@ -93,11 +79,8 @@ fn read_into(
         };
     }
     let filling = Mode {
-        order,
-        start,
-        limited: true,
         fill: true,
-        first: 0,
+        ..looking
     };
     let d = value_walk::walk(types, met, value, filling, table);
     ValueAnswer::Accepted {
@@ -108,7 +91,14 @@ fn read_into(
 }
 
 // Reads under a checked type for one item, which goes into a row of its own.
-fn pick(types: &[u8], met: Met, value: &[u8], order: Order, start: Index, number: u64) -> ItemAnswer
+fn pick(
+    types: &[u8],
+    met: Met,
+    value: &[u8],
+    order: Order,
+    start: Index,
+    number: u64,
+) -> Result<ItemValue, u32>
     requires { FitsWords (checked types.now (kinds_met met)) (source value.now order start) }
     ensures { result ≡ given_by (reading any_room (source value.now order start) (checked types.now (kinds_met met))) number }
 {
@@ -122,10 +112,10 @@ fn pick(types: &[u8], met: Met, value: &[u8], order: Order, start: Index, number
     };
     let c = value_walk::walk(types, met, value, picking, &mut row);
     if c.fault != 0 {
-        return ItemAnswer::Refused(c.fault);
+        return Err(c.fault);
     }
     if c.items as u64 <= number {
-        return ItemAnswer::Refused(refusals::NO_SUCH_ITEM);
+        return Err(refusals::NO_SUCH_ITEM);
     }
-    ItemAnswer::Given(value_items::item_of(row[0], row[2]))
+    Ok(value_items::item_of(row[0], row[2]))
 }

@@ -7,7 +7,7 @@ ghost use Rattle.value_meaning.specs.Sinks.{failed, begun};
 ghost use Rattle.value_meaning.specs.Visit.{size_of, content_of};
 ghost use Rattle.value_cursor.specs.Walk.{sink_of, state_of, cursor_start};
 
-use cdr::{Index, Order, Read, Size};
+use cdr::{Index, Order, Size};
 
 // What holds of a whole walk: order and starting index of the value; whether no more items are taken than the table has room for, whether
 // they go into it, and the number of the item that goes first.
@@ -49,11 +49,8 @@ impl Cursor {
         ensures { (table : List ℕ) → state_of result table ≡ failed number (state_of self table) }
     {
         Cursor {
-            at: self.at,
-            visits: self.visits,
-            items: self.items,
             fault: number,
-            last: self.last,
+            ..self
         }
     }
 
@@ -62,61 +59,41 @@ impl Cursor {
         ensures { (m : Mode) (table : List ℕ) → state_of result table ≡ begun (sink_of m) (state_of self table) }
     {
         Cursor {
-            at: self.at,
-            visits: std::num::wrapping_add_u64(self.visits, 1),
-            items: self.items,
-            fault: self.fault,
-            last: self.last,
+            visits: self.visits.wrapping_add(1),
+            ..self
         }
     }
 }
 
 // The number of a size that starts at or after an octet.
-pub fn number_at(value: &[u8], mode: Mode, at: usize, size: Size) -> Read
+pub fn number_at(value: &[u8], mode: Mode, at: usize, size: Size) -> Option<(usize, u64)>
     ensures { result ≡ read_of value.now mode.start at size mode.order }
 {
-    let start = mode.start;
-    let order = mode.order;
-    cdr::read_number(value, start, at, size, order)
+    cdr::read_number(value, mode.start, at, size, mode.order)
 }
 
 // The size of a primitive.
+#[tactic(auto, unfolding(value_meaning::specs::Visit::size_of))]
 pub fn size_of(kind: u64) -> Size
     ensures { result ≡ size_of kind }
 {
-    if kind == type_numbers::SHORT {
-        return Size::Two;
+    match kind {
+        type_numbers::SHORT | type_numbers::USHORT => Size::Two,
+        type_numbers::LONG | type_numbers::ULONG | type_numbers::FLOAT => Size::Four,
+        type_numbers::DOUBLE | type_numbers::LONG_LONG | type_numbers::UNSIGNED_LONG_LONG =>
+            Size::Eight,
+        _ => Size::One,
     }
-    if kind == type_numbers::USHORT {
-        return Size::Two;
-    }
-    if kind == type_numbers::LONG {
-        return Size::Four;
-    }
-    if kind == type_numbers::ULONG {
-        return Size::Four;
-    }
-    if kind == type_numbers::FLOAT {
-        return Size::Four;
-    }
-    if kind == type_numbers::DOUBLE {
-        return Size::Eight;
-    }
-    if kind == type_numbers::LONG_LONG {
-        return Size::Eight;
-    }
-    if kind == type_numbers::UNSIGNED_LONG_LONG {
-        return Size::Eight;
-    }
-    Size::One
 }
 
 // The content of a primitive.
+#[tactic(auto, unfolding(value_meaning::specs::Visit::content_of))]
 pub fn content_of(kind: u64, value: u64) -> u64
     ensures { result ≡ content_of kind value }
 {
     if value_items::is_signed(kind) {
-        return cdr::sign_extended(size_of(kind), value);
+        cdr::sign_extended(size_of(kind), value)
+    } else {
+        value
     }
-    value
 }

@@ -1,18 +1,16 @@
--- Items: signed numbers and their two's complement, floats and their patterns, and every item has its content's bits.
-use mathlib.Core.Path.{◌≡◌, refl, sym, ap, subst, subst⁻¹, ◌∙◌}
+-- Items: signed numbers, floats and their patterns, and every item has its content's bits.
+use mathlib.Core.Path.{◌≡◌, refl, sym, ap, subst⁻¹, ◌∙◌}
 use mathlib.Core.Bool.{Bool, true, false, not, cond, false≢true}
 use Prim.Native.Nat.{ℕ, suc, ◌-◌, ◌*◌, ◌%◌, ◌^◌, ◌<◌, ◌≤◌}
 use native.Mathlib.Nat.{mod-eq_of_lt}
 use native.Mathlib.Omega.{arith}
-use borrow.Author.Tests.{leb-false, lt-ltb, le-ltb, eqb-true, ne_eqb}
+use borrow.Author.Tests.{lt-ltb, le-ltb, eqb-true, ne_eqb}
 use lib.Dec.{T, ltb, eqb}
-use lib.IntN.{ℤ, pos, negsuc, nat_abs}
-use lib.Signed.{le_z, non_neg}
+use lib.IntN.{pos, negsuc}
 use lib.Ieee.{Float, nan, inf, fin, Format, binary32, binary64, hid, ones, top, is_nan, of_bits, nan_bits, div}
 use lib.Ieee.Bits.{nan_bits_is, nan_bits_above}
 use mir.Syntax.{w64}
-use mir.Val.{SFits, to_z, of_z, sel}
-use mir.ValLaws.{to_z_pos, to_z-of_z}
+use mir.Val.{to_z, sel}
 use Rattle.choices.proofs.Choices.{chosen}
 use Rattle.type_numbers.specs.Kinds.{float_kind, double_kind}
 use Rattle.value_items.specs.declared.ItemValue.{ItemValue}
@@ -29,43 +27,6 @@ machine-signed content = go (ltb content (2 ^ 63))
     go : (b : Bool) → sel b (pos content) (negsuc (2 ^ 64 - suc content)) ≡ cond b (pos content) (negsuc (2 ^ 64 - 1 - content))
     go true = refl
     go false = ap negsuc less_one
-
--- a two's complement has 64 bits
-complement-small : (x : ℤ) → SFits w64 x → complement_of x < 2 ^ 64
-complement-small (pos n) h = let s : n < 2 ^ 63 = h.sfits in omega arith
-complement-small (negsuc n) h = omega arith
-
--- a number that the machine finds not to be negative is its own two's complement
-pub record Above (z x : ℤ) : Type 0 where
-  pub above : T (non_neg z)
-  pub value : nat_abs z ≡ complement_of x
-  pub small : nat_abs z < 2 ^ 64
-
-above-by : (x : ℤ) → SFits w64 x → le_z (pos 0) x ≡ true → Above x x
-above-by (pos n) h e = record { above = tt; value = refl; small = complement-small (pos n) h }
-above-by (negsuc n) h e = absurd (false≢true e)
-
-pub complement-above : (x : ℤ) → SFits w64 x → le_z (pos 0) (to_z w64 (of_z w64 x)) ≡ true → Above (to_z w64 (of_z w64 x)) x
-complement-above x h = rw (to_z-of_z w64 x h) (above-by x h)
-
--- the bits of any other, each turned, are a number that is not negative: what its two's complement lacks of the largest
-pub record Below (z x : ℤ) : Type 0 where
-  pub value : z ≡ pos (2 ^ 64 - 1 - complement_of x)
-  pub small : complement_of x < 2 ^ 64
-
-below_by : (x : ℤ) → SFits w64 x → le_z (pos 0) x ≡ false → to_z w64 (2 ^ 64 - 1 - of_z w64 x) ≡ pos (2 ^ 64 - 1 - complement_of x)
-below_by (pos n) h e = let l = leb-false 0 n e in absurd (omega arith)
-below_by (negsuc n) h e =
-    let s : n < 2 ^ 63 = h.sfits in
-    let t : 2 ^ 64 - 1 - (2 ^ 64 - suc n) ≡ n = omega arith in
-    ap (to_z w64) t ∙ to_z_pos w64 n s ∙ ap pos (sym t)
-
-pub complement-below : (x : ℤ) → SFits w64 x → le_z (pos 0) (to_z w64 (of_z w64 x)) ≡ false → Below (to_z w64 (2 ^ 64 - 1 - of_z w64 x)) x
-complement-below x h e =
-    record {
-      value = below_by x h (subst (λ (z : ℤ). le_z (pos 0) z ≡ false) (to_z-of_z w64 x h) e);
-      small = complement-small x h;
-    }
 
 -- both ways to a NaN: by its test, and by zero divided by zero
 is-nan : (x : Float) → is_nan x ≡ true → x ≡ nan

@@ -5,7 +5,7 @@
 ghost use Rattle.std.specs.Prelude.{◌≡◌};
 ghost use Rattle.std.specs.Float.{binary32, binary64};
 ghost use Rattle.std.specs.Float.Ieee.{of_bits};
-ghost use Rattle.value_items.specs.Items.{signed_kind, signed_of, complement_of, single_of, item_of, item_case, bits_of};
+ghost use Rattle.value_items.specs.Items.{signed_kind, single_of, item_of, item_case, bits_of};
 
 // What an item is; a float has the recorded bits beside it.
 #[derive(Clone, Copy)]
@@ -21,7 +21,7 @@ pub fn item_of(kind: u64, content: u64) -> ItemValue
     ensures { result ≡ item_of kind content }
 {
     if is_signed(kind) {
-        return ItemValue::Signed(signed(content));
+        return ItemValue::Signed(content.cast_signed());
     }
     match kind {
         type_numbers::FLOAT => single_of(content),
@@ -37,7 +37,10 @@ pub fn item_of(kind: u64, content: u64) -> ItemValue
 pub fn is_signed(kind: u64) -> bool
     ensures { result ≡ signed_kind kind }
 {
-    kind == type_numbers::SHORT || (kind == type_numbers::LONG || kind == type_numbers::LONG_LONG)
+    matches!(
+        kind,
+        type_numbers::SHORT | type_numbers::LONG | type_numbers::LONG_LONG
+    )
 }
 
 // The single float of the content's last 32 bits.
@@ -48,29 +51,6 @@ fn single_of(content: u64) -> ItemValue
     ItemValue::Single {
         bits,
         value: single(bits),
-    }
-}
-
-// The number whose two's complement the content is.
-fn signed(content: u64) -> i64
-    ensures { result ≡ signed_of content }
-{
-    if content < 9223372036854775808 {
-        content as i64
-    } else {
-        // A cast of an unsigned number is never negative, so the bits are turned before it and back after it.
-        !((u64::MAX - content) as i64)
-    }
-}
-
-// The two's complement of a number.
-fn complement(x: i64) -> u64
-    ensures { result ≡ complement_of x }
-{
-    if x >= 0 {
-        x as u64
-    } else {
-        u64::MAX - (!x as u64)
     }
 }
 
@@ -105,8 +85,8 @@ impl ItemValue {
         match self {
             ItemValue::Signed(_) => 0,
             ItemValue::Unsigned(_) => 1,
-            ItemValue::Single { bits: _, value: _ } => 2,
-            ItemValue::Double { bits: _, value: _ } => 3,
+            ItemValue::Single { .. } => 2,
+            ItemValue::Double { .. } => 3,
         }
     }
 
@@ -115,10 +95,10 @@ impl ItemValue {
         ensures { result ≡ bits_of self }
     {
         match self {
-            ItemValue::Signed(x) => complement(x),
+            ItemValue::Signed(x) => x.cast_unsigned(),
             ItemValue::Unsigned(x) => x,
-            ItemValue::Single { bits, value: _ } => bits as u64,
-            ItemValue::Double { bits, value: _ } => bits,
+            ItemValue::Single { bits, .. } => u64::from(bits),
+            ItemValue::Double { bits, .. } => bits,
         }
     }
 }

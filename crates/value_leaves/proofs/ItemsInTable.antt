@@ -1,8 +1,8 @@
 -- The readers' sink beside the log: the same places, refusals and visits, as many items, and those items in the table.
+use Rattle.std.specs.Prelude.{Some}
 use Rattle.std.proofs.Common.{◌≡◌, ℕ, zero, suc, ◌+◌, ◌-◌, ◌*◌, ◌/◌, ◌%◌, ◌^◌, ◌<◌, ◌≤◌, Bool, true, false, cond, ◌&&◌, ltb, leb, List, [], ◌∷◌, ◌++◌, length, take, drop, sym, refl, ap, ◌∙◌, subst, arith, length-append, length-set, le-ltb, lt-ltb, le-leb}
 use lib.Seq.{sets}
 use borrow.Author.Tests.{lt-leb}
-use Rattle.cdr.specs.declared.Read.TheVariants.{Number}
 use Rattle.cdr.specs.Number.{read_of}
 use Rattle.value_meaning.specs.Sinks.{Source, Item, item, St, st, taken}
 use Rattle.value_meaning.specs.Visit.{Checked}
@@ -126,7 +126,7 @@ module _ (limited fill : Bool) (first : ℕ) (x : Source) (table : List ℕ) whe
         };
     by_number = λ size p n s s' r g e. record {
       second = p;
-      read = subst (λ (a : ℕ). read_of x.octets x.start a size x.order ≡ Number p n) (sym r.at) g;
+      read = subst (λ (a : ℕ). read_of x.octets x.start a size x.order ≡ Some (p, n)) (sym r.at) g;
       place = refl;
       then = record { at = refl; fault = r.fault; last = refl; visits = r.visits; items = r.items; rows = r.rows };
     };

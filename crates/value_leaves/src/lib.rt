@@ -7,7 +7,7 @@ ghost use Rattle.value_meaning.specs.Sinks.{number, taken};
 ghost use Rattle.value_meaning.specs.Visit.{leaf_at, enum_at, text_at, count_at, objref_at, inert_at};
 ghost use Rattle.value_cursor.specs.Walk.{sink_of, source_of, state_of};
 
-use cdr::{Read, Size};
+use cdr::Size;
 use type_kinds::Inert;
 use value_cursor::{Cursor, Mode};
 
@@ -21,10 +21,8 @@ fn took(cursor: Cursor, next: usize, value: u64) -> Cursor
 {
     Cursor {
         at: next,
-        visits: cursor.visits,
-        items: cursor.items,
-        fault: cursor.fault,
         last: value,
+        ..cursor
     }
 }
 
@@ -37,11 +35,11 @@ pub fn leaf(value: &[u8], mode: Mode, table: &mut [u64], kind: u64, cursor: Curs
     }
     let size = value_cursor::size_of(kind);
     match value_cursor::number_at(value, mode, cursor.at, size) {
-        Read::Number { at, value: number } => {
+        Some((at, number)) => {
             let next = at + size.octets();
             primitives::leaf_done(table, mode, kind, at, number, took(cursor, next, number))
         }
-        Read::Ends => cursor.refused(refusals::VALUE_ENDS),
+        None => cursor.refused(refusals::VALUE_ENDS),
     }
 }
 
@@ -50,7 +48,7 @@ fn enumerated(value: &[u8], mode: Mode, table: &mut [u64], names: u64, cursor: C
     ensures { state_of result table.new ≡ enum_at (sink_of mode) (source_of mode value.now) names (state_of cursor table.old) }
 {
     match value_cursor::number_at(value, mode, cursor.at, Size::Four) {
-        Read::Number { at, value: number } => {
+        Some((at, number)) => {
             if names <= number {
                 return took(cursor, at + 4, number).refused(refusals::NO_SUCH_NAME);
             }
@@ -63,7 +61,7 @@ fn enumerated(value: &[u8], mode: Mode, table: &mut [u64], names: u64, cursor: C
                 took(cursor, at + 4, number),
             )
         }
-        Read::Ends => cursor.refused(refusals::VALUE_ENDS),
+        None => cursor.refused(refusals::VALUE_ENDS),
     }
 }
 
@@ -72,7 +70,7 @@ pub fn text(value: &[u8], mode: Mode, table: &mut [u64], bound: u64, cursor: Cur
     ensures { state_of result table.new ≡ text_at (sink_of mode) (source_of mode value.now) bound (state_of cursor table.old) }
 {
     match value_cursor::number_at(value, mode, cursor.at, Size::Four) {
-        Read::Number { at, value: number } => {
+        Some((at, number)) => {
             references::text_got(
                 value,
                 mode,
@@ -82,7 +80,7 @@ pub fn text(value: &[u8], mode: Mode, table: &mut [u64], bound: u64, cursor: Cur
                 took(cursor, at + 4, number),
             )
         }
-        Read::Ends => cursor.refused(refusals::VALUE_ENDS),
+        None => cursor.refused(refusals::VALUE_ENDS),
     }
 }
 
@@ -91,7 +89,7 @@ pub fn count(value: &[u8], mode: Mode, table: &mut [u64], bound: u64, cursor: Cu
     ensures { state_of result table.new ≡ count_at (sink_of mode) (source_of mode value.now) bound (state_of cursor table.old) }
 {
     match value_cursor::number_at(value, mode, cursor.at, Size::Four) {
-        Read::Number { at, value: number } => {
+        Some((at, number)) => {
             if cdr_text::over_bound(number as usize, bound as usize) {
                 return took(cursor, at + 4, number).refused(refusals::OVER_BOUND);
             }
@@ -104,7 +102,7 @@ pub fn count(value: &[u8], mode: Mode, table: &mut [u64], bound: u64, cursor: Cu
                 took(cursor, at + 4, number),
             )
         }
-        Read::Ends => cursor.refused(refusals::VALUE_ENDS),
+        None => cursor.refused(refusals::VALUE_ENDS),
     }
 }
 

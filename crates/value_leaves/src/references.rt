@@ -5,21 +5,15 @@ ghost use Rattle.value_meaning.specs.Visit.{text_got, tag_at, run_got, run_at, p
 ghost use Rattle.value_cursor.specs.Walk.{sink_of, source_of, state_of};
 
 use crate::rows;
-use cdr::{Read, Size};
-use cdr_text::{Run, Text};
+use cdr::Size;
+use cdr_text::TextFault;
 use value_cursor::{Cursor, Mode};
 
 // Octets are taken as they are.
 fn passed(cursor: Cursor, next: usize) -> Cursor
     ensures { (m : Mode) (table : List ℕ) (p : ℕ) (l : List ℕ) → state_of result table ≡ taken (sink_of m) (run p l) next (state_of cursor table) }
 {
-    Cursor {
-        at: next,
-        visits: cursor.visits,
-        items: cursor.items,
-        fault: cursor.fault,
-        last: cursor.last,
-    }
+    Cursor { at: next, ..cursor }
 }
 
 // A text of so many octets, its final zero among them.
@@ -36,7 +30,7 @@ pub(crate) fn text_got(
 {
     let at = cursor.at;
     match cdr_text::read_text(value, at, length as usize, bound as usize) {
-        Text::Chars(n) => {
+        Ok(n) => {
             let next = at + length as usize;
             rows::put(
                 table,
@@ -47,10 +41,10 @@ pub(crate) fn text_got(
                 passed(cursor, next),
             )
         }
-        Text::Empty => cursor.refused(refusals::BAD_VALUE_TEXT),
-        Text::Over => cursor.refused(refusals::OVER_BOUND),
-        Text::Short => cursor.refused(refusals::VALUE_ENDS),
-        Text::Zeros => {
+        Err(TextFault::Empty) => cursor.refused(refusals::BAD_VALUE_TEXT),
+        Err(TextFault::Over) => cursor.refused(refusals::OVER_BOUND),
+        Err(TextFault::Short) => cursor.refused(refusals::VALUE_ENDS),
+        Err(TextFault::Zeros) => {
             let next = at + length as usize;
             passed(cursor, next).refused(refusals::BAD_VALUE_TEXT)
         }
@@ -62,7 +56,7 @@ fn tag(value: &[u8], mode: Mode, table: &mut [u64], cursor: Cursor) -> Cursor
     ensures { state_of result table.new ≡ tag_at (sink_of mode) (source_of mode value.now) (state_of cursor table.old) }
 {
     match value_cursor::number_at(value, mode, cursor.at, Size::Four) {
-        Read::Number { at, value: number } => rows::put(
+        Some((at, number)) => rows::put(
             table,
             mode,
             type_numbers::ULONG,
@@ -70,7 +64,7 @@ fn tag(value: &[u8], mode: Mode, table: &mut [u64], cursor: Cursor) -> Cursor
             number,
             crate::took(cursor, at + 4, number),
         ),
-        Read::Ends => cursor.refused(refusals::VALUE_ENDS),
+        None => cursor.refused(refusals::VALUE_ENDS),
     }
 }
 
@@ -81,7 +75,7 @@ fn run_got(value: &[u8], mode: Mode, table: &mut [u64], count: u64, cursor: Curs
 {
     let at = cursor.at;
     match cdr_text::read_run(value, at, count as usize) {
-        Run::To(end) => rows::put(
+        Some(end) => rows::put(
             table,
             mode,
             type_numbers::RUN,
@@ -89,7 +83,7 @@ fn run_got(value: &[u8], mode: Mode, table: &mut [u64], count: u64, cursor: Curs
             count,
             passed(cursor, end),
         ),
-        Run::Past => cursor.refused(refusals::VALUE_ENDS),
+        None => cursor.refused(refusals::VALUE_ENDS),
     }
 }
 
@@ -98,14 +92,14 @@ fn counted_run(value: &[u8], mode: Mode, table: &mut [u64], cursor: Cursor) -> C
     ensures { state_of result table.new ≡ run_at (sink_of mode) (source_of mode value.now) (state_of cursor table.old) }
 {
     match value_cursor::number_at(value, mode, cursor.at, Size::Four) {
-        Read::Number { at, value: number } => run_got(
+        Some((at, number)) => run_got(
             value,
             mode,
             table,
             number,
             crate::took(cursor, at + 4, number),
         ),
-        Read::Ends => cursor.refused(refusals::VALUE_ENDS),
+        None => cursor.refused(refusals::VALUE_ENDS),
     }
 }
 
@@ -126,13 +120,11 @@ fn profile_list(value: &[u8], mode: Mode, table: &mut [u64], count: u64, cursor:
         ≡ repeats (profile_at (sink_of mode) (source_of mode value.now)) count (state_of cursor table.old) }
 {
     let mut d = cursor;
-    let mut k: u64 = 0;
-    while k < count {
+    for _ in 0..count {
         d = profile(value, mode, table, d);
         if d.fault != 0 {
             return d;
         }
-        k += 1;
     }
     d
 }

@@ -43,7 +43,7 @@ fn put_in(
 fn is_full(limited: bool, room: usize, i: usize) -> bool
     ensures { result ≡ (limited && nat_le room i) }
 {
-    if limited { room <= i } else { false }
+    limited && room <= i
 }
 
 // An item is finished.
@@ -63,10 +63,7 @@ pub(crate) fn put(
     }
     put_in(table, mode.fill, mode.first, i, kind, place as u64, content);
     Cursor {
-        at: cursor.at,
-        visits: cursor.visits,
-        items: std::num::wrapping_add_usize(i, 1),
-        fault: cursor.fault,
-        last: cursor.last,
+        items: i.wrapping_add(1),
+        ..cursor
     }
 }

@@ -1,4 +1,5 @@
 -- The member that a union chooses is one of its members.
+use Rattle.std.specs.Prelude.{Option, Some, None}
 use mathlib.Core.List.{List, [], ◌∷◌}
 use Prim.Native.Nat.{ℕ, ◌+◌}
 use lib.Dec.{eqb}
@@ -7,15 +8,13 @@ use Rattle.type_kinds.specs.declared.Inner.{Inner}
 use Rattle.type_kinds.specs.Members.{Member, types_of}
 use Rattle.type_unions.specs.declared.Sought.{Sought}
 use Rattle.type_unions.specs.declared.Sought.TheVariants.{ByLabel, ByNumber}
-use Rattle.type_unions.specs.declared.Arm.{Arm}
-use Rattle.type_unions.specs.declared.Arm.TheVariants.{Chosen, NoneChosen}
 use Rattle.type_unions.specs.Arms.{is_sought, first_sought, case_of, member_no, no_default, default_of, on_arm, chosen_of}
 use Rattle.value_meaning.proofs.ByChoice.{by-choice}
 
 module _ (P : Inner → Type 0) where
-  abbrev pub ArmIs : Arm → Type 0
-  ArmIs (Chosen x) = P x
-  ArmIs NoneChosen = Unit {0}
+  abbrev pub ArmIs : Option Inner → Type 0
+  ArmIs (Some x) = P x
+  ArmIs None = Unit {0}
 
   sought-is : (sought : Sought) (j : ℕ) (ms : List Member) → All P (types_of ms) → ArmIs (first_sought sought j ms)
   unfolding first_sought types_of
@@ -26,9 +25,9 @@ module _ (P : Inner → Type 0) where
   unfolding default_of member_no
   default-is default ms h = by-choice ArmIs (eqb default no_default) (λ _. tt) (λ _. sought-is (ByNumber default) 0 ms h)
 
-  or_is : (a b : Arm) → ArmIs a → ArmIs b → ArmIs (on_arm a Chosen b)
-  or_is (Chosen x) b h k = h
-  or_is NoneChosen b h k = k
+  or_is : (a b : Option Inner) → ArmIs a → ArmIs b → ArmIs (on_arm a Some b)
+  or_is (Some x) b h k = h
+  or_is None b h k = k
 
   -- what holds of every member's type holds of the chosen one's
   pub chosen_is : (default x : ℕ) (ms : List Member) → All P (types_of ms) → ArmIs (chosen_of ms default x)

@@ -1,4 +1,5 @@
 -- The answers, visits, their bound, and 39, all together.
+use Rattle.std.specs.Prelude.{Ok, Err}
 use mathlib.Core.Path.{◌≡◌, refl, sym, ap, subst, ◌∙◌}
 use mathlib.Core.List.{List}
 use mathlib.Core.Bool.{false}
@@ -12,7 +13,6 @@ use Rattle.choices.proofs.Choices.{by-test, clash, or-false}
 use Rattle.cdr.specs.declared.Order.{Order}
 use Rattle.type_counts.specs.declared.Refusal.TheVariants.{TooLong}
 use Rattle.type_walk.specs.Types.{walked_of}
-use Rattle.typecode.specs.declared.TypeAnswer.TheVariants.{Accepted as accepted, Refused as refused}
 use Rattle.typecode.specs.TypeCode.{checked_type}
 use Rattle.type_laws.specs.Loops.{KindCount}
 use Rattle.type_laws.proofs.Exactly39.{accepted-as}
@@ -29,6 +29,7 @@ use Rattle.value_meaning.proofs.ByChoice.{by-choice}
 use Rattle.value_meaning.proofs.EnoughRoom.{room-kept}
 use Rattle.value_meaning.proofs.VisitsBounded.{visits-bound}
 use Rattle.value_meaning.proofs.OnlyValueRefusals.{Refused, fault-is}
+use Rattle.typecode.specs.declared.NoType.TheVariants.{Refused as refused}
 
 -- what an answer of a reading says, and the table that it fills or leaves
 answer-of : (s : St Log) (table : List ℕ) → Refused s → length s.kept.items ≤ room_in table
@@ -42,11 +43,11 @@ visits-of : (s : St Log) → visits_in (reading_answer s) ≡ s.kept.visits
 visits-of s = by-choice (λ (a : ValueAnswer). visits_in a ≡ s.kept.visits) (eqb s.fault 0) (λ e. refl) (λ e. refl)
 
 module _ (v : List ℕ) (order : Order) where
-  too_long : octets_limit < length v → (checked_type v order).answer ≡ refused TooLong
+  too_long : octets_limit < length v → (checked_type v order).answer ≡ Err (refused TooLong)
   unfolding checked_type walked_of choose
   too_long h = rw (lt-ltb octets_limit (length v) h)
 
-  module _ (used k : ℕ) (type : (checked_type v order).answer ≡ accepted used k) where
+  module _ (used k : ℕ) (type : (checked_type v order).answer ≡ Ok (used, k)) where
     type-short : length v ≤ octets_limit
     type-short =
         by-test (ltb octets_limit (length v))

@@ -1,4 +1,5 @@
 -- The parts of a reading that hold no visit: a number or octets first, then perhaps octets, then an item or a refusal.
+use Rattle.std.specs.Prelude.{Option, Some, None}
 use mathlib.Core.Path.{◌≡◌, refl}
 use mathlib.Core.List.{List}
 use mathlib.Core.Bool.{true}
@@ -9,8 +10,6 @@ use lib.ListN.{length}
 use borrow.Author.Tests.{ltb-false}
 use Rattle.cdr.specs.declared.Size.{Size}
 use Rattle.cdr.specs.declared.Size.TheVariants.{Four}
-use Rattle.cdr.specs.declared.Read.{Read}
-use Rattle.cdr.specs.declared.Read.TheVariants.{Number, Ends}
 use Rattle.cdr_text.specs.Text.{over_bound, ends_text}
 use Rattle.choices.specs.Lists.{any_of}
 use Rattle.value_meaning.specs.Refusals.{is_value_refusal, room_refusal}
@@ -23,7 +22,7 @@ use Rattle.value_meaning.proofs.ByChoice.{by-choice}
 -- a part that begins at s: Q holds wherever octets are taken, P at its end
 pub record Part {A : Type 0} (k : Sink A) (x : Source) (s : St A) (Q P : St A → Type 0) : Type 0 where
   pub ended : P (failed 50 s)
-  pub first : (size : Size) (p n : ℕ) → read_at k x size s ≡ Number p n → Q (took_number k size p n s)
+  pub first : (size : Size) (p n : ℕ) → read_at k x size s ≡ Some (p, n) → Q (took_number k size p n s)
   pub run : (n : ℕ) → 0 < n → s.at + n ≤ length x.octets → Q (took_octets k x n s)
   pub more : (n : ℕ) (r : St A) → r.at + n ≤ length x.octets → Q r → Q (took_octets k x n r)
   pub refused : (n : ℕ) (r : St A) → is_value_refusal n ≡ true → (n ≡ room_refusal → ⊥) → Q r → P (failed n r)
@@ -31,9 +30,9 @@ pub record Part {A : Type 0} (k : Sink A) (x : Source) (s : St A) (Q P : St A �
 
 module _ {A : Type 0} (k : Sink A) (x : Source) (s : St A) (Q P : St A → Type 0) (C : Part k x s Q P) where
   on-read : (size : Size) (f : ℕ → ℕ → St A → St A) → ((p n : ℕ) (r : St A) → Q r → P (f p n r))
-      → (a : Read) → read_at k x size s ≡ a → P (on_read a s (λ p n. f p n (took_number k size p n s)))
-  on-read size f h Ends t = C.ended
-  on-read size f h (Number p n) t = h p n (took_number k size p n s) (C.first size p n t)
+      → (a : Option (ℕ × ℕ)) → read_at k x size s ≡ a → P (on_read a s (λ p n. f p n (took_number k size p n s)))
+  on-read size f h None t = C.ended
+  on-read size f h (Some (p, n)) t = h p n (took_number k size p n s) (C.first size p n t)
 
   number-gives : (size : Size) (f : ℕ → ℕ → St A → St A) → ((p n : ℕ) (r : St A) → Q r → P (f p n r)) → P (number_taken k x size f s)
   unfolding number_taken

@@ -1,5 +1,6 @@
 -- The plain reader gives what the reading gives, for any type, source, sink and state that is not refused: what is left to do by its list is
 -- the same before and behind a step, and each step leaves one step less.
+use Rattle.std.specs.Prelude.{Option, Some, None}
 use mathlib.Core.Path.{◌≡◌, refl, sym, ap, ◌∙◌}
 use mathlib.Core.List.{List, [], ◌∷◌}
 use mathlib.Core.Bool.{Bool, true, false}
@@ -10,8 +11,6 @@ use lib.ListN.{length}
 use borrow.Author.Tests.{eqb-true, eqb-false, eq-eqb, ne_eqb, le-leb, lt-leb, leb-true, leb-false}
 use Rattle.choices.specs.Branch.{choose}
 use Rattle.choices.proofs.Choices.{by-test}
-use Rattle.type_unions.specs.declared.Arm.{Arm}
-use Rattle.type_unions.specs.declared.Arm.TheVariants.{Chosen, NoneChosen}
 use Rattle.type_unions.specs.Arms.{on_arm, chosen_of}
 use Rattle.type_unions.specs.Shapes.{Shape}
 use Rattle.type_unions.specs.Shapes.Shape.{fault, flat, struct, exception, union, sequence, array, alias}
@@ -25,6 +24,7 @@ use Rattle.value_meaning.specs.Opens.Next.{over, into}
 use Rattle.value_meaning.proofs.PlainReader.{Frame, frame, Plain, plain, stopped, entered, step, run}
 use Rattle.value_meaning.proofs.ByChoice.{by-choice}
 use Rattle.value_meaning.proofs.ReadingCases.{after-go, after_stop, after_none}
+use Rattle.type_kinds.specs.declared.Inner.{Inner}
 
 -- ---- how many steps
 
@@ -61,10 +61,10 @@ Turn n over = Unit
 Turn zero (into p o) = ⊥
 Turn (suc n) (into p o) = n ≡ entries o
 
-arm-turn : (a : Arm) → Turn 1 (on_arm a (λ y. into y shut) over)
+arm-turn : (a : Option Inner) → Turn 1 (on_arm a (λ y. into y shut) over)
 unfolding entries
-arm-turn (Chosen y) = refl
-arm-turn NoneChosen = tt
+arm-turn (Some y) = refl
+arm-turn None = tt
 
 turn : (o : Open) (last : ℕ) → Turn (entries o) (next o last)
 unfolding entries next

@@ -1,4 +1,5 @@
 -- The ways that a reading takes, for any sink.
+use Rattle.std.specs.Prelude.{Option, Some, None, Result, Ok, Err}
 use mathlib.Core.Path.{◌≡◌, refl, sym, ap, ◌∙◌}
 use mathlib.Core.List.{List}
 use mathlib.Core.Bool.{true, false}
@@ -12,11 +13,6 @@ use Rattle.choices.specs.Branch.{choose}
 use Rattle.choices.proofs.Choices.{by-test, clash}
 use Rattle.cdr.specs.declared.Size.{Size}
 use Rattle.cdr.specs.Align.{octets}
-use Rattle.cdr.specs.declared.Read.{Read}
-use Rattle.cdr.specs.declared.Read.TheVariants.{Number, Ends}
-use Rattle.cdr_text.specs.declared.Text.{Text}
-use Rattle.cdr_text.specs.declared.Text.TheVariants.{Chars, Empty, Over, Short, Zeros}
-use Rattle.cdr_text.specs.declared.Run.TheVariants.{To, Past}
 use Rattle.cdr_text.specs.Text.{over_bound, ends_text, text_of, run_of}
 use Rattle.cdr_text.proofs.TextEnds.{run-facts, run_short}
 use Rattle.type_kinds.specs.declared.Inert.{Inert}
@@ -27,6 +23,8 @@ use Rattle.value_meaning.specs.Sinks.{done, read_at, took_number, number_taken, 
 use Rattle.value_meaning.specs.Visit.{Checked, size_of, content_of, leaf_done, leaf_at, enum_done, text_done, text_got, count_done, run_done, run_got, inert_at}
 use Rattle.value_meaning.specs.Opens.{Node, node, Open, own_of, unless, opens, entries, closes, shuts, enter_node, reads_node}
 use Rattle.value_meaning.specs.Reading.{reads}
+use Rattle.cdr_text.specs.declared.TextFault.TheVariants.{Empty, Over, Short, Zeros}
+use Rattle.cdr_text.specs.declared.TextFault.{TextFault}
 
 -- a step after which nothing is refused, or something is
 module _ {A : Type 0} where
@@ -91,13 +89,13 @@ module _ {A : Type 0} (k : Sink A) (i : Item) (s : St A) where
 module _ {A : Type 0} (k : Sink A) (x : Source) where
   -- a number that was read, or not
   module _ (size : Size) (f : ℕ → ℕ → St A → St A) (s : St A) where
-    pub number-some : (p n : ℕ) → read_at k x size s ≡ Number p n → number_taken k x size f s ≡ f p n (took_number k size p n s)
+    pub number-some : (p n : ℕ) → read_at k x size s ≡ Some (p, n) → number_taken k x size f s ≡ f p n (took_number k size p n s)
     unfolding number_taken
-    number-some p n e = ap (λ (r : Read). on_read r s (λ q y. f q y (took_number k size q y s))) e
+    number-some p n e = ap (λ (r : Option (ℕ × ℕ)). on_read r s (λ q y. f q y (took_number k size q y s))) e
 
-    pub number-none : read_at k x size s ≡ Ends → number_taken k x size f s ≡ failed 50 s
+    pub number-none : read_at k x size s ≡ None → number_taken k x size f s ≡ failed 50 s
     unfolding number_taken
-    number-none e = ap (λ (r : Read). on_read r s (λ q y. f q y (took_number k size q y s))) e
+    number-none e = ap (λ (r : Option (ℕ × ℕ)). on_read r s (λ q y. f q y (took_number k size q y s))) e
 
   -- a kind without parameters
   module _ (kind : ℕ) where
@@ -110,7 +108,7 @@ module _ {A : Type 0} (k : Sink A) (x : Source) where
     leaf-number s h = rw (le-ltb kind 2 h)
 
     -- a primitive's number that was read, or not, by its size and its octets
-    pub leaf-read : (z : Size) (p n w : ℕ) (s : St A) → 2 ≤ kind → z ≡ size_of kind → w ≡ octets z → read_at k x z s ≡ Number p n
+    pub leaf-read : (z : Size) (p n w : ℕ) (s : St A) → 2 ≤ kind → z ≡ size_of kind → w ≡ octets z → read_at k x z s ≡ Some (p, n)
         → leaf_at k x kind s ≡ leaf_done k x kind p n (taken k (number (p - s.at) p (octets z) n) (p + w) s)
     leaf-read z p n w s h ez ew e =
         leaf-number s h
@@ -118,7 +116,7 @@ module _ {A : Type 0} (k : Sink A) (x : Source) where
         ∙ number-some z (leaf_done k x kind) s p n e
         ∙ ap (λ (i : ℕ). leaf_done k x kind p n (taken k (number (p - s.at) p (octets z) n) (p + i) s)) (sym ew)
 
-    pub leaf-ends : (z : Size) (s : St A) → 2 ≤ kind → z ≡ size_of kind → read_at k x z s ≡ Ends → leaf_at k x kind s ≡ failed 50 s
+    pub leaf-ends : (z : Size) (s : St A) → 2 ≤ kind → z ≡ size_of kind → read_at k x z s ≡ None → leaf_at k x kind s ≡ failed 50 s
     leaf-ends z s h ez e =
         leaf-number s h ∙ ap (λ (y : Size). number_taken k x y (leaf_done k x kind) s) (sym ez) ∙ number-none z (leaf_done k x kind) s e
 
@@ -165,7 +163,7 @@ module _ {A : Type 0} (k : Sink A) (x : Source) where
 
   -- a run of octets, by what was found
   module _ (p n : ℕ) (s : St A) where
-    pub run-some : (e : ℕ) → run_of x.octets s.at n ≡ To e
+    pub run-some : (e : ℕ) → run_of x.octets s.at n ≡ Some e
         → run_got k x p n s ≡ done k (item 256 s.at n) (taken k (run s.at (octets_at k x s.at n)) e s)
     unfolding run_got run_done
     run-some e r =
@@ -173,17 +171,17 @@ module _ {A : Type 0} (k : Sink A) (x : Source) where
         octets-some n (λ q these. done k (item 256 q n)) s h.1
         ∙ ap (λ (i : ℕ). done k (item 256 s.at n) (taken k (run s.at (octets_at k x s.at n)) i s)) (sym h.0)
 
-    pub run_none : run_of x.octets s.at n ≡ Past → run_got k x p n s ≡ failed 50 s
+    pub run_none : run_of x.octets s.at n ≡ None → run_got k x p n s ≡ failed 50 s
     unfolding run_got run_done
     run_none r = octets-none n (λ q these. done k (item 256 q n)) s (run_short x.octets s.at n r)
 
   -- a text, by what the text rule finds
-  abbrev text_by : ℕ → St A → Text → St A
-  text_by n s (Chars c) = done k (item 18 s.at c) (took_octets k x n s)
-  text_by n s Empty = failed 53 s
-  text_by n s Over = failed 54 s
-  text_by n s Short = failed 50 s
-  text_by n s Zeros = failed 53 (took_octets k x n s)
+  abbrev text_by : ℕ → St A → Result ℕ TextFault → St A
+  text_by n s (Ok c) = done k (item 18 s.at c) (took_octets k x n s)
+  text_by n s (Err Empty) = failed 53 s
+  text_by n s (Err Over) = failed 54 s
+  text_by n s (Err Short) = failed 50 s
+  text_by n s (Err Zeros) = failed 53 (took_octets k x n s)
 
   pub text-found : (bound p n : ℕ) (s : St A) → text_got k x bound p n s ≡ text_by n s (text_of x.octets s.at n bound)
   unfolding text_got text_of octets_step text_done choose
@@ -193,23 +191,23 @@ module _ {A : Type 0} (k : Sink A) (x : Source) where
       by-test (ltb (length x.octets) (s.at + n)) (λ c. rw (a, b, c)) (λ c.
       by-test (ends_text (octets_at k x s.at n)) (λ d. rw (a, b, c, d)) (λ d. rw (a, b, c, d)))))
 
-  pub text-is : (bound p n : ℕ) (s : St A) (r : Text) → r ≡ text_of x.octets s.at n bound → text_got k x bound p n s ≡ text_by n s r
+  pub text-is : (bound p n : ℕ) (s : St A) (r : Result ℕ TextFault) → r ≡ text_of x.octets s.at n bound → text_got k x bound p n s ≡ text_by n s r
   text-is bound p n s r e = text-found bound p n s ∙ ap (text_by n s) (sym e)
 
 -- where a text is judged by its zeros, its octets are there
-pub chars-fit : (v : List ℕ) (at n bound c : ℕ) → text_of v at n bound ≡ Chars c → at + n ≤ length v
+pub chars-fit : (v : List ℕ) (at n bound c : ℕ) → text_of v at n bound ≡ Ok c → at + n ≤ length v
 unfolding text_of
 chars-fit v at n bound c e =
-    by-test (eqb n 0) (λ a. let q : Empty ≡ Chars c = rw a at e in clash cc) (λ a.
-    by-test (over_bound (n - 1) bound) (λ b. let q : Over ≡ Chars c = rw (a, b) at e in clash cc) (λ b.
-    by-test (ltb (length v) (at + n)) (λ d. let q : Short ≡ Chars c = rw (a, b, d) at e in clash cc) (λ d. ltb-false _ _ d)))
+    by-test (eqb n 0) (λ a. let q : (Err Empty) ≡ Ok c = rw a at e in clash cc) (λ a.
+    by-test (over_bound (n - 1) bound) (λ b. let q : (Err Over) ≡ Ok c = rw (a, b) at e in clash cc) (λ b.
+    by-test (ltb (length v) (at + n)) (λ d. let q : (Err Short) ≡ Ok c = rw (a, b, d) at e in clash cc) (λ d. ltb-false _ _ d)))
 
-pub zeros-fit : (v : List ℕ) (at n bound : ℕ) → text_of v at n bound ≡ Zeros → at + n ≤ length v
+pub zeros-fit : (v : List ℕ) (at n bound : ℕ) → text_of v at n bound ≡ Err Zeros → at + n ≤ length v
 unfolding text_of
 zeros-fit v at n bound e =
-    by-test (eqb n 0) (λ a. let q : Empty ≡ Zeros = rw a at e in clash cc) (λ a.
-    by-test (over_bound (n - 1) bound) (λ b. let q : Over ≡ Zeros = rw (a, b) at e in clash cc) (λ b.
-    by-test (ltb (length v) (at + n)) (λ d. let q : Short ≡ Zeros = rw (a, b, d) at e in clash cc) (λ d. ltb-false _ _ d)))
+    by-test (eqb n 0) (λ a. let q : (Err Empty) ≡ Err Zeros = rw a at e in clash cc) (λ a.
+    by-test (over_bound (n - 1) bound) (λ b. let q : (Err Over) ≡ Err Zeros = rw (a, b) at e in clash cc) (λ b.
+    by-test (ltb (length v) (at + n)) (λ d. let q : (Err Short) ≡ Err Zeros = rw (a, b, d) at e in clash cc) (λ d. ltb-false _ _ d)))
 
 -- what is open only if nothing is refused
 pub unless-is : {A : Type 0} (f : Node → St A → St A) (t : Checked) (u : St A) (o : Open) (g : St A → St A) → shuts f t o u ≡ g u

@@ -1,11 +1,11 @@
 -- A reading beside itself, but for the sink's room: what each single step keeps a whole reading keeps, and where the other room answers the
 -- same at each item the reading is the same. P holds later where it holds earlier, E earlier where it holds later.
+use Rattle.std.specs.Prelude.{Some}
 use mathlib.Core.Path.{◌≡◌, refl, sym, ap, subst, ◌∙◌}
 use mathlib.Core.Bool.{Bool, false}
 use Prim.Native.Nat.{ℕ, ◌+◌, ◌<◌, ◌≤◌}
 use lib.ListN.{length}
 use Rattle.cdr.specs.declared.Size.{Size}
-use Rattle.cdr.specs.declared.Read.TheVariants.{Number}
 use Rattle.type_unions.specs.Shapes.{Shape}
 use Rattle.value_meaning.specs.Sinks.{Source, Item, item, Piece, Sink, St, failed, begun, taken, put_in, done, read_at, took_number, octets_at, took_octets}
 use Rattle.value_meaning.specs.Visit.{Checked}
@@ -36,7 +36,7 @@ module _ {A : Type 0} (k : Sink A) (full : A → Bool) (x : Source) (E P : St A 
     pub by-fail : (n : ℕ) (s : St A) → 0 < n → P s → P (failed n s)
     pub by-visit : (s : St A) → P s → E (begun k s) → P (begun k s)
     pub by-put : (i : Item) (s : St A) → P s → k.full s.kept ≡ false → E (put_in k i s) → P (put_in k i s)
-    pub by_number : (size : Size) (p n : ℕ) (s : St A) → P s → read_at k x size s ≡ Number p n → E (took_number k size p n s)
+    pub by_number : (size : Size) (p n : ℕ) (s : St A) → P s → read_at k x size s ≡ Some (p, n) → E (took_number k size p n s)
         → P (took_number k size p n s)
     pub by-octets : (n : ℕ) (s : St A) → P s → s.at + n ≤ length x.octets → E (took_octets k x n s) → P (took_octets k x n s)
 
@@ -59,7 +59,7 @@ module _ {A : Type 0} (k : Sink A) (full : A → Bool) (x : Source) (E P : St A 
     };
     by_number = λ size p n s s' r g e. record {
       second = p;
-      read = subst (λ (u : St A). read_at k x size u ≡ Number p n) r.alike g;
+      read = subst (λ (u : St A). read_at k x size u ≡ Some (p, n)) r.alike g;
       place = refl;
       then = again P (took_number k size p n) r (K.by_number size p n s r.holds g e);
     };

@@ -1,6 +1,7 @@
 -- Two readings side by side, of two sources with two sinks, under one type: what relates them at each single step relates them over a
 -- whole reading. E says of a state of the first reading that what it led to is as wanted; it holds earlier where it holds later. R
 -- relates the states, Q the places of what was read.
+use Rattle.std.specs.Prelude.{Option, Some, None}
 use mathlib.Core.Path.{◌≡◌, refl, sym, ap, subst, ◌∙◌}
 use mathlib.Core.List.{List}
 use mathlib.Core.Bool.{Bool, true, false}
@@ -12,8 +13,6 @@ use borrow.Author.Tests.{ltb-true, ltb-false, lt-ltb, le-ltb}
 use Rattle.choices.specs.Branch.{choose}
 use Rattle.cdr.specs.declared.Size.{Size}
 use Rattle.cdr.specs.declared.Size.TheVariants.{Four}
-use Rattle.cdr.specs.declared.Read.{Read}
-use Rattle.cdr.specs.declared.Read.TheVariants.{Number, Ends}
 use Rattle.cdr_text.specs.Text.{over_bound, ends_text}
 use Rattle.type_kinds.specs.declared.Inert.{Inert}
 use Rattle.type_kinds.specs.declared.Inert.TheVariants.{Leaf, Text, Objref, Enum}
@@ -34,7 +33,7 @@ module _ {A A' : Type 0} (k : Sink A) (k' : Sink A') (x x' : Source)
   -- the second reading takes the number n too, at a place that goes with p
   pub record SameNumber (size : Size) (p n : ℕ) (s : St A) (s' : St A') : Type 0 where
     pub second : ℕ
-    pub read : read_at k' x' size s' ≡ Number second n
+    pub read : read_at k' x' size s' ≡ Some (second, n)
     pub place : Q p second
     pub then : R (took_number k size p n s) (took_number k' size second n s')
 
@@ -59,10 +58,10 @@ module _ {A A' : Type 0} (k : Sink A) (k' : Sink A') (x x' : Source)
     pub same_full : (i : Item) (s : St A) (s' : St A') → R s s' → E (done k i s) → k.full s.kept ≡ k'.full s'.kept
     pub by-put : (kind p p' n : ℕ) (s : St A) (s' : St A') → Q p p' → R s s' → k.full s.kept ≡ false → E (put_in k (item kind p n) s)
         → R (put_in k (item kind p n) s) (put_in k' (item kind p' n) s')
-    pub by_number : (size : Size) (p n : ℕ) (s : St A) (s' : St A') → R s s' → read_at k x size s ≡ Number p n → E (took_number k size p n s)
+    pub by_number : (size : Size) (p n : ℕ) (s : St A) (s' : St A') → R s s' → read_at k x size s ≡ Some (p, n) → E (took_number k size p n s)
         → SameNumber size p n s s'
-    pub by-no-number : (size : Size) (s : St A) (s' : St A') → R s s' → read_at k x size s ≡ Ends → E (failed 50 s)
-        → read_at k' x' size s' ≡ Ends
+    pub by-no-number : (size : Size) (s : St A) (s' : St A') → R s s' → read_at k x size s ≡ None → E (failed 50 s)
+        → read_at k' x' size s' ≡ None
     pub by-octets : (n : ℕ) (s : St A) (s' : St A') → R s s' → s.at + n ≤ length x.octets → E (took_octets k x n s) → SameOctets n s s'
     pub by-no-octets : (n : ℕ) (s : St A) (s' : St A') → R s s' → length x.octets < s.at + n → E (failed 50 s)
         → length x'.octets < s'.at + n
@@ -138,20 +137,20 @@ module _ {A A' : Type 0} (k : Sink A) (k' : Sink A') (x x' : Source)
       took : (p n : ℕ) (s : St A) → E (f p n (took_number k size p n s)) → E (took_number k size p n s)
       took p n s e = (h p p n (S.q-refl p)).back (took_number k size p n s) e
 
-      number-back : (g : Read) (s : St A) → E (on_read g s (λ p n. f p n (took_number k size p n s))) → E s
-      number-back (Number p n) s e = S.back-took _ _ s (took p n s e)
-      number-back Ends s e = S.back-fail 50 s (omega arith) e
+      number-back : (g : Option (ℕ × ℕ)) (s : St A) → E (on_read g s (λ p n. f p n (took_number k size p n s))) → E s
+      number-back (Some (p, n)) s e = S.back-took _ _ s (took p n s e)
+      number-back None s e = S.back-fail 50 s (omega arith) e
 
-      number-both : (g : Read) (s : St A) (s' : St A') → read_at k x size s ≡ g → R s s'
+      number-both : (g : Option (ℕ × ℕ)) (s : St A) (s' : St A') → read_at k x size s ≡ g → R s s'
           → E (on_read g s (λ p n. f p n (took_number k size p n s)))
           → R (on_read g s (λ p n. f p n (took_number k size p n s))) (number_taken k' x' size f' s')
       unfolding number_taken
-      number-both (Number p n) s s' g r e =
+      number-both (Some (p, n)) s s' g r e =
           let a = S.by_number size p n s s' r g (took p n s e) in
-          subst (λ (g : Read). R (f p n (took_number k size p n s)) (on_read g s' (λ p n. f' p n (took_number k' size p n s')))) (sym a.read)
+          subst (λ (g : Option (ℕ × ℕ)). R (f p n (took_number k size p n s)) (on_read g s' (λ p n. f' p n (took_number k' size p n s')))) (sym a.read)
           ((h p a.second n a.place).both (took_number k size p n s) (took_number k' size a.second n s') a.then e)
-      number-both Ends s s' g r e =
-          subst (λ (g : Read). R (failed 50 s) (on_read g s' (λ p n. f' p n (took_number k' size p n s'))))
+      number-both None s s' g r e =
+          subst (λ (g : Option (ℕ × ℕ)). R (failed 50 s) (on_read g s' (λ p n. f' p n (took_number k' size p n s'))))
           (sym (S.by-no-number size s s' r g e))
           (S.by-fail 50 s s' (omega arith) r)
 

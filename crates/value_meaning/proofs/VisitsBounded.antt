@@ -1,4 +1,5 @@
 -- The visits of a reading are at most k * (n + 1), with k kinds and n octets: between two octets taken, kinds of falling ranks are entered.
+use Rattle.std.specs.Prelude.{Option, Some, None}
 use mathlib.Core.Path.{◌≡◌, refl, sym, ap, subst}
 use mathlib.Core.List.{List, [], ◌∷◌}
 use mathlib.Core.Bool.{Bool, true, false, ◌||◌, true≢false}
@@ -19,8 +20,6 @@ use Rattle.type_kinds.specs.declared.Labels.TheVariants.{NoLabels}
 use Rattle.type_parameters.specs.declared.Parameters.{Parameters}
 use Rattle.type_parameters.specs.declared.Parameters.TheVariants.{Fault, Flat, Struct, Exception, Union, Sequence, Array, Alias}
 use Rattle.type_kinds.specs.declared.Kind.{Kind}
-use Rattle.type_unions.specs.declared.Arm.{Arm}
-use Rattle.type_unions.specs.declared.Arm.TheVariants.{Chosen, NoneChosen}
 use Rattle.type_kinds.specs.Parts.{place_of, place_in}
 use Rattle.type_kinds.specs.Members.{Member, types_of, members_of}
 use Rattle.type_loops.proofs.RankFalls.{rank}
@@ -134,9 +133,9 @@ module _ (full : ℕ → Bool) (x : Source) (K : ℕ) where
     row-good [] h = tt
     row-good (y ∷ ys) h = λ last. (h.0, row-good ys h.1)
 
-    arm-good : (a : Arm) → ArmIs (Fitting v m) a → GoodBy (Good 0) (on_arm a (λ y. into y shut) over)
-    arm-good (Chosen y) h = (h, tt)
-    arm-good NoneChosen h = tt
+    arm-good : (a : Option Inner) → ArmIs (Fitting v m) a → GoodBy (Good 0) (on_arm a (λ y. into y shut) over)
+    arm-good (Some y) h = (h, tt)
+    arm-good None h = tt
 
     pick_good : (ms : List Member) (default : ℕ) → All (Fitting v m) (types_of ms) → Good 1 (pick ms default)
     unfolding next

@@ -1,4 +1,5 @@
 -- What a part of a reading spends: visits and items against the octets that it takes. K are the visits that an octet pays for, x the value.
+use Rattle.std.specs.Prelude.{Some}
 use mathlib.Core.Path.{◌≡◌, refl, subst}
 use mathlib.Core.List.{[], ◌∷◌}
 use mathlib.Core.Bool.{Bool, false}
@@ -10,7 +11,6 @@ use lib.ListN.{length, length-append}
 use borrow.Author.Tests.{eqb-true}
 use Rattle.choices.proofs.Choices.{never_both}
 use Rattle.cdr.specs.declared.Size.{Size}
-use Rattle.cdr.specs.declared.Read.TheVariants.{Number}
 use Rattle.cdr.specs.Align.{octets}
 use Rattle.cdr.proofs.GapsBounded.{gap-small, read-facts}
 use Rattle.type_kinds.specs.declared.Inert.{Inert}
@@ -112,7 +112,7 @@ module _ (K : ℕ) (full : ℕ → Bool) (x : Source) where
     unfolding taken
     octets-paid m h = let y = a.more in record { ends = h; more = omega arith; visits = a.visits; items = a.items }
 
-  number-paid : (s : St Log) (size : Size) (p m : ℕ) → read_at sink x size s ≡ Number p m → Paid x s (took_number sink size p m s)
+  number-paid : (s : St Log) (size : Size) (p m : ℕ) → read_at sink x size s ≡ Some (p, m) → Paid x s (took_number sink size p m s)
   unfolding taken
   number-paid s size p m t =
       let d = read-facts x.octets x.start s.at size x.order p m t in

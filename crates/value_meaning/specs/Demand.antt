@@ -12,19 +12,20 @@
 --                  faults    it refuses with 42, 30 to 38 or 40 exactly where that is the first fault in octet order
 --                  loops     it refuses with 39 exactly where none of these applies and some kind written leads to itself in one or more steps,
 --                            none of which leaves a sequence, over the octets alone
-use Rattle.std.specs.Prelude.{◌≡◌, ◌↔◌, ◌+◌, ◌*◌, ◌≤◌}
+use Rattle.std.specs.Prelude.{◌≡◌, ◌↔◌, ◌+◌, ◌*◌, ◌≤◌, Ok, Err}
 use Rattle.choices.specs.{List, true, ℕ, length, sets}
 use Rattle.cdr.specs.{Order, octets_limit}
 use Rattle.type_counts.specs.{Refusal}
-use Rattle.typecode.specs.{Accepted as accepted, Refused as refused, Loop, TypeCode.checked_type}
+use Rattle.typecode.specs.{TypeCode.checked_type}
 use Rattle.type_laws.specs.Loops.{Loops, FirstFault, NoFault, KindCount}
 use Rattle.value_meaning.specs.{declared.ValueAnswer.ValueAnswer, Refusals.is_value_refusal, Sinks.Source, Sinks.St, Reading.Log}
 use Rattle.value_meaning.specs.{Reading.room_for, Value.room_in, Value.visits_in, Value.reading_of, Value.value_answer, Value.item_rows}
 use Rattle.value_meaning.specs.{Value.table_after}
 use Rattle.value_meaning.specs.declared.ValueAnswer.TheVariants.{Accepted, Refused}
+use Rattle.typecode.specs.declared.NoType.TheVariants.{Loop, Refused}
 
 abbrev pub Accepts : List ℕ → Order → Type 0
-Accepts v order = (used kinds : ℕ) × ((checked_type v order).answer ≡ accepted used kinds)
+Accepts v order = (used kinds : ℕ) × ((checked_type v order).answer ≡ Ok (used, kinds))
 
 abbrev pub AnswerOf : St Log → List ℕ → ValueAnswer → List ℕ → Type 0
 AnswerOf s table (Accepted used items visits) after =
@@ -39,6 +40,6 @@ pub record ReadUnder (k : ℕ) (v : List ℕ) (order : Order) (x : Source) (tabl
 
 pub record Demand3 (v : List ℕ) (order : Order) : Type 0 where
   pub reads : Accepts v order → (k : ℕ) → KindCount v order k → (x : Source) → length x.octets ≤ octets_limit → (table : List ℕ) → ReadUnder k v order x table
-  pub kinds : (used k : ℕ) → (checked_type v order).answer ≡ accepted used k → KindCount v order k
-  pub faults : (r : Refusal) → ((checked_type v order).answer ≡ refused r) ↔ FirstFault v order r
-  pub loops : ((checked_type v order).answer ≡ Loop) ↔ (NoFault v order × Loops v order)
+  pub kinds : (used k : ℕ) → (checked_type v order).answer ≡ Ok (used, k) → KindCount v order k
+  pub faults : (r : Refusal) → ((checked_type v order).answer ≡ Err (Refused r)) ↔ FirstFault v order r
+  pub loops : ((checked_type v order).answer ≡ Err Loop) ↔ (NoFault v order × Loops v order)

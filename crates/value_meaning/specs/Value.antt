@@ -13,14 +13,16 @@
 --   filled_by        a table that an answer fills or leaves
 --   table_after      "lent memory that an answer doesn't fill keeps its contents": the items from the table's start, or as it was
 --   item_no          "numbers start at 0": the item of a number; past the last, three zeros
-use Rattle.std.specs.Prelude.{◌/◌, ◌∷◌, ◌++◌, ◌||◌}
+use Rattle.std.specs.Prelude.{◌/◌, ◌∷◌, ◌++◌, ◌||◌, Result, Ok, Err}
 use Rattle.choices.specs.{ℕ, zero, suc, List, [], Bool, ltb, eqb, length, sets, choose}
 use Rattle.cdr.specs.{Order, octets_limit}
 unfoldable pub use Rattle.value_items.specs.Rows.{item_rows}
-use Rattle.typecode.specs.{TypeAnswer, Accepted as accepted, Refused as refused, Loop, TypeCode.type_answer_number, TypeCode.checked_type}
+use Rattle.typecode.specs.{TypeCode.type_answer_number, TypeCode.checked_type}
 use Rattle.value_meaning.specs.{declared.ValueAnswer.ValueAnswer, Sinks.Source, Sinks.Item, Sinks.item, Sinks.St, Visit.checked}
 use Rattle.value_meaning.specs.{Reading.Log, Reading.room_for, Reading.reading}
 use Rattle.value_meaning.specs.declared.ValueAnswer.TheVariants.{Accepted, Refused}
+use Rattle.typecode.specs.declared.NoType.TheVariants.{Loop, Refused}
+use Rattle.typecode.specs.declared.NoType.{NoType}
 
 abbrev pub room_in : List ℕ → ℕ
 room_in table = length table / 3
@@ -52,10 +54,10 @@ reading_of full v order x = reading full x (checked v (checked_type v order).kin
 abbrev pub overlong : List ℕ → Source → Bool
 overlong v x = ltb octets_limit (length v) || ltb octets_limit (length x.octets)
 
-abbrev pub on_type : {A : Type 0} → TypeAnswer → (Unit {0} → A) → (ℕ → A) → A
-on_type (accepted used kinds) f g = f tt
-on_type (refused r) f g = g (type_answer_number (refused r))
-on_type Loop f g = g (type_answer_number Loop)
+abbrev pub on_type : {A : Type 0} → Result (ℕ × ℕ) NoType → (Unit {0} → A) → (ℕ → A) → A
+on_type (Ok (used, kinds)) f g = f tt
+on_type (Err (Refused r)) f g = g (type_answer_number (Err (Refused r)))
+on_type (Err Loop) f g = g (type_answer_number (Err Loop))
 
 abbrev pub under_type : {A : Type 0} → List ℕ → Order → Source → (Unit {0} → A) → (ℕ → A) → A
 under_type v order x f g = choose (overlong v x) (λ _. g 42) (λ _. on_type (checked_type v order).answer f g)

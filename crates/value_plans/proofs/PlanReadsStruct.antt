@@ -1,5 +1,7 @@
 -- A plan that fits reads a struct as its type does; a plan that is found fits; the making of a plan, and the loop over its members.
-use mathlib.Core.Path.{◌≡◌, refl, sym, ap, ◌∙◌}
+use Rattle.std.specs.Prelude.{Option, Some, None}
+use Rattle.std.proofs.lemmas.Option.{none-some, same_Some}
+use mathlib.Core.Path.{◌≡◌, refl, sym, ap, subst, ◌∙◌}
 use mathlib.Core.List.{List, [], ◌∷◌}
 use mathlib.Core.Bool.{Bool, true, false, ◌&&◌, false≢true}
 use Prim.Native.Nat.{ℕ, zero, suc, ◌+◌, ◌-◌, ◌≤◌, ◌<◌}
@@ -20,7 +22,6 @@ use Rattle.type_kinds.specs.declared.Inner.{Inner}
 use Rattle.type_kinds.specs.declared.Inert.{Inert}
 use Rattle.type_kinds.specs.declared.Inert.TheVariants.{Leaf, Text, Objref, Enum}
 use Rattle.type_kinds.specs.declared.Labels.TheVariants.{NoLabels}
-use Rattle.type_kinds.specs.declared.Spot.TheVariants.{TypeAt, NoType}
 use Rattle.type_parameters.specs.declared.Parameters.{Parameters}
 use Rattle.type_parameters.specs.declared.Parameters.TheVariants.{Fault, Flat, Struct, Exception, Union, Sequence, Array, Alias}
 use Rattle.type_kinds.specs.Parts.{member_at}
@@ -149,9 +150,9 @@ module _ (t : Checked) where
         laid-right n (set kinds j kind) (j + 1) ys more.1 (omega arith),
       )
 
-  pub plan-fits : (left count : ℕ) (ys : List Inner) → (plan_of t left count ys).found ≡ true → Fits t left ys (plan_of t left count ys)
+  pub plan-fits : (left count : ℕ) (ys : List Inner) (plan : Plan) → plan_of t left count ys ≡ Some plan → Fits t left ys plan
   unfolding plan_of choose
-  plan-fits left count ys found =
+  plan-fits left count ys plan found =
       by-test (leb count most_members && (leb 2 left && plannable t count ys))
       (λ e.
       let a = and-true (leb count most_members) (leb 2 left && plannable t count ys) e in
@@ -159,12 +160,12 @@ module _ (t : Checked) where
       let few = leb-true count most_members a.0 in
       let all = plannable-all count ys b.1 in
       let long = length-replicate {A = ℕ} most_members 0 in
-      rw e (record {
+      subst (Fits t left ys) (same_Some _ _ (rw e at found)) (record {
         levels = leb-true 2 left b.0;
         right = laid-right count (replicate most_members 0) 0 ys b.1 (omega arith);
         whole = all;
       }))
-      (λ e. absurd (false≢true (rw e at found)))
+      (λ e. absurd (none-some plan (rw e at found)))
 
 -- ---- a plan in the making, of members that are listed in an encapsulation
 
@@ -173,7 +174,7 @@ module _ (t : Checked) (v : List ℕ) (b : Place) (order : Order) (count : ℕ) 
   listed m i = types_of (members_from NoLabels v b order m i)
 
   -- what m members from an index on give, the first of them the j-th, with the kinds before it laid
-  abbrev pub makes : ℕ → ℕ × Index × List ℕ → Plan
+  abbrev pub makes : ℕ → ℕ × Index × List ℕ → Option Plan
   makes m s = choose (plannable t m (listed m s.1)) (λ _. plan_found (laid t s.2 s.0 (listed m s.1)) count) (λ _. no_plan)
 
   module _ (j : ℕ) (i : Index) (kinds : List ℕ) where
@@ -181,11 +182,11 @@ module _ (t : Checked) (v : List ℕ) (b : Place) (order : Order) (count : ℕ) 
     unfolding members_from types_of plannable laid choose
     make-end = refl
 
-    pub make-cut : member_at NoLabels v b i order ≡ NoType → (m : ℕ) → makes (suc m) (j, i, kinds) ≡ no_plan
+    pub make-cut : member_at NoLabels v b i order ≡ None → (m : ℕ) → makes (suc m) (j, i, kinds) ≡ no_plan
     unfolding types_of plannable choose
     make-cut e m = rw (members-cut NoLabels v b order i e m)
 
-    module _ (y : Inner) (next : Index) (at : member_at NoLabels v b i order ≡ TypeAt y next) (kind : ℕ) (is : kind ≡ leaf_kind (t.look y)) where
+    module _ (y : Inner) (next : Index) (at : member_at NoLabels v b i order ≡ Some (y, next)) (kind : ℕ) (is : kind ≡ leaf_kind (t.look y)) where
       pub make-none : kind ≡ no_leaf → (m : ℕ) → makes (suc m) (j, i, kinds) ≡ no_plan
       unfolding types_of plannable choose
       make-none e m = rw (members-more NoLabels v b order i y next at m, ← is, eq-eqb kind no_leaf e)
@@ -196,11 +197,6 @@ module _ (t : Checked) (v : List ℕ) (b : Place) (order : Order) (count : ℕ) 
           let one : makes (suc m) (j, i, kinds) ≡ makes m (j + 1, next, set kinds j (leaf_kind (t.look y))) =
           rw (members-more NoLabels v b order i y next at m, ne_eqb (leaf_kind (t.look y)) no_leaf (λ z. e (is ∙ z))) in
           one ∙ ap (λ (h : ℕ). makes m (j + 1, next, set kinds j h)) (sym is)
-
--- a plan that is found, by its parts
-pub plan-is : (p : Plan) (n : ℕ) → p.found ≡ true → p.count ≡ n → p ≡ plan_found p.kinds n
-plan-is p n f c =
-    ap (λ (b : Bool). record { found = b; kinds = p.kinds; count = p.count }) f ∙ ap (λ (i : ℕ). plan_found p.kinds i) c
 
 module _ (t : Checked) (left count : ℕ) (ys : List Inner) where
   pub plan-many : most_members < count → no_plan ≡ plan_of t left count ys

@@ -9,8 +9,9 @@
 --   plannable     members are n, and all are kinds without parameters
 --   laid          the kinds of members, laid into a list from the j-th place on
 --   plan_found     a plan of these kinds; `no_plan` none
---   plan_of        the plan of a struct of so many members, of which those that are there have these types, with so many levels left
-use Rattle.std.specs.Prelude.{◌+◌, ◌∷◌, ◌&&◌}
+--   plan_of        the plan, if there is one, of a struct of so many members, of which those that are there have these types, with so many
+--                  levels left
+use Rattle.std.specs.Prelude.{◌+◌, ◌∷◌, ◌&&◌, Option, Some, None}
 use Rattle.choices.specs.{ℕ, zero, suc, List, [], Bool, true, false, cond, eqb, ltb, leb, get_or, set, replicate, choose}
 use Rattle.type_kinds.specs.{Inner, Inert, Leaf, Text, Objref, Enum}
 use Rattle.type_unions.specs.{Shape, fault, flat, struct, exception, union, sequence, array, alias}
@@ -61,13 +62,13 @@ unfoldable pub laid : Checked → List ℕ → ℕ → List Inner → List ℕ
 laid t kinds j [] = kinds
 laid t kinds j (y ∷ ys) = laid t (set kinds j (leaf_kind (t.look y))) (j + 1) ys
 
-abbrev pub plan_found : List ℕ → ℕ → Plan
-plan_found kinds count = record { found = true; kinds = kinds; count = count }
+abbrev pub plan_found : List ℕ → ℕ → Option Plan
+plan_found kinds count = Some (record { kinds = kinds; count = count })
 
-abbrev pub no_plan : Plan
-no_plan = record { found = false; kinds = replicate most_members 0; count = 0 }
+abbrev pub no_plan : Option Plan
+no_plan = None
 
-unfoldable pub plan_of : Checked → ℕ → ℕ → List Inner → Plan
+unfoldable pub plan_of : Checked → ℕ → ℕ → List Inner → Option Plan
 plan_of t left count ys =
     choose (leb count most_members && (leb 2 left && plannable t count ys))
     (λ _. plan_found (laid t (replicate most_members 0) 0 ys) count)

@@ -12,9 +12,9 @@ ghost use Rattle.value_meaning.specs.Sinks.{repeats};
 ghost use Rattle.value_meaning.specs.Visit.{Checked, checked};
 ghost use Rattle.value_meaning.specs.Reading.{reads};
 ghost use Rattle.value_cursor.specs.Walk.{sink_of, source_of, state_of};
-ghost use Rattle.value_plans.specs.Plans.{plan_steps, plan_visit, no_leaf, inert_kind, leaf_kind, no_plan, plan_of};
+ghost use Rattle.value_plans.specs.Plans.{plan_steps, plan_visit, no_leaf, inert_kind, leaf_kind, plan_of};
 
-use type_kinds::{Fields, Inert, Labels, Spot};
+use type_kinds::{Fields, Inert, Labels};
 use type_list::Met;
 use type_parameters::Parameters;
 use value_cursor::{Cursor, Mode};
@@ -22,10 +22,9 @@ use value_cursor::{Cursor, Mode};
 // The most members of a plan.
 pub const MOST_MEMBERS: usize = 16;
 
-// A struct whose members are all kinds without parameters: the kinds of its members, and their number; or that there is none.
+// A struct whose members are all kinds without parameters: the kinds of its members, and their number.
 #[derive(Clone, Copy)]
 pub struct Plan {
-    pub found: bool,
     pub kinds: [u8; MOST_MEMBERS],
     pub count: u64,
 }
@@ -54,34 +53,22 @@ pub fn flat(
     value_leaves::inert(value, mode, table, inert, cursor.visit())
 }
 
-// No plan.
-fn no_plan() -> Plan
-    ensures { result ≡ no_plan }
-{
-    Plan {
-        found: false,
-        kinds: [0; MOST_MEMBERS],
-        count: 0,
-    }
-}
-
 // A kind as an octet.
 fn narrow(kind: u64) -> u8
     ensures { result ≡ cond (ltb kind no_leaf) kind no_leaf }
 {
-    // 255 is NO_LEAF, and the number of no kind.
-    if kind < 255 { kind as u8 } else { NO_LEAF }
+    // NO_LEAF is the largest octet, so the number of no kind that a plan holds.
+    u8::try_from(kind).unwrap_or(NO_LEAF)
 }
 
 // The kind of what holds no other.
+#[tactic(auto, unfolding(crate::specs::Plans::inert_kind))]
 fn inert_kind(inert: Inert) -> u8
     ensures { result ≡ inert_kind inert }
 {
     match inert {
         Inert::Leaf(kind) => narrow(kind),
-        Inert::Text(_) => NO_LEAF,
-        Inert::Objref => NO_LEAF,
-        Inert::Enum(_) => NO_LEAF,
+        Inert::Text(_) | Inert::Objref | Inert::Enum(_) => NO_LEAF,
     }
 }
 
@@ -96,44 +83,30 @@ fn leaf_of(e: Parameters) -> u8
 }
 
 // The plan of a struct, if it has one and there are levels for it.
-pub fn plan_of(types: &[u8], met: Met, fields: Fields, left: u32) -> Plan
+pub fn plan_of(types: &[u8], met: Met, fields: Fields, left: u32) -> Option<Plan>
     ensures { result ≡ plan_of (checked types.now (kinds_met met)) left fields.count (types_of (members_of NoLabels types.now fields)) }
 {
     let start = fields.start;
     let order = fields.order;
     let count = fields.count;
     if MEMBERS < count {
-        return no_plan();
+        return None;
     }
     if left < 2 {
-        return no_plan();
+        return None;
     }
+    let mut kinds = [0; MOST_MEMBERS];
     let mut at = fields.first;
-    let mut plan = Plan {
-        found: true,
-        kinds: [0; MOST_MEMBERS],
-        count,
-    };
-    let mut k: u64 = 0;
-    while k < count {
-        let Spot::TypeAt { inner, next } = type_kinds::member_at(
-            Labels::NoLabels,
-            types,
-            start,
-            at,
-            order,
-        ) else {
-            return no_plan();
-        };
+    for k in 0..count {
+        let (inner, next) = type_kinds::member_at(Labels::NoLabels, types, start, at, order)?;
         let kind = leaf_of(type_list::inside_of(types, met, inner));
         if kind == NO_LEAF {
-            return no_plan();
+            return None;
         }
-        plan.kinds[k as usize] = kind;
+        kinds[k as usize] = kind;
         at = next;
-        k += 1;
     }
-    plan
+    Some(Plan { kinds, count })
 }
 
 // The kind of a plan's member, 0 past its end.
@@ -155,13 +128,11 @@ fn plan_members(value: &[u8], mode: Mode, table: &mut [u64], plan: Plan, cursor:
     let kinds = plan.kinds;
     let count = plan.count;
     let mut d = cursor;
-    let mut k: u64 = 0;
-    while k < count {
+    for k in 0..count {
         d = value_leaves::leaf(value, mode, table, kind_at(kinds, k), d.visit());
         if d.fault != 0 {
             return d;
         }
-        k += 1;
     }
     d
 }
@@ -178,13 +149,11 @@ pub fn structs(
     ensures { state_of result table.new ≡ repeats (plan_visit mode value.now plan) count (state_of cursor table.old) }
 {
     let mut d = cursor;
-    let mut k: u64 = 0;
-    while k < count {
+    for _ in 0..count {
         d = plan_members(value, mode, table, plan, d.visit());
         if d.fault != 0 {
             return d;
         }
-        k += 1;
     }
     d
 }

@@ -1,12 +1,13 @@
 -- Visits of numbers that stand in a row: what one does, what all do that go into no table, and what all do that go into one.
+use Rattle.std.specs.Prelude.{Some, None}
 use Rattle.std.proofs.Common.{◌≡◌, ℕ, zero, suc, ◌+◌, ◌-◌, ◌*◌, ◌/◌, ◌%◌, ◌^◌, ◌<◌, ◌≤◌, Bool, true, false, cond, ◌&&◌, ltb, leb, List, length, get_or, sym, refl, ap, ◌∙◌, subst, arith, ltb-false, ltb-true, le-ltb, lt-ltb}
 use mathlib.Core.Bool.{false≢true}
-use borrow.Author.Tests.{lt-leb}
+use borrow.Author.Tests.{lt-leb, eqb-true, eqb-false}
+use lib.Dec.{eqb}
 use Rattle.cdr.specs.declared.Index.{Index}
 use Rattle.cdr.specs.declared.Order.{Order}
 use Rattle.cdr.specs.declared.Size.{Size}
 use Rattle.cdr.specs.declared.Size.TheVariants.{One, Two, Four, Eight}
-use Rattle.cdr.specs.declared.Read.TheVariants.{Number, Ends}
 use Rattle.cdr.specs.Align.{octets, behind_gap}
 use Rattle.cdr.specs.Number.{number_at, read_of}
 use Rattle.choices.proofs.Choices.{by-test, clash}
@@ -92,7 +93,7 @@ pub row-into : (m : Mode) (n : ℕ) (c : Cursor) (table : List ℕ) → m.fill �
 row-into m n c table f g e = record { fill = f; first = g; room = ltb-false (room_in table) (c.items + n) e }
 
 pub row_first : {v : List ℕ} {m : Mode} {kind : ℕ} {z : Size} {n p x : ℕ} {c : Cursor} → Plain kind n c.fault → z ≡ size_of kind
-    → read_of v m.start c.at z m.order ≡ Number p x → Row v m kind z n p c 1
+    → read_of v m.start c.at z m.order ≡ Some (p, x) → Row v m kind z n p c 1
 row_first {v} {m} {kind} {z} {n} {p} {x} {c} h e r =
     let f = read-facts v m.start c.at z m.order p x r in
     let o = next_one z 0 in
@@ -122,13 +123,17 @@ pub record OctetKind (kind : ℕ) : Type 0 where
   pub sized : One ≡ size_of kind
   pub same : (x : ℕ) → content_of kind x ≡ x
 
-pub char-kind : (kind : ℕ) → kind ≡ 9 → OctetKind kind
+char-kind : (kind : ℕ) → kind ≡ 9 → OctetKind kind
 unfolding size_of content_of
 char-kind kind e = record { sized = rw e; same = λ x. rw e }
 
-pub octet-kind : (kind : ℕ) → kind ≡ 10 → OctetKind kind
+octet-kind : (kind : ℕ) → kind ≡ 10 → OctetKind kind
 unfolding size_of content_of
 octet-kind kind e = record { sized = rw e; same = λ x. rw e }
+
+pub octets-kind : (kind : ℕ) → 9 ≤ kind → kind < 11 → OctetKind kind
+octets-kind kind h k =
+    by-test (eqb kind 9) (λ e. char-kind kind (eqb-true kind 9 e)) (λ e. octet-kind kind (let z = eqb-false kind 9 e in omega arith))
 
 -- a row of octets that has room
 module _ {v : List ℕ} {m : Mode} {kind : ℕ} {z : Size} {n p : ℕ} {c : Cursor} (r : Row v m kind z n p c n) (o : OctetKind kind) where
@@ -168,9 +173,9 @@ module _ (m : Mode) (v : List ℕ) (kind : ℕ) (z : Size) (big : 2 ≤ kind) (o
       (lent_of ((s.kept.visits + 1) % 2 ^ 64) ((s.kept.items + 1) % 2 ^ 64) (table_with p s.kept.items s.kept.table))
   unfolding taken
   visit-one p s e f room =
-      let r : read_of v m.start s.at z m.order ≡ Number p (value_at p)
+      let r : read_of v m.start s.at z m.order ≡ Some (p, value_at p)
       = read_number v m.start s.at z m.order (subst (λ (q : ℕ). q + octets z ≤ length v) e f)
-      ∙ ap (λ (q : ℕ). Number q (value_at q)) (sym e) in
+      ∙ ap (λ (q : ℕ). (Some (q, value_at q))) (sym e) in
       way.leaf-read (sink_of m) (source_of m v) kind z p (value_at p) (octets z) (begun (sink_of m) s) big sized refl r
       ∙ way.leaf-other (sink_of m) (source_of m v) kind p (value_at p)
       (taken (sink_of m) (number (p - s.at) p (octets z) (value_at p)) (p + octets z) (begun (sink_of m) s)) other
@@ -215,14 +220,14 @@ module _ (m : Mode) (v : List ℕ) (kind : ℕ) (z : Size) (big : 2 ≤ kind) (o
 
   -- the last number of a row is there
   pub row_ends : (n p : ℕ) (c : Cursor) → Row v m kind z n p c n → (w : ℕ) → w ≡ octets z
-      → read_of v m.start (p + (n - 1) * w) z m.order ≡ Ends → ⊥
+      → read_of v m.start (p + (n - 1) * w) z m.order ≡ None → ⊥
   row_ends zero p c r w ew e = let h = r.plain.some in omega arith
   row_ends (suc n) p c r w ew e =
       let k : p + (suc n - 1) * w ≡ p + n * octets z = ap (λ (i : ℕ). p + (suc n - 1) * i) ew ∙ ap (λ (i : ℕ). p + i * octets z) (omega arith) in
       let a : behind_gap m.start (p + n * octets z) (octets z) ≡ p + n * octets z
       = subst (λ (i : ℕ). behind_gap m.start (i + n * octets z) (octets z) ≡ i + n * octets z) (sym r.place) (in_row z m.start c.at n) in
-      let e' : read_of v m.start (p + n * octets z) z m.order ≡ Ends
-      = subst (λ (i : ℕ). read_of v m.start i z m.order ≡ Ends) k e in
+      let e' : read_of v m.start (p + n * octets z) z m.order ≡ None
+      = subst (λ (i : ℕ). read_of v m.start i z m.order ≡ None) k e in
       let o = next_one z n in
       let f = r.fits in
       let there = read_number v m.start (p + n * octets z) z m.order (omega arith) in
@@ -230,7 +235,7 @@ module _ (m : Mode) (v : List ℕ) (kind : ℕ) (z : Size) (big : 2 ≤ kind) (o
 
   -- the cursor after such a row, by its last number
   pub row-passed : (n p : ℕ) (c : Cursor) → Row v m kind z n p c n → m.fill ≡ false
-      → (w : ℕ) → w ≡ octets z → (q x : ℕ) → read_of v m.start (p + (n - 1) * w) z m.order ≡ Number q x
+      → (w : ℕ) → w ≡ octets z → (q x : ℕ) → read_of v m.start (p + (n - 1) * w) z m.order ≡ Some (q, x)
       → (visits items : ℕ) → visits ≡ (c.visits + n) % 2 ^ 64 → items ≡ (c.items + n) % 2 ^ 64
       → (table : List ℕ) → (m.limited && ltb (room_in table) (c.items + n)) ≡ false
       → st (q + w) c.fault x (lent_of visits items table) ≡ repeats (leaf_visit m v kind) n (state_of c table)

@@ -5,9 +5,9 @@
 --   Fits     n octets from a cursor on fit the octets, and their items the table
 --   OctetsInto  plain visits of n octets that go into the table as they are
 --   value_of  a number that was read, or 0
-use Rattle.std.specs.Prelude.{◌≡◌, ◌+◌, ◌*◌, ◌≤◌, ◌<◌}
+use Rattle.std.specs.Prelude.{◌≡◌, ◌+◌, ◌*◌, ◌≤◌, ◌<◌, Option, Some, None}
 use Rattle.choices.specs.{true, List, ℕ, length}
-use Rattle.cdr.specs.{octets_limit, Size, One, Read, Ends, octets, behind_gap, declared.Read.TheVariants.Number}
+use Rattle.cdr.specs.{octets_limit, Size, One, octets, behind_gap}
 use Rattle.type_numbers.specs.Kinds.{short_kind, boolean_kind}
 use Rattle.value_meaning.specs.{Visit.size_of, Visit.content_of, Value.room_in}
 use Rattle.value_cursor.specs.{declared.Mode.Mode, declared.Cursor.Cursor}
@@ -41,6 +41,6 @@ pub record OctetsInto (m : Mode) (kind n : ℕ) (c : Cursor) : Type 0 where
   pub fill : m.fill ≡ true
   pub first : m.first ≡ 0
 
-abbrev pub value_of : Read → ℕ
-value_of (Number p x) = x
-value_of Ends = 0
+abbrev pub value_of : Option (ℕ × ℕ) → ℕ
+value_of (Some (p, x)) = x
+value_of None = 0

@@ -11,7 +11,7 @@ ghost use Rattle.value_cursor.specs.Lent.{set3};
 ghost use Rattle.value_cursor.specs.Walk.{state_of, leaf_visit};
 ghost use Rattle.value_runs.specs.Inner.{Plain, Row, Into, Fits, OctetsInto, value_of};
 
-use cdr::{Index, Order, Read, Size};
+use cdr::{Index, Order, Size};
 use value_cursor::{Cursor, Mode};
 
 // The most visits that go at once.
@@ -56,13 +56,11 @@ fn each(
     ensures { state_of result table.new ≡ repeats (leaf_visit mode value.now kind) count (state_of cursor table.old) }
 {
     let mut d = cursor;
-    let mut k: u64 = 0;
-    while k < count {
+    for _ in 0..count {
         d = value_leaves::leaf(value, mode, table, kind, d.visit());
         if d.fault != 0 {
             return d;
         }
-        k += 1;
     }
     d
 }
@@ -72,32 +70,15 @@ fn each(
 fn is_plain(kind: u64, count: u64, fault: u32) -> bool
     ensures { result ≡ true → Plain kind count fault }
 {
-    if kind < type_numbers::SHORT {
-        return false;
-    }
-    if kind == type_numbers::BOOLEAN {
-        return false;
-    }
-    if count < 4 {
-        return false;
-    }
-    if MOST < count {
-        return false;
-    }
-    fault == 0
+    let untested = type_numbers::SHORT <= kind && kind != type_numbers::BOOLEAN;
+    untested && 4 <= count && count <= MOST && fault == 0
 }
 
 // Whether there is no room for so many items more, where room is asked for.
 fn lacks_room(limited: bool, room: usize, items: usize, n: usize) -> bool
     ensures { result ≡ (limited && nat_lt room (items + n)) }
 {
-    if limited {
-        if room < items {
-            return true;
-        }
-        return room - items < n;
-    }
-    false
+    limited && (room < items || room - items < n)
 }
 
 // Numbers in a row from p on that go into no table.
@@ -116,22 +97,15 @@ fn passed_over(
 {
     let w = size.octets();
     match value_cursor::number_at(value, mode, p + (n - 1) * w, size) {
-        Read::Number { at, value: number } => Cursor {
+        Some((at, number)) => Cursor {
             at: at + w,
-            visits: std::num::wrapping_add_u64(cursor.visits, n as u64),
-            items: std::num::wrapping_add_usize(cursor.items, n),
-            fault: cursor.fault,
+            visits: cursor.visits.wrapping_add(n as u64),
+            items: cursor.items.wrapping_add(n),
             last: number,
+            ..cursor
         },
-        Read::Ends => cursor,
+        None => cursor,
     }
-}
-
-// An octet, as a number.
-fn wide(x: u8) -> u64
-    ensures { result ≡ x }
-{
-    x as u64
 }
 
 // Octets that go into the table as they are.
@@ -143,28 +117,26 @@ fn octets_in(value: &[u8], table: &mut [u64], kind: u64, n: usize, cursor: Curso
     let at = cursor.at;
     let row = cursor.items;
     let mut last = cursor.last;
-    let mut k: usize = 0;
-    while k < n {
-        last = wide(value[at + k]);
+    for k in 0..n {
+        last = u64::from(value[at + k]);
         store(table, (row + k) * 3, kind, (at + k) as u64, last);
-        k += 1;
     }
     Cursor {
         at: at + n,
-        visits: std::num::wrapping_add_u64(cursor.visits, n as u64),
+        visits: cursor.visits.wrapping_add(n as u64),
         items: row + n,
-        fault: cursor.fault,
-        last: last,
+        last,
+        ..cursor
     }
 }
 
 // The number that was read, or 0.
-fn value_of(r: Read) -> u64
+fn value_of(r: Option<(usize, u64)>) -> u64
     ensures { result ≡ value_of r }
 {
     match r {
-        Read::Number { at, value } => value,
-        Read::Ends => 0,
+        Some((_, value)) => value,
+        None => 0,
     }
 }
 
@@ -198,12 +170,9 @@ fn numbers_in(
     let w = size.octets();
     let row = cursor.items;
     let mut last = cursor.last;
-    let mut k: usize = 0;
-    while k < n {
-        let start = mode.start;
-        let order = mode.order;
+    for k in 0..n {
         let at = p + k * w;
-        last = value_at(value, start, at, size, order);
+        last = value_at(value, mode.start, at, size, mode.order);
         store(
             table,
             (row + k) * 3,
@@ -211,14 +180,13 @@ fn numbers_in(
             at as u64,
             value_cursor::content_of(kind, last),
         );
-        k += 1;
     }
     Cursor {
         at: p + n * w,
-        visits: std::num::wrapping_add_u64(cursor.visits, n as u64),
+        visits: cursor.visits.wrapping_add(n as u64),
         items: row + n,
-        fault: cursor.fault,
-        last: last,
+        last,
+        ..cursor
     }
 }
 
@@ -242,13 +210,10 @@ fn filled(
     if lacks_room(true, table.len() / 3, cursor.items, n) {
         return each(value, mode, table, kind, n as u64, cursor);
     }
-    if kind == type_numbers::CHAR {
-        return octets_in(value, table, kind, n, cursor);
+    match kind {
+        type_numbers::CHAR | type_numbers::OCTET => octets_in(value, table, kind, n, cursor),
+        _ => numbers_in(value, mode, table, kind, size, n, p, cursor),
     }
-    if kind == type_numbers::OCTET {
-        return octets_in(value, table, kind, n, cursor);
-    }
-    numbers_in(value, mode, table, kind, size, n, p, cursor)
 }
 
 // Numbers of which the first stands at p.
@@ -291,7 +256,7 @@ fn together(
 {
     let size = value_cursor::size_of(kind);
     match value_cursor::number_at(value, mode, cursor.at, size) {
-        Read::Number { at, value: _ } => from(value, mode, table, kind, size, n, at, cursor),
-        Read::Ends => each(value, mode, table, kind, n as u64, cursor),
+        Some((at, _)) => from(value, mode, table, kind, size, n, at, cursor),
+        None => each(value, mode, table, kind, n as u64, cursor),
     }
 }

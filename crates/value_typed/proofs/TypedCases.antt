@@ -1,4 +1,5 @@
 -- What a value is read under, by its ways: a refusal, or an accepted type, under which a machine word holds the visits and the items.
+use Rattle.std.specs.Prelude.{Result, Ok, Err}
 use mathlib.Core.Path.{◌≡◌, refl, sym, ap, subst, ◌∙◌}
 use mathlib.Core.List.{List, []}
 use mathlib.Core.Bool.{Bool, true, false, ◌||◌}
@@ -13,8 +14,6 @@ use Rattle.choices.proofs.Choices.{by-test, clash, neither}
 use Rattle.cdr.specs.declared.Order.{Order}
 use Rattle.cdr.specs.Limit.{octets_limit}
 use Rattle.type_kinds.specs.declared.Kind.{Kind}
-use Rattle.typecode.specs.declared.TypeAnswer.{TypeAnswer}
-use Rattle.typecode.specs.declared.TypeAnswer.TheVariants.{Accepted as accepted, Refused as refused, Loop}
 use Rattle.typecode.specs.TypeCode.{checked_type}
 use Rattle.type_laws.proofs.AcceptedAs.{AcceptedAs}
 use Rattle.type_laws.proofs.Exactly39.{accepted-as}
@@ -22,21 +21,21 @@ use Rattle.value_meaning.specs.Sinks.{Source}
 use Rattle.value_meaning.specs.Visit.{checked}
 use Rattle.value_meaning.specs.Value.{on_type}
 use Rattle.value_meaning.proofs.VisitsBounded.{visits-bound, items-bound}
-use Rattle.value_typed.specs.declared.Judged.{Judged}
-use Rattle.value_typed.specs.declared.Judged.TheVariants.{Accepted as accepted_type, Refused as refused_type}
 use Rattle.value_typed.specs.Typed.{Typed, typed, judged_by, typed_for, FitsWords}
+use Rattle.typecode.specs.declared.NoType.TheVariants.{Loop, Refused}
+use Rattle.typecode.specs.declared.NoType.{NoType}
 
 -- what follows an accepted type, or a refusal
-abbrev pub on_judged : {A : Type 0} → Judged → (Unit {0} → A) → (ℕ → A) → A
-on_judged accepted_type f g = f tt
-on_judged (refused_type n) f g = g n
+abbrev pub on_judged : {A : Type 0} → Result (Unit {0}) ℕ → (Unit {0} → A) → (ℕ → A) → A
+on_judged (Ok u) f g = f u
+on_judged (Err n) f g = g n
 
 -- the check of a type by its ways
 module _ (v : List ℕ) (order : Order) (n : ℕ) where
   abbrev long : Bool
   long = ltb octets_limit (length v) || ltb octets_limit n
 
-  pub typed_long : long ≡ true → typed (refused_type 42) [] ≡ typed_for v order n
+  pub typed_long : long ≡ true → typed (Err 42) [] ≡ typed_for v order n
   unfolding typed_for choose
   typed_long e = rw e
 
@@ -51,28 +50,28 @@ module _ (v : List ℕ) (order : Order) (n : ℕ) where
     pub met : (checked_type v order).kinds ≡ m
     pub short : n ≤ octets_limit
 
-  under-type : (a : TypeAnswer) → (checked_type v order).answer ≡ a → judged_by a ≡ accepted_type → n ≤ octets_limit → Under (checked_type v order).kinds
-  under-type (accepted used k) q e short = record { kinds = k; type = accepted-as v order used k q; met = refl; short = short }
-  under-type (refused r) q e short = clash cc
-  under-type Loop q e short = clash cc
+  under-type : (a : Result (ℕ × ℕ) NoType) → (checked_type v order).answer ≡ a → judged_by a ≡ Ok tt → n ≤ octets_limit → Under (checked_type v order).kinds
+  under-type (Ok (used, k)) q e short = record { kinds = k; type = accepted-as v order used k q; met = refl; short = short }
+  under-type (Err (Refused r)) q e short = clash cc
+  under-type (Err Loop) q e short = clash cc
 
-  pub under : (r : Typed) → r ≡ typed_for v order n → r.judged ≡ accepted_type → Under r.kinds
+  pub under : (r : Typed) → r ≡ typed_for v order n → r.judged ≡ Ok tt → Under r.kinds
   under r e s =
       by-test long
-      (λ t. let q : refused_type 42 ≡ accepted_type = ap (λ (y : Typed). y.judged) (typed_long t ∙ sym e) ∙ s in clash cc)
+      (λ t. let q : ◌≡◌ {A = Result (Unit {0}) ℕ} (Err 42) (Ok tt) = ap (λ (y : Typed). y.judged) (typed_long t ∙ sym e) ∙ s in clash cc)
       (λ t. let is : typed (judged_by (checked_type v order).answer) (checked_type v order).kinds ≡ r = typed-short t ∙ sym e in
       subst Under (ap (λ (y : Typed). y.kinds) is)
       (under-type (checked_type v order).answer refl (ap (λ (y : Typed). y.judged) is ∙ s)
       (ltb-false _ _ (neither (ltb octets_limit (length v)) (ltb octets_limit n) t).1)))
 
   module _ {A : Type 0} (f : A) (g : ℕ → A) where
-    way : (b : Bool) (a : TypeAnswer) (m : List Kind) → choose b (λ _. g 42) (λ _. on_type a (λ _. f) g)
-        ≡ on_judged (choose b (λ _. typed (refused_type 42) []) (λ _. typed (judged_by a) m)).judged (λ _. f) g
+    way : (b : Bool) (a : Result (ℕ × ℕ) NoType) (m : List Kind) → choose b (λ _. g 42) (λ _. on_type a (λ _. f) g)
+        ≡ on_judged (choose b (λ _. typed (Err 42) []) (λ _. typed (judged_by a) m)).judged (λ _. f) g
     unfolding choose
     way true a m = refl
-    way false (accepted used k) m = refl
-    way false (refused r) m = refl
-    way false Loop m = refl
+    way false (Ok (used, k)) m = refl
+    way false (Err (Refused r)) m = refl
+    way false (Err Loop) m = refl
 
     -- an answer by what the value is read under
     pub answer-judged : (r : Typed) → r ≡ typed_for v order n

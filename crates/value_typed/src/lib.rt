@@ -7,19 +7,12 @@ ghost use Rattle.value_typed.specs.Typed.{typed_by, judged_by, typed_for};
 
 use cdr::Order;
 use type_list::Met;
-use typecode::TypeAnswer;
+use typecode::NoType;
 
-// Whether a value may be read under a type, or 01's number of the refusal.
-#[derive(Clone, Copy)]
-pub enum Judged {
-    Accepted,
-    Refused(u32),
-}
-
-// What a value is read under: the judgement, and the kinds of an accepted type.
+// What a value is read under: whether it may be, or 01's number of the refusal, and the kinds of an accepted type.
 #[derive(Clone, Copy)]
 pub struct Typed {
-    pub judged: Judged,
+    pub judged: Result<(), u32>,
     pub met: Met,
 }
 
@@ -32,27 +25,25 @@ pub fn check(types: &[u8], torder: Order, octets: usize) -> Typed
 {
     if over_long(types.len(), octets) {
         return Typed {
-            judged: Judged::Refused(refusals::TOO_LONG),
+            judged: Err(refusals::TOO_LONG),
             met: Met::none(),
         };
     }
     let c = typecode::check_type(types, torder);
-    let met = c.met;
-    let answer = c.answer;
     Typed {
-        judged: judge(answer),
-        met,
+        judged: judge(c.answer),
+        met: c.met,
     }
 }
 
-// Whether a value may be read under a type that was checked.
-fn judge(answer: TypeAnswer) -> Judged
+// Whether a value may be read under a type that was checked, or 01's number of the refusal.
+fn judge(answer: Result<(usize, usize), NoType>) -> Result<(), u32>
     ensures { result ≡ judged_by answer }
 {
     match answer {
-        TypeAnswer::Accepted { used: _, kinds: _ } => Judged::Accepted,
-        TypeAnswer::Refused(refusal) => Judged::Refused(refusal.number()),
-        TypeAnswer::Loop => Judged::Refused(refusals::LOOP),
+        Ok(_) => Ok(()),
+        Err(NoType::Refused(refusal)) => Err(refusal.number()),
+        Err(NoType::Loop) => Err(refusals::LOOP),
     }
 }
 
@@ -60,8 +51,5 @@ fn judge(answer: TypeAnswer) -> Judged
 fn over_long(types: usize, value: usize) -> bool
     ensures { result ≡ (ltb octets_limit types || ltb octets_limit value) }
 {
-    if LIMIT < types {
-        return true;
-    }
-    LIMIT < value
+    LIMIT < types || LIMIT < value
 }

@@ -1,4 +1,5 @@
 -- A loop over the members of a struct: what is left of it gives the same answer.
+use Rattle.std.specs.Prelude.{Some, None}
 use mathlib.Core.Path.{◌≡◌, refl, sym, ◌∙◌}
 use mathlib.Core.List.{List}
 use Prim.Native.Nat.{ℕ, suc, ◌+◌, ◌≤◌, ◌<◌}
@@ -8,7 +9,6 @@ use Rattle.cdr.specs.declared.Place.{Place}
 use Rattle.cdr.specs.declared.Order.{Order}
 use Rattle.type_kinds.specs.declared.Inner.{Inner}
 use Rattle.type_kinds.specs.declared.Labels.TheVariants.{NoLabels}
-use Rattle.type_kinds.specs.declared.Spot.TheVariants.{TypeAt, NoType}
 use Rattle.type_kinds.specs.Parts.{member_at}
 use Rattle.type_kinds.specs.Members.{members_from, types_of}
 use Rattle.type_kinds.proofs.NextMember.{members-cut, members-more}
@@ -34,11 +34,11 @@ module _ (k : Sink Lent) (x : Source) (f : Shape → St Lent → St Lent) (t : C
   unfolding members_from types_of members_read
   members-end i s = refl
 
-  members-none : (i : Index) (s : St Lent) → member_at NoLabels v b i order ≡ NoType → (m : ℕ) → reading (suc m) (i, s) ≡ s
+  members-none : (i : Index) (s : St Lent) → member_at NoLabels v b i order ≡ None → (m : ℕ) → reading (suc m) (i, s) ≡ s
   unfolding types_of members_read
   members-none i s e m = rw (members-cut NoLabels v b order i e m)
 
-  members-one : (i : Index) (s : St Lent) (y : Inner) (next : Index) → member_at NoLabels v b i order ≡ TypeAt y next → (m : ℕ)
+  members-one : (i : Index) (s : St Lent) (y : Inner) (next : Index) → member_at NoLabels v b i order ≡ Some (y, next) → (m : ℕ)
       → reading (suc m) (i, s) ≡ and_then (f (t.look y) s) (λ u. reading m (next, u))
   unfolding types_of members_read
   members-one i s y next e m = rw (members-more NoLabels v b order i y next e m)
@@ -51,10 +51,10 @@ module _ (k : Sink Lent) (x : Source) (f : Shape → St Lent → St Lent) (t : C
       pub onward-all : n ≤ j → s ≡ reading n (first, s₀)
       onward-all h = sym (members-end i s) ∙ left_end reading n (first, s₀) on.left h
 
-      pub onward-cut : j < n → member_at NoLabels v b i order ≡ NoType → s ≡ reading n (first, s₀)
+      pub onward-cut : j < n → member_at NoLabels v b i order ≡ None → s ≡ reading n (first, s₀)
       onward-cut h e = left_here reading n (first, s₀) on.left h s (members-none i s e)
 
-      module _ {r : St Lent} (y : Inner) (next : Index) (more : j < n) (at : member_at NoLabels v b i order ≡ TypeAt y next)
+      module _ {r : St Lent} (y : Inner) (next : Index) (more : j < n) (at : member_at NoLabels v b i order ≡ Some (y, next))
           (step : r ≡ f (t.look y) s) where
         pub onward-stop : (r.fault ≡ 0 → ⊥) → r ≡ reading n (first, s₀)
         onward-stop z =

@@ -1,5 +1,6 @@
 -- A visit is the visit of readers that call one another: for every shape, every state and whatever reads what is inside; and the ways that
 -- these readers take.
+use Rattle.std.specs.Prelude.{Option, Some, None}
 use mathlib.Core.Path.{◌≡◌, refl, sym, ap, subst, ◌∙◌, fun_ext}
 use mathlib.Core.Bool.{true}
 use mathlib.Core.List.{List, [], ◌∷◌}
@@ -9,8 +10,6 @@ use lib.ListN.{length}
 use Rattle.type_kinds.specs.declared.Inner.{Inner}
 use Rattle.type_kinds.specs.declared.Inert.TheVariants.{Leaf}
 use Rattle.type_kinds.specs.Members.{Member}
-use Rattle.type_unions.specs.declared.Arm.{Arm}
-use Rattle.type_unions.specs.declared.Arm.TheVariants.{Chosen, NoneChosen}
 use Rattle.type_unions.specs.Arms.{on_arm, chosen_of}
 use Rattle.type_unions.specs.Shapes.{Shape}
 use Rattle.type_unions.specs.Shapes.Shape.{fault, flat, struct, exception, union, sequence, array, alias}
@@ -64,11 +63,11 @@ module _ {A : Type 0} (f : Node → St A → St A) (t : Checked) where
     row_is (y ∷ ys) s =
         after_same (f (node_at t y) s) (f (node_at t y) s) (closes f t (length ys) (row ys)) (members_read k x f' t ys) refl (row_is ys)
 
-    arm_is : (a : Arm) (s : St A)
+    arm_is : (a : Option Inner) (s : St A)
         → on_next (on_arm a (λ y. into y shut) over) s (λ y o. and_then (f (node_at t y) s) (closes f t 0 o)) ≡ arm_at k x f' t a s
     unfolding closes
-    arm_is (Chosen y) s = after_none (f (node_at t y) s) (closes f t 0 shut) (λ u. refl)
-    arm_is NoneChosen s = refl
+    arm_is (Some y) s = after_none (f (node_at t y) s) (closes f t 0 shut) (λ u. refl)
+    arm_is None s = refl
 
     union-is : (d : Inner) (ms : List Member) (default : ℕ) (s : St A) → closes f t 2 (switch d ms default) s ≡ union_at k x f' t d ms default s
     unfolding closes next union_at
@@ -150,14 +149,14 @@ module _ {A : Type 0} (k : Sink A) (x : Source) (f : Shape → St A → St A) wh
     unfolding union_at
     union-stop z = stops arm (f (t.look d) s) u is z
 
-    pub union-member : (y : Inner) → u.fault ≡ 0 → chosen_of ms default u.last ≡ Chosen y
+    pub union-member : (y : Inner) → u.fault ≡ 0 → chosen_of ms default u.last ≡ Some y
         → union_at k x f t d ms default s ≡ f (t.look y) u
     unfolding union_at
-    union-member y z c = goes_on arm (f (t.look d) s) u is z ∙ ap (λ (a : Arm). arm_at k x f t a u) c
+    union-member y z c = goes_on arm (f (t.look d) s) u is z ∙ ap (λ (a : Option Inner). arm_at k x f t a u) c
 
-    pub union-none : u.fault ≡ 0 → chosen_of ms default u.last ≡ NoneChosen → union_at k x f t d ms default s ≡ u
+    pub union-none : u.fault ≡ 0 → chosen_of ms default u.last ≡ None → union_at k x f t d ms default s ≡ u
     unfolding union_at
-    union-none z c = goes_on arm (f (t.look d) s) u is z ∙ ap (λ (a : Arm). arm_at k x f t a u) c
+    union-none z c = goes_on arm (f (t.look d) s) u is z ∙ ap (λ (a : Option Inner). arm_at k x f t a u) c
 
 -- ---- elements
 
@@ -183,8 +182,8 @@ module _ {A : Type 0} (k : Sink A) (x : Source) (t : Checked) (l : ℕ) where
       repeats-same (reads k x t l (flat (Leaf kind))) (λ u. leaf_at k x kind (begun k u)) (λ u. reads-flat k x t l (Leaf kind) u (λ e. omega arith)) n s
 
   -- structs by their plan
-  pub elements-planned : (count : ℕ) (ys : List Inner) (plan : Plan) → plan ≡ plan_of t l count ys → plan.found ≡ true → (n : ℕ) (s : St A)
+  pub elements-planned : (count : ℕ) (ys : List Inner) (plan : Plan) → Some plan ≡ plan_of t l count ys → (n : ℕ) (s : St A)
       → repeats (reads k x t l (struct ys)) n s ≡ repeats (λ u. plan_steps k x plan.kinds 0 plan.count (begun k u)) n s
-  elements-planned count ys plan is found n s =
-      let fit : Fits t l ys plan = subst (Fits t l ys) (sym is) (plan-fits t l count ys (ap (λ (p : Plan). p.found) (sym is) ∙ found)) in
+  elements-planned count ys plan is n s =
+      let fit : Fits t l ys plan = plan-fits t l count ys plan (sym is) in
       repeats-same (reads k x t l (struct ys)) (λ u. plan_steps k x plan.kinds 0 plan.count (begun k u)) (plan-reads k x t l ys plan fit) n s

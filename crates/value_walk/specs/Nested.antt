@@ -6,12 +6,11 @@
 --   exception_at    "exception: a text id, then members"; "an exception's id none"
 --   arm_at          the chosen member, if there is one
 --   union_at        "union: discriminant, then the member"
-use Rattle.std.specs.Prelude.{◌∷◌}
+use Rattle.std.specs.Prelude.{◌∷◌, Option, Some, None}
 use Rattle.choices.specs.{ℕ, List, []}
 use Rattle.type_kinds.specs.{Inner, Member, Kind}
 use Rattle.type_parameters.specs.declared.Parameters.{Parameters}
-use Rattle.type_unions.specs.{Shape, Shapes.shape_of, declared.Arm.Arm, Arms.chosen_of}
-use Rattle.type_unions.specs.declared.Arm.TheVariants.{Chosen, NoneChosen}
+use Rattle.type_unions.specs.{Shape, Shapes.shape_of, Arms.chosen_of}
 use Rattle.value_meaning.specs.{Source, Sink, St, and_then, Sinks.repeats, Visit.Checked, Visit.checked, Visit.text_at, Visit.count_at, Reading.reads}
 use Rattle.value_cursor.specs.{declared.Mode.Mode, Lent.Lent, Walk.sink_of, Walk.source_of}
 
@@ -33,9 +32,9 @@ module _ {A : Type 0} (k : Sink A) (x : Source) (f : Shape → St A → St A) wh
     unfoldable pub exception_at : List Inner → St A → St A
     exception_at ys s = and_then (text_at k x 0 s) (members_read ys)
 
-    abbrev pub arm_at : Arm → St A → St A
-    arm_at (Chosen y) s = f (t.look y) s
-    arm_at NoneChosen s = s
+    abbrev pub arm_at : Option Inner → St A → St A
+    arm_at (Some y) s = f (t.look y) s
+    arm_at None s = s
 
     unfoldable pub union_at : Inner → List Member → ℕ → St A → St A
     union_at d ms default s = and_then (f (t.look d) s) (λ u. arm_at (chosen_of ms default u.last) u)

@@ -17,10 +17,9 @@ ghost use Rattle.value_cursor.specs.Walk.{sink_of, source_of, state_of, cursor_s
 ghost use Rattle.value_walk.specs.Nested.{reads_below, reads_with, sequence_at, members_read, exception_at, union_at};
 
 use cdr::Place;
-use type_kinds::{Fields, Inert, Inner, Labels, Spot};
+use type_kinds::{Fields, Inert, Inner, Labels};
 use type_list::Met;
 use type_parameters::Parameters;
-use type_unions::Arm;
 use value_cursor::{Cursor, Mode};
 
 // The most levels that may be open.
@@ -122,15 +121,9 @@ fn struct_members(
     let count = fields.count;
     let mut at = fields.first;
     let mut d = cursor;
-    let mut k: u64 = 0;
-    while k < count {
-        let Spot::TypeAt { inner, next } = type_kinds::member_at(
-            Labels::NoLabels,
-            types,
-            start,
-            at,
-            order,
-        ) else {
+    for _ in 0..count {
+        let Some((inner, next)) = type_kinds::member_at(Labels::NoLabels, types, start, at, order)
+        else {
             return d;
         };
         let e = type_list::inside_of(types, met, inner);
@@ -142,7 +135,6 @@ fn struct_members(
             return d;
         }
         at = next;
-        k += 1;
     }
     d
 }
@@ -200,7 +192,7 @@ fn union_member(
         return d;
     }
     let labels = type_unions::labels_for(types, met, type_kinds::place_in(discriminant));
-    let Arm::Chosen(inner) = type_unions::chosen_of(labels, types, fields, default, d.last) else {
+    let Some(inner) = type_unions::chosen_of(labels, types, fields, default, d.last) else {
         return d;
     };
     let e = type_list::inside_of(types, met, inner);
@@ -265,11 +257,10 @@ fn elements(
             if count < PLANNED {
                 return each(types, met, value, mode, table, e, count, left, cursor);
             }
-            let plan = value_plans::plan_of(types, met, fields, left);
-            if plan.found {
-                return value_plans::structs(value, mode, table, plan, count, cursor);
+            match value_plans::plan_of(types, met, fields, left) {
+                Some(plan) => value_plans::structs(value, mode, table, plan, count, cursor),
+                None => each(types, met, value, mode, table, e, count, left, cursor),
             }
-            each(types, met, value, mode, table, e, count, left, cursor)
         }
         _ => each(types, met, value, mode, table, e, count, left, cursor),
     }
@@ -311,13 +302,11 @@ fn flat_elements(
         (reads (sink_of mode) (source_of mode value.now) t left (Shape.flat inert)) count (state_of cursor table.old) }
 {
     let mut d = cursor;
-    let mut k: u64 = 0;
-    while k < count {
+    for _ in 0..count {
         d = value_plans::flat(value, mode, table, inert, left, d);
         if d.fault != 0 {
             return d;
         }
-        k += 1;
     }
     d
 }
@@ -339,13 +328,11 @@ fn each(
         ≡ repeats (reads_with mode value.now types.now (kinds_met met) left e) count (state_of cursor table.old) }
 {
     let mut d = cursor;
-    let mut k: u64 = 0;
-    while k < count {
+    for _ in 0..count {
         d = visit(types, met, value, mode, table, e, left, d);
         if d.fault != 0 {
             return d;
         }
-        k += 1;
     }
     d
 }

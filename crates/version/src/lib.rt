@@ -52,6 +52,7 @@ const LATE_STATUS: u64 = 5;
 const EIGHTS_FROM: u8 = 2;
 
 // Whether there is such a major version.
+#[tactic(auto, unfolding(crate::specs::Versions::major_exists))]
 pub fn major_exists(major: u8) -> bool
     ensures { result ≡ major_exists major }
 {
@@ -59,6 +60,7 @@ pub fn major_exists(major: u8) -> bool
 }
 
 // Whether there is such a minor version.
+#[tactic(auto, unfolding(crate::specs::Versions::minor_exists))]
 pub fn minor_exists(minor: u8) -> bool
     ensures { result ≡ minor_exists minor }
 {
@@ -66,6 +68,7 @@ pub fn minor_exists(minor: u8) -> bool
 }
 
 // Whether the minor version allows these flags.
+#[tactic(auto, unfolding(crate::specs::Versions::flags_allowed))]
 pub fn flags_allowed(minor: u8, flags: u8) -> bool
     ensures { result ≡ flags_allowed minor flags }
 {
@@ -77,6 +80,7 @@ pub fn flags_allowed(minor: u8, flags: u8) -> bool
 }
 
 // Whether the minor version has this message type.
+#[tactic(auto, unfolding(crate::specs::Versions::type_exists))]
 pub fn type_exists(minor: u8, kind: u8) -> bool
     ensures { result ≡ type_exists minor kind }
 {
@@ -88,6 +92,7 @@ pub fn type_exists(minor: u8, kind: u8) -> bool
 }
 
 // Whether the first four body octets are the request id in this minor version.
+#[tactic(auto, unfolding(crate::specs::Versions::body_starts_with_id))]
 pub fn body_starts_with_id(minor: u8) -> bool
     ensures { result ≡ body_starts_with_id minor }
 {
@@ -95,6 +100,7 @@ pub fn body_starts_with_id(minor: u8) -> bool
 }
 
 // Whether the minor version's fragments are read.
+#[tactic(auto, unfolding(crate::specs::Versions::reads_fragments))]
 pub fn reads_fragments(minor: u8) -> bool
     ensures { result ≡ reads_fragments minor }
 {
@@ -102,6 +108,7 @@ pub fn reads_fragments(minor: u8) -> bool
 }
 
 // Whether a profile body of the minor version has a list of components.
+#[tactic(auto, unfolding(crate::specs::Versions::has_components))]
 pub fn has_components(minor: u8) -> bool
     ensures { result ≡ has_components minor }
 {
@@ -109,6 +116,7 @@ pub fn has_components(minor: u8) -> bool
 }
 
 // How many reserved octets a request header of the minor version has.
+#[tactic(auto, unfolding(crate::specs::Versions::reserved_octets))]
 pub fn reserved_octets(minor: u8) -> usize
     ensures { result ≡ reserved_octets minor }
 {
@@ -120,6 +128,7 @@ pub fn reserved_octets(minor: u8) -> usize
 }
 
 // Whether a request header of the minor version may have this response octet: a boolean, or flags.
+#[tactic(auto, unfolding(crate::specs::Versions::response_allowed, crate::specs::Versions::body_starts_with_id))]
 pub fn response_allowed(minor: u8, response: u64) -> bool
     ensures { result ≡ response_allowed minor response }
 {
@@ -127,6 +136,7 @@ pub fn response_allowed(minor: u8, response: u64) -> bool
 }
 
 // Whether a reply of the minor version may have this status.
+#[tactic(auto, unfolding(crate::specs::Versions::status_exists, crate::specs::Versions::body_starts_with_id))]
 pub fn status_exists(minor: u8, status: u64) -> bool
     ensures { result ≡ status_exists minor status }
 {
@@ -138,6 +148,7 @@ pub fn status_exists(minor: u8, status: u64) -> bool
 }
 
 // Whether what follows a request's or a reply's header of the minor version begins at a multiple of 8.
+#[tactic(auto, unfolding(crate::specs::Versions::body_in_eights))]
 pub fn body_in_eights(minor: u8) -> bool
     ensures { result ≡ body_in_eights minor }
 {

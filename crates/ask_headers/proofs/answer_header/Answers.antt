@@ -9,4 +9,4 @@ returns-in_default c =
 
 pub returns : goal.returns
 returns c =
-    rw (octets-are (lone-stands c.args.rest.now c.requires c.read_lone.ensures) _ c.in-Count.is no_header_question header_asked) c.write_header.ensures
+    rw (octets-are (lone-stands c.args.rest.now c.requires c.read_lone.ensures) _ c.in-Some.is no_header_question header_asked) c.write_header.ensures

@@ -6,16 +6,16 @@ use Rattle.ask_headers.proofs.write_head.Goals as goal
 
 pub slice_bounds-write-end : goal.slice_bounds-write-end
 slice_bounds-write-end c =
-    head-within c.args.message.now c.args.room c.args.memory.now _ c.least-n.ensures c.requires _ c.head.ensures.0 _ c.in-Written.is _ c.head.ensures.1
+    head-within c.args.message.now c.args.room c.args.memory.now _ c.min-n.ensures c.requires _ c.head.ensures.0 _ c.in-Ok.is _ c.head.ensures.1
 
-pub slice_bounds-write-end-in-Written : goal.slice_bounds-write-end-in-Written
-slice_bounds-write-end-in-Written c =
-    sym (length-take-le _ _ (head-within c.args.message.now c.args.room c.args.memory.now _ c.least-n.ensures c.requires _ c.head.ensures.0 _ c.in-Written.is _ c.head.ensures.1))
+pub slice_bounds-write-end-in-Ok : goal.slice_bounds-write-end-in-Ok
+slice_bounds-write-end-in-Ok c =
+    sym (length-take-le _ _ (head-within c.args.message.now c.args.room c.args.memory.now _ c.min-n.ensures c.requires _ c.head.ensures.0 _ c.in-Ok.is _ c.head.ensures.1))
 
-pub returns-in-Written : goal.returns-in-Written
-returns-in-Written c =
-    rw (head-given c.args.message.now c.args.room c.args.memory.now _ c.least-n.ensures c.requires _ c.head.ensures.0 _ c.in-Written.is _ c.head.ensures.1) c.write.ensures
+pub returns-in-Ok : goal.returns-in-Ok
+returns-in-Ok c =
+    rw (head-given c.args.message.now c.args.room c.args.memory.now _ c.min-n.ensures c.requires _ c.head.ensures.0 _ c.in-Ok.is _ c.head.ensures.1) c.write.ensures
 
-pub returns-in-Refused : goal.returns-in-Refused
-returns-in-Refused c =
-    rw (head-refused c.args.message.now c.args.room c.args.memory.now _ c.least-n.ensures c.requires _ c.head.ensures.0 _ c.in-Refused.is _ c.number.ensures c.args.message.now) c.write-in-Refused.ensures
+pub returns-in-Err : goal.returns-in-Err
+returns-in-Err c =
+    rw (head-refused c.args.message.now c.args.room c.args.memory.now _ c.min-n.ensures c.requires _ c.head.ensures.0 _ c.in-Err.is _ c.number.ensures c.args.message.now) c.write-in-Err.ensures

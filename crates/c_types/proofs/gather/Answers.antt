@@ -10,10 +10,9 @@ pub loop-i-preserved : goal.loop-i-preserved
 loop-i-preserved c =
     let met = c.args.met in
     let all = c.loop-i.all in
-    let low : c.loop-i.i < kinds_held met = omega (arith, c.loop-i-test.true, c.held_in-n.ensures) in
+    let low : c.loop-i.i < kinds_held met = omega (arith, c.loop-i-test.true, c.held_in-i-end.ensures) in
     let kept = c.loop-i.invariant in
     record {
-      few = omega (arith, c.loop-i-test.true);
       places = set_more met c.loop-i.i low place_number all.places _ refl ∙ kept.places;
       starts = set_more met c.loop-i.i low start_number all.starts _ refl ∙ kept.starts;
       orders = set_more met c.loop-i.i low order_number all.orders _ c.octet_of.ensures ∙ kept.orders;
@@ -23,7 +22,7 @@ pub returns : goal.returns
 returns c =
     let ks = kinds_met c.args.met in
     let all = c.loop-i.all in
-    let over : length ks ≤ c.loop-i.i = omega (arith, c.loop-i-test.false, c.held_in-n.ensures, length-kinds c.args.met) in
+    let over : length ks ≤ c.loop-i.i = omega (arith, c.loop-i-test.false, c.held_in-i-end.ensures, length-kinds c.args.met) in
     let kept = c.loop-i.invariant in
     record {
       places = sym (set_all place_number ks c.loop-i.i all.places over) ∙ kept.places;

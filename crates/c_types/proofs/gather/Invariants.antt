@@ -1,5 +1,5 @@
 -- Kind by kind: what is set of an array, and the numbers that are still to be set, are all of them.
-use Rattle.std.proofs.Common.{◌≡◌, ℕ, ◌-◌, ◌≤◌, List, map, drop}
+use Rattle.std.proofs.Common.{◌≡◌, ℕ, List, map, drop}
 use Rattle.std.proofs.lemmas.List.Edits.{sets}
 use Rattle.type_kinds.specs.declared.Kind.{Kind}
 use Rattle.type_list.specs.declared.Met.{Met}
@@ -12,11 +12,7 @@ Rest f met i l = sets l i (map f (drop i (kinds_met met))) ≡ entries_of f (kin
 
 abbrev pub invariant-loop-i : goal.invariant-loop-i
 invariant-loop-i l = record {
-  few : l.i ≤ l.n;
   places : Rest place_number l.met l.i l.all.places;
   starts : Rest start_number l.met l.i l.all.starts;
   orders : Rest order_number l.met l.i l.all.orders;
 }
-
-abbrev pub decreases-loop-i : goal.decreases-loop-i
-decreases-loop-i l = l.n - l.i

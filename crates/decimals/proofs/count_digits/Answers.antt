@@ -1,13 +1,12 @@
-use mathlib.Core.Path.{◌≡◌}
-use Prim.Native.Nat.{◌+◌, ◌-◌}
+-- The power of ten below the number tells its digits; 0 has one.
+use mathlib.Core.Path.{sym}
 use native.Mathlib.Omega.{arith}
-use Rattle.decimals.proofs.DecimalIs.{digits-left, counted-turn, counted-last}
+use Rattle.decimals.proofs.DecimalIs.{one-digit, digits-counted}
 use Rattle.decimals.proofs.count_digits.Goals as goal
 
-pub loop-left-preserved : goal.loop-left-preserved
-loop-left-preserved c = let d = digits-left (21 - c.loop-left.n) c.loop-left.left c.loop-left-test.true c.loop-left.invariant.2 in
-    let e : 21 - c.loop-left.n - 1 ≡ 21 - (c.loop-left.n + 1) = omega arith in
-    (omega arith, omega arith, rw e at d.1, omega (arith, counted-turn c.loop-left.n c.loop-left.left c.loop-left.invariant.0 c.loop-left.invariant.1 c.loop-left-test.true))
+pub returns-in-Some : goal.returns-in-Some
+returns-in-Some c =
+    let h = c.in-Some.ensures in sym (digits-counted 20 c.in-Some.power c.args.x h.bound h.power_le h.next_power_gt)
 
-pub returns : goal.returns
-returns c = omega (arith, counted-last c.loop-left.n c.loop-left.left c.loop-left.invariant.0 c.loop-left.invariant.1 c.loop-left-test.false)
+pub returns-in-None : goal.returns-in-None
+returns-in-None c = rw (c.in-None.ensures.none, one-digit 19 0 (omega arith))

@@ -4,38 +4,18 @@ use borrow.Author.Tests.{eq-eqb, ne_eqb}
 use Rattle.header_layout.specs.Layout.{layout_of}
 use Rattle.header.proofs.by_type.Goals as goal
 
-pub returns-then-late : goal.returns-then-late
+pub returns-in-true-true : goal.returns-in-true-true
 unfolding layout_of
-returns-then-late c =
-    c.late_request.ensures ∙ sym (rw (
-      eq-eqb _ _ c.if-kind-eq-REQUEST.true,
-      sym c.body_starts_with_id-late.ensures
-          ∙ c.if-late.true,
-    ))
+returns-in-true-true c = c.late_request.ensures ∙ sym (rw (eq-eqb _ _ c.in-true-true.is-0, sym c.in-true-true.ensures))
 
-pub returns-then-kind-eq-REQUEST : goal.returns-then-kind-eq-REQUEST
+pub returns-in-true-false : goal.returns-in-true-false
 unfolding layout_of
-returns-then-kind-eq-REQUEST c =
-    c.early_request.ensures ∙ sym (rw (
-      eq-eqb _ _ c.if-kind-eq-REQUEST.true,
-      sym c.body_starts_with_id-late.ensures
-          ∙ c.if-late.false,
-    ))
+returns-in-true-false c = c.early_request.ensures ∙ sym (rw (eq-eqb _ _ c.in-true-false.is-0, sym c.in-true-false.ensures))
 
-pub returns-then-late-2 : goal.returns-then-late-2
+pub returns-in-false-true : goal.returns-in-false-true
 unfolding layout_of
-returns-then-late-2 c =
-    c.late_reply.ensures ∙ sym (rw (
-      ne_eqb _ _ c.if-kind-eq-REQUEST.false,
-      sym c.body_starts_with_id-late.ensures
-          ∙ c.if-late-2.true,
-    ))
+returns-in-false-true c = c.late_reply.ensures ∙ sym (rw (ne_eqb _ _ c.in-false-true.is-0, sym c.in-false-true.ensures))
 
-pub returns : goal.returns
+pub returns-in-false-false : goal.returns-in-false-false
 unfolding layout_of
-returns c =
-    c.early_reply.ensures ∙ sym (rw (
-      ne_eqb _ _ c.if-kind-eq-REQUEST.false,
-      sym c.body_starts_with_id-late.ensures
-          ∙ c.if-late-2.false,
-    ))
+returns-in-false-false c = c.early_reply.ensures ∙ sym (rw (ne_eqb _ _ c.in-false-false.is-0, sym c.in-false-false.ensures))

@@ -9,12 +9,12 @@ returns-then-length-end c = sym (body-empty c.args.length c.args.end c.args.mino
 pub returns-then-length-end-2 : goal.returns-then-length-end-2
 returns-then-length-end-2 c =
     sym (body-short c.args.length c.args.end c.args.minor c.if-length-end.false (sym c.body_in_eights.ensures
-    ∙ c.if-body_in_eights.true) c.if-length-end-2.true)
+    ∙ c.if-body_in_eights.true) (rw c.gap-gap.ensures at c.if-length-end-2.true))
 
 pub returns-then-body_in_eights : goal.returns-then-body_in_eights
 returns-then-body_in_eights c =
-    sym (body-aligned c.args.length c.args.end c.args.minor c.if-length-end.false (sym c.body_in_eights.ensures
-    ∙ c.if-body_in_eights.true) c.if-length-end-2.false)
+    rw c.gap-gap.ensures (sym (body-aligned c.args.length c.args.end c.args.minor c.if-length-end.false (sym c.body_in_eights.ensures
+    ∙ c.if-body_in_eights.true) (rw c.gap-gap.ensures at c.if-length-end-2.false)))
 
 pub returns : goal.returns
 returns c = sym (body-behind c.args.length c.args.end c.args.minor c.if-length-end.false (sym c.body_in_eights.ensures ∙ c.if-body_in_eights.false))

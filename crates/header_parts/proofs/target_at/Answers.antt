@@ -1,29 +1,27 @@
 -- The kind, then what follows it.
 use mathlib.Core.Path.{sym, ◌∙◌}
-use borrow.Author.Tests.{eq-eqb, ne_eqb}
+use native.Mathlib.Omega.{arith}
+use borrow.Author.Tests.{ne_eqb}
+use Rattle.header_parts.proofs.Ended.{exit-none}
 use Rattle.header_parts.proofs.PartsRead.{target_is}
 use Rattle.header_parts.proofs.target_at.Goals as goal
 
+pub returns-in_err-kind : goal.returns-in_err-kind
+returns-in_err-kind c =
+    let none = exit-none c.from_residual.ensures.1 c.ok_or.ensures.value c.in_err-kind.was in
+    none.1 ∙ sym (target_is c.args.s.now c.args.at c.args.order _ (sym c.read_field.ensures ∙ none.0))
+
+pub returns-in-0 : goal.returns-in-0
+returns-in-0 c = c.key_target.ensures ∙ sym (target_is c.args.s.now c.args.at c.args.order _ (sym c.read_field.ensures ∙ c.in_ok-kind.ensures.ok_part) ∙ rw c.in-0.is)
+
+pub returns-in-1 : goal.returns-in-1
+returns-in-1 c = c.profile_target.ensures ∙ sym (target_is c.args.s.now c.args.at c.args.order _ (sym c.read_field.ensures ∙ c.in_ok-kind.ensures.ok_part) ∙ rw c.in-1.is)
+
+pub returns-in-2 : goal.returns-in-2
+returns-in-2 c = c.reference_target.ensures ∙ sym (target_is c.args.s.now c.args.at c.args.order _ (sym c.read_field.ensures ∙ c.in_ok-kind.ensures.ok_part) ∙ rw c.in-2.is)
+
 pub returns-in_default : goal.returns-in_default
 returns-in_default c =
-    sym (target_is c.args.s.now c.args.at c.args.order _ (sym c.read_field.ensures ∙ c.in_default.is))
-
-pub returns-then-kind-eq-KEY_TARGET : goal.returns-then-kind-eq-KEY_TARGET
-returns-then-kind-eq-KEY_TARGET c =
-    c.key_target.ensures ∙ sym (target_is c.args.s.now c.args.at c.args.order _ (sym c.read_field.ensures ∙ c.in-Value.is)
-    ∙ rw (eq-eqb _ _ c.if-kind-eq-KEY_TARGET.true))
-
-pub returns-then-kind-eq-PROFILE_TARGET : goal.returns-then-kind-eq-PROFILE_TARGET
-returns-then-kind-eq-PROFILE_TARGET c =
-    c.profile_target.ensures ∙ sym (target_is c.args.s.now c.args.at c.args.order _ (sym c.read_field.ensures ∙ c.in-Value.is)
-    ∙ rw (ne_eqb _ _ c.if-kind-eq-KEY_TARGET.false, eq-eqb _ _ c.if-kind-eq-PROFILE_TARGET.true))
-
-pub returns-then-kind-eq-REFERENCE_TARGET : goal.returns-then-kind-eq-REFERENCE_TARGET
-returns-then-kind-eq-REFERENCE_TARGET c =
-    c.reference_target.ensures ∙ sym (target_is c.args.s.now c.args.at c.args.order _ (sym c.read_field.ensures ∙ c.in-Value.is)
-    ∙ rw (ne_eqb _ _ c.if-kind-eq-KEY_TARGET.false, ne_eqb _ _ c.if-kind-eq-PROFILE_TARGET.false, eq-eqb _ _ c.if-kind-eq-REFERENCE_TARGET.true))
-
-pub returns : goal.returns
-returns c =
-    sym (target_is c.args.s.now c.args.at c.args.order _ (sym c.read_field.ensures ∙ c.in-Value.is)
-    ∙ rw (ne_eqb _ _ c.if-kind-eq-KEY_TARGET.false, ne_eqb _ _ c.if-kind-eq-PROFILE_TARGET.false, ne_eqb _ _ c.if-kind-eq-REFERENCE_TARGET.false))
+    let k = c.in_ok-kind.kind in
+    sym (target_is c.args.s.now c.args.at c.args.order _ (sym c.read_field.ensures ∙ c.in_ok-kind.ensures.ok_part)
+    ∙ rw (ne_eqb k 0 (omega (arith, c.in_default)), ne_eqb k 1 (omega (arith, c.in_default)), ne_eqb k 2 (omega (arith, c.in_default))))

@@ -6,12 +6,12 @@ use Rattle.profile_octets.proofs.ExtentsTold.{component-octets-are}
 use mathlib.Core.Path.{refl, sym, subst, ◌∙◌}
 use Rattle.profile_octets.proofs.component_octets.Goals as goal
 
-pub returns-in-Found : goal.returns-in-Found
-returns-in-Found c =
-    let part = component-octets-are c.args.s.now c.args.number _ (sym c.component.ensures ∙ c.in-Found.is) in
+pub returns-in-Ok : goal.returns-in-Ok
+returns-in-Ok c =
+    let part = component-octets-are c.args.s.now c.args.number _ (sym c.component.ensures ∙ c.in-Ok.is) in
     subst (λ (x : Extent). PartOf c.args.s x c.octets_in.result) (sym part) c.octets_in.ensures
 
-pub returns-in-Refused : goal.returns-in-Refused
-returns-in-Refused c =
-    let part = component-octets-are c.args.s.now c.args.number _ (sym c.component.ensures ∙ c.in-Refused.is) in
+pub returns-in-Err : goal.returns-in-Err
+returns-in-Err c =
+    let part = component-octets-are c.args.s.now c.args.number _ (sym c.component.ensures ∙ c.in-Err.is) in
     none_of c.args.s _ part _ refl refl refl

@@ -1,12 +1,7 @@
 -- The field's number.
 use mathlib.Core.Path.{sym, ◌∙◌}
-use Rattle.profile_parts.proofs.PartsWithin.{number_is}
+use Rattle.profile_parts.proofs.PartsWithin.{or-ends, number_is}
 use Rattle.profile_parts.proofs.number_at.Goals as goal
 
-pub returns-in-Value : goal.returns-in-Value
-returns-in-Value c =
-    sym (number_is c.args.s.now c.args.at c.args.order c.args.size _ (sym c.read_field.ensures ∙ c.in-Value.is))
-
-pub returns-in-NoField : goal.returns-in-NoField
-returns-in-NoField c =
-    sym (number_is c.args.s.now c.args.at c.args.order c.args.size _ (sym c.read_field.ensures ∙ c.in-NoField.is))
+pub returns : goal.returns
+returns c = c.ok_or.ensures.value ∙ or-ends c.read_field.ensures ∙ sym (number_is c.args.s.now c.args.at c.args.order c.args.size)

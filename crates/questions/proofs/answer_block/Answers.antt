@@ -11,5 +11,5 @@ loop-line-preserved c =
 pub returns : goal.returns
 returns c =
     block-answered c.args.block.now c.args.from c.args.line.now c.args.out.now c.args.table.now c.args.kept _ _ _ _ _
-    (ap (λ (n : ℕ). record { kept = c.args.kept; next = n; filled = 0 }) c.least.ensures) c.loop-line.invariant
+    (ap (λ (n : ℕ). record { kept = c.args.kept; next = n; filled = 0 }) c.min.ensures) c.loop-line.invariant
     (c.goes_on.ensures.1 c.loop-line-test.false)

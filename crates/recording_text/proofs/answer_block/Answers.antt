@@ -9,4 +9,4 @@ returns c =
     block-answered c.args.block.now c.args.from c.args.line.now c.args.places.now c.args.out.now c.args.state _ _ _ _
     (c.answer_lines.ensures
     ∙ ap (λ (n : ℕ). block_from (length c.args.block.now) c.args.block.now (work_of (record { state = c.args.state; next = n; filled = 0 }) c.args.line.now c.args.places.now c.args.out.now))
-    c.least.ensures)
+    c.min.ensures)

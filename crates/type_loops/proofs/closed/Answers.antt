@@ -1,4 +1,3 @@
-use Prim.Native.Nat.{◌-◌}
 use Rattle.type_loops.proofs.RoundsDone.{closed_none, closed-more}
 use borrow.Author.Rules.{rules}
 use Rattle.type_loops.proofs.closed.Goals as goal

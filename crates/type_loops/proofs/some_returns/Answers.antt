@@ -1,16 +1,17 @@
-use mathlib.Core.Path.{sym, ◌∙◌}
-use mathlib.Core.Bool.{false}
-use Prim.Native.Nat.{◌-◌}
-use Rattle.type_loops.proofs.RoundsDone.{none_yet, none_more, one-returns}
+-- The tests of the kinds below n, one after the other.
+use mathlib.Core.Path.{refl, ◌∙◌}
+use native.Mathlib.Nat.{sub-zero}
 use borrow.Author.Rules.{rules}
+use borrow.Author.Tests.{tests}
+use Rattle.std.proofs.lemmas.Iterator.{YieldsList-from_range}
+use Rattle.std.proofs.lemmas.Iterator.Search.{any_from_yields_List}
+use Rattle.type_loops.specs.Loops.{cell}
+use Rattle.type_loops.specs.Inner.{some_returns}
+use Rattle.type_loops.proofs.SomeBelow.{any-in-range}
 use Rattle.type_loops.proofs.some_returns.Goals as goal
 
-pub loop-i-init : goal.loop-i-init
-loop-i-init c = (search rules, none_yet _)
-
-pub returns-then-has_bit : goal.returns-then-has_bit
-returns-then-has_bit c = one-returns _ _ _ c.loop-i-test.true (sym c.has_bit.ensures ∙ c.if-has_bit.true)
-
-pub loop-i-preserved : goal.loop-i-preserved
-loop-i-preserved c =
-    (search rules, none_more _ _ c.loop-i.invariant.1 (sym c.has_bit.ensures ∙ c.if-has_bit.false))
+pub returns : goal.returns
+unfolding some_returns
+returns c =
+    any_from_yields_List (λ i. cell c.args.steps.rows i i) _ _ _ c.any.ensures.ran (YieldsList-from_range 0 c.args.n c.args.n refl (sub-zero c.args.n)) (λ x b q k. search (rules, tests))
+    ∙ any-in-range (λ i. cell c.args.steps.rows i i) c.args.n

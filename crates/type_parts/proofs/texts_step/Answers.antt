@@ -1,17 +1,20 @@
 use mathlib.Core.Path.{sym, ◌∙◌}
 use native.Mathlib.Omega.{arith}
-use Prim.Native.Nat.{◌-◌}
-use Rattle.type_parts.proofs.NextName.{texts-refused, texts-next, texts-end}
+use Rattle.choices.proofs.Exits.{exit-error}
+use Rattle.choices.proofs.Turns.{left_here, left-more, left_end}
+use Rattle.type_counts.specs.Counts.{texts_step}
+use Rattle.type_parts.proofs.NextName.{texts-refused, texts-next}
 use Rattle.type_parts.proofs.texts_step.Goals as goal
 
-pub returns-in-Refused : goal.returns-in-Refused
-returns-in-Refused c =
-    sym (texts-refused c.args.part.now c.args.order c.args.count c.loop-k.k c.loop-k.next c.loop-k-test.true _ (sym c.text_step.ensures ∙ c.in-Refused.is)) ∙ c.loop-k.invariant.1
+pub returns-in_err-next : goal.returns-in_err-next
+returns-in_err-next c =
+    let refused = texts-refused c.args.part.now c.args.order c.loop.next _ (sym c.text_step.ensures ∙ c.in_err-next.was) in
+    exit-error c.from_residual.ensures.1 ∙ left_here _ _ _ c.loop.invariant (omega arith) _ refused
 
-pub loop-k-preserved : goal.loop-k-preserved
-loop-k-preserved c =
-    (omega (arith, c.loop-k-test.true), sym (texts-next c.args.part.now c.args.order c.args.count c.loop-k.k c.loop-k.next c.loop-k-test.true _ (sym c.text_step.ensures ∙ c.in-Next.is)) ∙ c.loop-k.invariant.1)
+pub loop-preserved : goal.loop-preserved
+loop-preserved c =
+    left-more _ _ _ c.loop.invariant (omega arith) _ (texts-next c.args.part.now c.args.order c.loop.next _ (sym c.text_step.ensures ∙ c.in_ok-next.was))
 
 pub returns : goal.returns
-returns c =
-    sym (texts-end c.args.part.now c.args.order c.args.count c.loop-k.k c.loop-k.next c.loop-k-test.false) ∙ c.loop-k.invariant.1
+unfolding texts_step
+returns c = left_end _ _ _ c.loop.invariant (omega arith)

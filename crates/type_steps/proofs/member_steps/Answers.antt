@@ -1,16 +1,16 @@
 use mathlib.Core.Path.{sym, ◌∙◌}
-use Prim.Native.Nat.{◌-◌}
+use native.Mathlib.Omega.{arith}
 use Rattle.type_steps.proofs.MemberSteps.{members-cut, members-more, members-all}
 use Rattle.type_steps.proofs.member_steps.Goals as goal
 
 pub returns-in_default : goal.returns-in_default
 returns-in_default c =
-    members-cut c.loop-k.invariant c.loop-k-test.true (sym c.member_at.ensures ∙ c.in_default.is)
+    members-cut c.loop.invariant (omega arith) (sym c.member_at.ensures ∙ c.in_default.is)
 
-pub loop-k-preserved : goal.loop-k-preserved
-loop-k-preserved c =
-    let found = sym c.member_at.ensures ∙ c.in-TypeAt.is in
-    members-more c.loop-k.invariant c.loop-k-test.true found c.place_in.ensures c.note.ensures
+pub loop-preserved : goal.loop-preserved
+loop-preserved c =
+    let found = sym c.member_at.ensures ∙ c.in-Some.is in
+    members-more c.loop.invariant (omega arith) found c.place_in.ensures c.note.ensures
 
 pub returns : goal.returns
-returns c = members-all c.loop-k.invariant c.loop-k-test.false
+returns c = members-all c.loop.invariant (omega arith)

@@ -12,5 +12,5 @@ returns-then-loops_back c = rw (sym c.loops_back.ensures ∙ c.if-loops_back.tru
 pub returns : goal.returns
 unfolding loop_last choose
 returns c =
-    let many = c.held_in-kinds.ensures ∙ sym (length-kinds c.args.met) in
+    let many = c.held_in.ensures ∙ sym (length-kinds c.args.met) in
     rw (sym c.loops_back.ensures ∙ c.if-loops_back.false, many)

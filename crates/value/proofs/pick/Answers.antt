@@ -3,7 +3,7 @@ use mathlib.Core.Path.{ap, ◌∙◌}
 use Rattle.value_meaning.specs.Sinks.{source}
 use Rattle.value_meaning.specs.Visit.{checked}
 use Rattle.value.proofs.WalksLeaveReading as walks
-use Rattle.value.specs.declared.ItemAnswer.TheVariants.{Given}
+use Rattle.std.specs.Prelude.{Ok}
 use Rattle.type_list.specs.Arrays.{kinds_met}
 use Rattle.value.proofs.pick.Goals as goal
 
@@ -19,6 +19,6 @@ returns-then-c-number c =
 
 pub returns : goal.returns
 returns c =
-    ap Given c.item_of.ensures
+    ap Ok c.item_of.ensures
     ∙ walks.picked-item (checked c.args.types.now (kinds_met c.args.met)) (source c.args.value.now c.args.order c.args.start) c.requires c.args.number _ _
     c.walk-c.ensures c.if-c-ne0.false c.if-c-number.false

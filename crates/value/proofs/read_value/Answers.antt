@@ -11,14 +11,14 @@ pub read_into-requires : goal.read_into-requires
 read_into-requires c =
     typed.bounded c.args.types.now c.args.torder (source c.args.value.now c.args.order c.args.start) (kinds_met c.check-c.result.met)
     (typed.under c.args.types.now c.args.torder (length c.args.value.now) (typed_by c.check-c.result) c.check-c.ensures
-    c.in-Accepted.is)
+    c.in-Ok.is)
 
-pub returns-in-Accepted : goal.returns-in-Accepted
-returns-in-Accepted c =
+pub returns-in-Ok : goal.returns-in-Ok
+returns-in-Ok c =
     answers.value_read c.args.types.now c.args.torder (source c.args.value.now c.args.order c.args.start) (typed_by c.check-c.result) c.check-c.ensures
-    c.args.table.now c.in-Accepted.is _ _ c.read_into.ensures
+    c.args.table.now c.in-Ok.is _ _ c.read_into.ensures
 
-pub returns-in-Refused : goal.returns-in-Refused
-returns-in-Refused c =
+pub returns-in-Err : goal.returns-in-Err
+returns-in-Err c =
     answers.value-refused c.args.types.now c.args.torder (source c.args.value.now c.args.order c.args.start) (typed_by c.check-c.result)
-    c.check-c.ensures c.args.table.now _ c.in-Refused.is
+    c.check-c.ensures c.args.table.now _ c.in-Err.is

@@ -4,12 +4,13 @@ use mathlib.Core.Path.{sym, ap, ◌∙◌}
 use mir.Syntax.{w64}
 use mir.ValLaws.{to_z-of_z}
 use Rattle.value_items.specs.declared.ItemValue.TheVariants.{Signed, Double}
-use Rattle.value_items.proofs.BitsBack.{item-signed, item-single, item-double, item-other}
+use Rattle.value_items.proofs.BitsBack.{machine-signed, item-signed, item-single, item-double, item-other}
 use Rattle.value_items.proofs.item_of.Goals as goal
 
 pub returns-then-is_signed : goal.returns-then-is_signed
 returns-then-is_signed c =
-    ap Signed (to_z-of_z w64 c.signed.result (record { sfits = c.signed.type_inv }) ∙ c.signed.ensures)
+    ap Signed
+    (to_z-of_z w64 c.cast_signed.result (record { sfits = c.cast_signed.type_inv }) ∙ c.cast_signed.ensures ∙ machine-signed c.args.content)
     ∙ sym (item-signed c.args.kind c.args.content (sym c.is_signed.ensures ∙ c.if-is_signed.true))
 
 pub returns-in-6 : goal.returns-in-6

@@ -1,5 +1,5 @@
 -- A count.
-use Rattle.std.proofs.Common.{◌-◌, sym, ap, ◌∙◌, arith}
+use Rattle.std.proofs.Common.{sym, ap, ◌∙◌, arith}
 use Rattle.cdr.specs.declared.Size.TheVariants.{Four}
 use Rattle.cdr.proofs.GapsBounded.{read-facts}
 use Rattle.value_meaning.specs.Sinks.{item, failed, done}
@@ -13,7 +13,7 @@ overflow_add-at c =
     omega (
       arith,
       (read-facts c.args.value.now c.args.mode.start c.args.cursor.at Four c.args.mode.order _ _
-          (sym c.number_at.ensures ∙ c.in-Number.is)).fits,
+          (sym c.number_at.ensures ∙ c.in-Some.is)).fits,
     )
 
 pub returns-then-over_bound : goal.returns-then-over_bound
@@ -25,12 +25,12 @@ returns-then-over_bound c =
     ∙ ap (failed 54) (c.took.ensures c.args.mode c.args.table.now _ _ 4)
     ∙ sym
     ((way.number-some sink src Four (count_done sink src c.args.bound) (state_of c.args.cursor c.args.table.now) _ _
-    (sym c.number_at.ensures ∙ c.in-Number.is))
+    (sym c.number_at.ensures ∙ c.in-Some.is))
     ∙ way.count-over sink src c.args.bound _ _ _ (sym c.over_bound.ensures ∙ c.if-over_bound.true))
 
-pub overflow_add-at-in-Number : goal.overflow_add-at-in-Number
-overflow_add-at-in-Number c =
-    omega (arith, (read-facts c.args.value.now c.args.mode.start c.args.cursor.at Four c.args.mode.order _ _ (sym c.number_at.ensures ∙ c.in-Number.is)).fits)
+pub overflow_add-at-in-Some : goal.overflow_add-at-in-Some
+overflow_add-at-in-Some c =
+    omega (arith, (read-facts c.args.value.now c.args.mode.start c.args.cursor.at Four c.args.mode.order _ _ (sym c.number_at.ensures ∙ c.in-Some.is)).fits)
 
 pub returns-else-over_bound : goal.returns-else-over_bound
 unfolding count_at
@@ -38,18 +38,18 @@ returns-else-over_bound c =
     let sink = sink_of c.args.mode in
     let src = source_of c.args.mode c.args.value.now in
     c.put.ensures
-    ∙ ap (done sink (item 19 _ _)) (c.took-in-Number.ensures c.args.mode c.args.table.now _ _ 4)
+    ∙ ap (done sink (item 19 _ _)) (c.took-in-Some.ensures c.args.mode c.args.table.now _ _ 4)
     ∙ sym
     ((way.number-some sink src Four (count_done sink src c.args.bound) (state_of c.args.cursor c.args.table.now) _ _
-    (sym c.number_at.ensures ∙ c.in-Number.is))
+    (sym c.number_at.ensures ∙ c.in-Some.is))
     ∙ way.count_under sink src c.args.bound _ _ _ (sym c.over_bound.ensures ∙ c.if-over_bound.false))
 
-pub returns-in-Ends : goal.returns-in-Ends
+pub returns-in-None : goal.returns-in-None
 unfolding count_at
-returns-in-Ends c =
+returns-in-None c =
     let sink = sink_of c.args.mode in
     let src = source_of c.args.mode c.args.value.now in
-    c.refused-in-Ends.ensures c.args.table.now
+    c.refused-in-None.ensures c.args.table.now
     ∙ sym
     (way.number-none sink src Four (count_done sink src c.args.bound) (state_of c.args.cursor c.args.table.now)
-    (sym c.number_at.ensures ∙ c.in-Ends.is))
+    (sym c.number_at.ensures ∙ c.in-None.is))

@@ -1,5 +1,5 @@
 -- A text.
-use Rattle.std.proofs.Common.{◌-◌, sym, ap, ◌∙◌, arith}
+use Rattle.std.proofs.Common.{sym, ap, ◌∙◌, arith}
 use Rattle.cdr.specs.declared.Size.TheVariants.{Four}
 use Rattle.cdr.proofs.GapsBounded.{read-facts}
 use Rattle.value_meaning.specs.Visit.{text_got, text_at}
@@ -12,26 +12,26 @@ overflow_add-at c =
     omega (
       arith,
       (read-facts c.args.value.now c.args.mode.start c.args.cursor.at Four c.args.mode.order _ _
-          (sym c.number_at.ensures ∙ c.in-Number.is)).fits,
+          (sym c.number_at.ensures ∙ c.in-Some.is)).fits,
     )
 
-pub returns-in-Number : goal.returns-in-Number
+pub returns-in-Some : goal.returns-in-Some
 unfolding text_at
-returns-in-Number c =
+returns-in-Some c =
     let sink = sink_of c.args.mode in
     let src = source_of c.args.mode c.args.value.now in
     c.text_got.ensures _
     ∙ ap (text_got sink src c.args.bound _ _) (c.took.ensures c.args.mode c.args.table.now _ _ 4)
     ∙ sym
     (way.number-some sink src Four (text_got sink src c.args.bound) (state_of c.args.cursor c.args.table.now) _ _
-    (sym c.number_at.ensures ∙ c.in-Number.is))
+    (sym c.number_at.ensures ∙ c.in-Some.is))
 
-pub returns-in-Ends : goal.returns-in-Ends
+pub returns-in-None : goal.returns-in-None
 unfolding text_at
-returns-in-Ends c =
+returns-in-None c =
     let sink = sink_of c.args.mode in
     let src = source_of c.args.mode c.args.value.now in
     c.refused.ensures c.args.table.now
     ∙ sym
     (way.number-none sink src Four (text_got sink src c.args.bound) (state_of c.args.cursor c.args.table.now)
-    (sym c.number_at.ensures ∙ c.in-Ends.is))
+    (sym c.number_at.ensures ∙ c.in-None.is))

@@ -1,4 +1,5 @@
 use mathlib.Core.Path.{ap, ◌∙◌}
+use native.Mathlib.Omega.{arith}
 use Prim.Native.Nat.{ℕ, ◌-◌}
 use Rattle.value_meaning.specs.Visit.{leaf_at}
 use Rattle.value_meaning.specs.Sinks.{begun}
@@ -12,7 +13,7 @@ returns-then-d-ne0 c =
     let x = source_of c.args.mode c.args.value.now in
     let step = c.leaf-d.ensures ∙ ap (leaf_at k x c.kind_at.result) (c.visit.ensures c.args.mode c.loop-k.table)
     ∙ ap (λ (i : ℕ). leaf_at k x i (begun k (state_of c.loop-k.d c.loop-k.table))) c.kind_at.ensures in
-    stepping-stop k x c.args.plan.kinds c.loop-k.invariant c.loop-k-test.true step c.if-d-ne0.true
+    stepping-stop k x c.args.plan.kinds c.loop-k.invariant (omega arith) step c.if-d-ne0.true
 
 pub loop-k-preserved : goal.loop-k-preserved
 loop-k-preserved c =
@@ -20,8 +21,8 @@ loop-k-preserved c =
     let x = source_of c.args.mode c.args.value.now in
     let step = c.leaf-d.ensures ∙ ap (leaf_at k x c.kind_at.result) (c.visit.ensures c.args.mode c.loop-k.table)
     ∙ ap (λ (i : ℕ). leaf_at k x i (begun k (state_of c.loop-k.d c.loop-k.table))) c.kind_at.ensures in
-    stepping-more k x c.args.plan.kinds c.loop-k.invariant c.loop-k-test.true step c.leaf-d.auto.table c.if-d-ne0.false
+    stepping-more k x c.args.plan.kinds c.loop-k.invariant (omega arith) step c.leaf-d.auto.table c.if-d-ne0.false
 
 pub returns : goal.returns
 returns c =
-    stepping-all (sink_of c.args.mode) (source_of c.args.mode c.args.value.now) c.args.plan.kinds c.loop-k.invariant c.loop-k-test.false
+    stepping-all (sink_of c.args.mode) (source_of c.args.mode c.args.value.now) c.args.plan.kinds c.loop-k.invariant (omega arith)

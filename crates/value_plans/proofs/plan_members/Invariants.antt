@@ -1,11 +1,7 @@
 -- The members of a struct that has a plan.
-use Prim.Native.Nat.{◌-◌}
 use Rattle.value_cursor.specs.Walk.{sink_of, source_of, state_of}
 use Rattle.value_plans.proofs.PlanReadsStruct.{Stepping}
 use Rattle.value_plans.proofs.plan_members.Given as goal
 
 abbrev pub invariant-loop-k : goal.invariant-loop-k
 invariant-loop-k l = Stepping (sink_of l.mode) (source_of l.mode l.value) l.kinds l.count l.k (state_of l.initial.d l.initial.table) (state_of l.d l.table)
-
-abbrev pub decreases-loop-k : goal.decreases-loop-k
-decreases-loop-k l = l.count - l.k

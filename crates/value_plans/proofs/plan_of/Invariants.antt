@@ -1,7 +1,4 @@
 -- The plan of a struct, if it has one.
-use mathlib.Core.Path.{◌≡◌}
-use mathlib.Core.Bool.{true}
-use Prim.Native.Nat.{◌-◌}
 use lib.ListN.{replicate}
 use Rattle.choices.proofs.Turns.{Left}
 use Rattle.value_meaning.specs.Visit.{checked}
@@ -12,8 +9,4 @@ use Rattle.value_plans.proofs.plan_of.Given as goal
 
 abbrev pub invariant-loop-k : goal.invariant-loop-k
 invariant-loop-k l =
-    (l.plan.found ≡ true) × (l.plan.count ≡ l.count)
-    × Left (makes (checked l.types (kinds_met l.met)) l.types l.start l.order l.count) l.count (0, l.initial.at, replicate most_members 0) l.k (l.k, l.at, l.plan.kinds)
-
-abbrev pub decreases-loop-k : goal.decreases-loop-k
-decreases-loop-k l = l.count - l.k
+    Left (makes (checked l.types (kinds_met l.met)) l.types l.start l.order l.count) l.count (0, l.initial.at, replicate most_members 0) l.k (l.k, l.at, l.kinds)

@@ -1,11 +1,7 @@
 -- So many visits of a kind without parameters.
-use Rattle.std.proofs.Common.{◌-◌}
 use Rattle.value_cursor.specs.Walk.{state_of, leaf_visit}
 use Rattle.value_leaves.proofs.RepeatsLoop.{Going}
 use Rattle.value_runs.proofs.each.Given as goal
 
-abbrev pub invariant-loop-k : goal.invariant-loop-k
-invariant-loop-k l = Going (leaf_visit l.mode l.value l.kind) l.count l.k (state_of l.initial.d l.initial.table) (state_of l.d l.table)
-
-abbrev pub decreases-loop-k : goal.decreases-loop-k
-decreases-loop-k l = l.count - l.k
+abbrev pub invariant-loop : goal.invariant-loop
+invariant-loop l = Going (leaf_visit l.mode l.value l.kind) l.count l.counter (state_of l.initial.d l.initial.table) (state_of l.d l.table)

@@ -5,4 +5,4 @@ use Rattle.value_runs.proofs.together.Goals as goal
 
 pub from-requires : goal.from-requires
 from-requires c =
-    row_first c.requires c.size_of-size.ensures (sym c.number_at.ensures ∙ c.in-Number.is)
+    row_first c.requires c.size_of-size.ensures (sym c.number_at.ensures ∙ c.in-Some.is)

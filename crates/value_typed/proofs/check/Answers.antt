@@ -1,8 +1,7 @@
 -- 42, and then the type.
 use mathlib.Core.Path.{◌≡◌, sym, ap, ◌∙◌}
 use Rattle.typecode.specs.TypeCode.{CheckedType}
-use Rattle.value_typed.specs.declared.Judged.{Judged}
-use Rattle.value_typed.specs.declared.Judged.TheVariants.{Refused}
+use Rattle.std.specs.Prelude.{ℕ, Result, Err}
 use Rattle.value_typed.specs.Typed.{typed, judged_by}
 use Rattle.value_typed.proofs.TypedCases as answers
 use mathlib.Core.List.{[]}
@@ -16,11 +15,11 @@ no-kinds = refl
 
 pub returns-then-over_long : goal.returns-then-over_long
 returns-then-over_long c =
-    ap (typed (Refused 42)) (ap kinds_met c.none.ensures ∙ no-kinds)
+    ap (typed (Err 42)) (ap kinds_met c.none.ensures ∙ no-kinds)
     ∙ answers.typed_long c.args.types.now c.args.torder c.args.octets (sym c.over_long.ensures ∙ c.if-over_long.true)
 
 pub returns : goal.returns
 returns c =
-    ap (λ (j : Judged). typed j (kinds_met c.check_type-c.result.met)) c.judge.ensures
+    ap (λ (j : Result (Unit {0}) ℕ). typed j (kinds_met c.check_type-c.result.met)) c.judge.ensures
     ∙ ap (λ (y : CheckedType). typed (judged_by y.answer) y.kinds) c.check_type-c.ensures
     ∙ answers.typed-short c.args.types.now c.args.torder c.args.octets (sym c.over_long.ensures ∙ c.if-over_long.false)

@@ -1,5 +1,5 @@
 -- Which law closes each way out of a reader: most are of VisitIsNested, those of the loops of MembersLoop and RepeatsLoop.
-use Rattle.std.proofs.Common.{ℕ, ◌≡◌, sym, ap, ap₂, ◌∙◌}
+use Rattle.std.proofs.Common.{arith, ℕ, ◌≡◌, sym, ap, ap₂, ◌∙◌}
 use Rattle.type_kinds.specs.declared.Labels.{Labels}
 use Rattle.type_kinds.specs.declared.Labels.TheVariants.{NoLabels}
 use Rattle.type_kinds.specs.Parts.{place_in}
@@ -24,13 +24,13 @@ use Rattle.value_walk.proofs.+readers.Goals as goal
 use Rattle.value_walk.proofs.+readers.Goals.{struct_members-in-Flat, struct_members-in_default-e, union_member-in-Flat, union_member-in_default}
 
 pub each-returns-then-d-ne0 : goal.each-returns-then-d-ne0
-each-returns-then-d-ne0 t c = going-stop c.loop-k.invariant c.loop-k-test.true c.visit-d.ensures c.if-d-ne0.true
+each-returns-then-d-ne0 t c = going-stop c.loop.invariant (omega arith) c.visit-d.ensures c.if-d-ne0.true
 
-pub each-loop-k-preserved : goal.each-loop-k-preserved
-each-loop-k-preserved t c = going_more c.loop-k.invariant c.loop-k-test.true c.visit-d.ensures c.visit-d.auto.table c.if-d-ne0.false
+pub each-loop-preserved : goal.each-loop-preserved
+each-loop-preserved t c = going_more c.loop.invariant (omega arith) c.visit-d.ensures c.visit-d.auto.table c.if-d-ne0.false
 
 pub each-returns : goal.each-returns
-each-returns t c = going-all c.loop-k.invariant c.loop-k-test.false
+each-returns t c = going-all c.loop.invariant (omega arith)
 
 pub elements-returns-in-Leaf : goal.elements-returns-in-Leaf
 unfolding shape_of
@@ -44,9 +44,9 @@ elements-returns-in-Leaf t c =
     ∙ ap (λ (p : Shape). repeats (reads k x u a.left p) a.count s)
     (sym (ap (shape_of a.types.now (kinds_met a.met)) c.in-Flat.is ∙ ap flat c.in-Leaf.is))
 
-pub elements-returns-then-plan : goal.elements-returns-then-plan
+pub elements-returns-in-Some : goal.elements-returns-in-Some
 unfolding shape_of
-elements-returns-then-plan t c =
+elements-returns-in-Some t c =
     let a = c.args in
     let k = sink_of a.mode in
     let x = source_of a.mode a.value.now in
@@ -54,7 +54,7 @@ elements-returns-then-plan t c =
     let s = state_of a.cursor a.table.now in
     c.structs.ensures
     ∙ sym (ap (λ (p : Parameters). repeats (reads k x u a.left (shape_of a.types.now (kinds_met a.met) p)) a.count s) c.in-Struct.is
-    ∙ way.elements-planned k x u a.left _ _ c.plan_of-plan.result c.plan_of-plan.ensures c.if-plan.true a.count s)
+    ∙ way.elements-planned k x u a.left _ _ c.in-Some.plan (sym c.in-Some.is ∙ c.plan_of.ensures) a.count s)
 
 pub elements-returns-in_default-inert : goal.elements-returns-in_default-inert
 unfolding shape_of
@@ -125,7 +125,7 @@ struct_members-returns-in_default t c =
     let k = sink_of a.mode in
     let x = source_of a.mode a.value.now in
     let u = checked a.types.now (kinds_met a.met) in
-    onward-cut k x (reads k x u a.left) u a.types.now a.fields.start a.fields.order c.loop-k.invariant c.loop-k-test.true
+    onward-cut k x (reads k x u a.left) u a.types.now a.fields.start a.fields.order c.loop.invariant (omega arith)
     (sym c.member_at.ensures ∙ c.in_default.is)
 
 pub struct_members-returns-then-d-ne0 : goal.struct_members-returns-then-d-ne0
@@ -135,29 +135,29 @@ struct_members-returns-then-d-ne0 t c =
     let k = sink_of a.mode in
     let x = source_of a.mode a.value.now in
     let u = checked a.types.now (kinds_met a.met) in
-    let s = state_of c.loop-k.d c.loop-k.table in
+    let s = state_of c.loop.d c.loop.table in
     let visit = λ (p : Parameters). reads_with a.mode a.value.now a.types.now (kinds_met a.met) a.left p s in
     let step : state_of c.match-e.d c.match-e.table ≡ visit c.inside_of-e.result = elim c.match-e.branch [
       | struct_members-in-Flat w ↦ ap₂ state_of w.d-is w.table-is ∙ w.flat-d.ensures u ∙ ap visit (sym w.in-Flat.is)
       | struct_members-in_default-e w ↦ ap₂ state_of w.d-is w.table-is ∙ w.visit-d.ensures
     ] in
-    onward-stop k x (reads k x u a.left) u a.types.now a.fields.start a.fields.order c.loop-k.invariant _ _ c.loop-k-test.true (sym c.member_at.ensures ∙ c.in-TypeAt.is)
+    onward-stop k x (reads k x u a.left) u a.types.now a.fields.start a.fields.order c.loop.invariant _ _ (omega arith) (sym c.member_at.ensures ∙ c.in-Some.is)
     (step ∙ ap visit c.inside_of-e.ensures) c.if-d-ne0.true
 
-pub struct_members-loop-k-preserved : goal.struct_members-loop-k-preserved
+pub struct_members-loop-preserved : goal.struct_members-loop-preserved
 unfolding look shape_of
-struct_members-loop-k-preserved t c =
+struct_members-loop-preserved t c =
     let a = c.args in
     let k = sink_of a.mode in
     let x = source_of a.mode a.value.now in
     let u = checked a.types.now (kinds_met a.met) in
-    let s = state_of c.loop-k.d c.loop-k.table in
+    let s = state_of c.loop.d c.loop.table in
     let visit = λ (p : Parameters). reads_with a.mode a.value.now a.types.now (kinds_met a.met) a.left p s in
     let step : state_of c.match-e.d c.match-e.table ≡ visit c.inside_of-e.result = elim c.match-e.branch [
       | struct_members-in-Flat w ↦ ap₂ state_of w.d-is w.table-is ∙ w.flat-d.ensures u ∙ ap visit (sym w.in-Flat.is)
       | struct_members-in_default-e w ↦ ap₂ state_of w.d-is w.table-is ∙ w.visit-d.ensures
     ] in
-    onward-more k x (reads k x u a.left) u a.types.now a.fields.start a.fields.order c.loop-k.invariant _ _ c.loop-k-test.true (sym c.member_at.ensures ∙ c.in-TypeAt.is)
+    onward-more k x (reads k x u a.left) u a.types.now a.fields.start a.fields.order c.loop.invariant _ _ (omega arith) (sym c.member_at.ensures ∙ c.in-Some.is)
     (step ∙ ap visit c.inside_of-e.ensures) c.match-e.auto.table c.if-d-ne0.false
 
 pub struct_members-returns : goal.struct_members-returns
@@ -166,7 +166,7 @@ struct_members-returns t c =
     let k = sink_of a.mode in
     let x = source_of a.mode a.value.now in
     let u = checked a.types.now (kinds_met a.met) in
-    onward-all k x (reads k x u a.left) u a.types.now a.fields.start a.fields.order c.loop-k.invariant c.loop-k-test.false
+    onward-all k x (reads k x u a.left) u a.types.now a.fields.start a.fields.order c.loop.invariant (omega arith)
 
 pub union_member-returns-then-d-ne0 : goal.union_member-returns-then-d-ne0
 unfolding look shape_of
@@ -223,7 +223,7 @@ union_member-returns-in-Flat-e t c =
     (sym (c.labels_for-labels.ensures ∙ ap (labels_for a.types.now (kinds_met a.met)) c.place_in.ensures)) ∙ sym c.chosen_of.ensures in
     c.flat.ensures u
     ∙ ap (λ (p : Parameters). reads_with a.mode a.value.now a.types.now (kinds_met a.met) a.left p d) (sym c.in-Flat-e.is ∙ c.inside_of-e.ensures)
-    ∙ sym (way.union-member k x (reads k x u a.left) u a.discriminant ms a.default s d (is ∙ ap visit c.inside_of-switch.ensures) _ c.if-d-ne0.false (arm ∙ c.in-Chosen.is))
+    ∙ sym (way.union-member k x (reads k x u a.left) u a.discriminant ms a.default s d (is ∙ ap visit c.inside_of-switch.ensures) _ c.if-d-ne0.false (arm ∙ c.in-Some.is))
 
 pub union_member-returns-in_default-e : goal.union_member-returns-in_default-e
 unfolding look shape_of
@@ -244,7 +244,7 @@ union_member-returns-in_default-e t c =
     (sym (c.labels_for-labels.ensures ∙ ap (labels_for a.types.now (kinds_met a.met)) c.place_in.ensures)) ∙ sym c.chosen_of.ensures in
     c.visit.ensures
     ∙ ap (λ (p : Parameters). reads_with a.mode a.value.now a.types.now (kinds_met a.met) a.left p d) c.inside_of-e.ensures
-    ∙ sym (way.union-member k x (reads k x u a.left) u a.discriminant ms a.default s d (is ∙ ap visit c.inside_of-switch.ensures) _ c.if-d-ne0.false (arm ∙ c.in-Chosen.is))
+    ∙ sym (way.union-member k x (reads k x u a.left) u a.discriminant ms a.default s d (is ∙ ap visit c.inside_of-switch.ensures) _ c.if-d-ne0.false (arm ∙ c.in-Some.is))
 
 pub visit-returns-then-left-eq0 : goal.visit-returns-then-left-eq0
 visit-returns-then-left-eq0 t c =

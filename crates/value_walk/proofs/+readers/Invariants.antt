@@ -30,23 +30,17 @@ decreases-elements l = 4 * l.left + 2
 abbrev pub decreases-sequence : goal.decreases-sequence
 decreases-sequence l = 4 * l.left + 3
 
--- k of so many members are read, the next one stands at an index, and that is the state
-abbrev pub invariant-struct_members-loop-k : goal.invariant-struct_members-loop-k
-invariant-struct_members-loop-k l =
+-- as many members as the counter says are read, the next one stands at an index, and that is the state
+abbrev pub invariant-struct_members-loop : goal.invariant-struct_members-loop
+invariant-struct_members-loop l =
     let k = sink_of l.mode in
     let x = source_of l.mode l.value in
     let t = checked l.types (kinds_met l.met) in
-    Onward k x (reads k x t l.left) t l.types l.start l.order l.count l.initial.at (state_of l.initial.d l.initial.table) l.k l.at (state_of l.d l.table)
+    Onward k x (reads k x t l.left) t l.types l.start l.order l.count l.initial.at (state_of l.initial.d l.initial.table) l.counter l.at (state_of l.d l.table)
 
-abbrev pub decreases-struct_members-loop-k : goal.decreases-struct_members-loop-k
-decreases-struct_members-loop-k l = l.count - l.k
-
--- k of so many elements are read, and that is the state
-abbrev pub invariant-each-loop-k : goal.invariant-each-loop-k
-invariant-each-loop-k l =
+-- as many elements as the counter says are read, and that is the state
+abbrev pub invariant-each-loop : goal.invariant-each-loop
+invariant-each-loop l =
     let t = checked l.types (kinds_met l.met) in
-    Going (reads (sink_of l.mode) (source_of l.mode l.value) t l.left (shape_of l.types (kinds_met l.met) l.e)) l.count l.k
+    Going (reads (sink_of l.mode) (source_of l.mode l.value) t l.left (shape_of l.types (kinds_met l.met) l.e)) l.count l.counter
     (state_of l.initial.d l.initial.table) (state_of l.d l.table)
-
-abbrev pub decreases-each-loop-k : goal.decreases-each-loop-k
-decreases-each-loop-k l = l.count - l.k

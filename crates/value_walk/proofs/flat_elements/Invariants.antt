@@ -1,5 +1,4 @@
 -- Visit by visit.
-use Rattle.std.proofs.Common.{◌-◌}
 use Rattle.type_unions.specs.Shapes.Shape.{flat}
 use Rattle.value_meaning.specs.Visit.{Checked}
 use Rattle.value_meaning.specs.Reading.{reads}
@@ -7,9 +6,6 @@ use Rattle.value_cursor.specs.Walk.{sink_of, source_of, state_of}
 use Rattle.value_leaves.proofs.RepeatsLoop.{Going}
 use Rattle.value_walk.proofs.flat_elements.Given as goal
 
-abbrev pub invariant-loop-k : goal.invariant-loop-k
-invariant-loop-k l =
-    (t : Checked) → Going (reads (sink_of l.mode) (source_of l.mode l.value) t l.left (flat l.inert)) l.count l.k (state_of l.initial.d l.initial.table) (state_of l.d l.table)
-
-abbrev pub decreases-loop-k : goal.decreases-loop-k
-decreases-loop-k l = l.count - l.k
+abbrev pub invariant-loop : goal.invariant-loop
+invariant-loop l =
+    (t : Checked) → Going (reads (sink_of l.mode) (source_of l.mode l.value) t l.left (flat l.inert)) l.count l.counter (state_of l.initial.d l.initial.table) (state_of l.d l.table)

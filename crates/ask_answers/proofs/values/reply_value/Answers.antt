@@ -11,4 +11,4 @@ returns-in_default c =
 
 pub returns-in_default-read : goal.returns-in_default-read
 returns-in_default-read c =
-    none-replied _ _ (fields-about c.args.rest.now _ c.read_fields.ensures value_asked _ c.in-Are.is ∙ about-nothing c.read.ensures (λ order t x. value_asked order t x c.in-Are.asked.number) c.in_default-read.is)
+    none-replied _ _ (fields-about c.args.rest.now _ c.read_fields.ensures value_asked _ c.in-Some.is ∙ about-nothing c.read.ensures (λ order t x. value_asked order t x c.in-Some.asked.number) c.in_default-read.is)

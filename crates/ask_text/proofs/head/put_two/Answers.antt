@@ -8,7 +8,7 @@ use Rattle.ask_text.proofs.head.put_two.Goals as goal
 
 pub put_number-requires : goal.put_number-requires
 put_number-requires c =
-    omega (arith, c.requires, c.put_number-next.ensures.end, c.put_number-next.auto.out, number-most c.args.x (space ∷ []))
+    omega (arith, c.requires, c.put_number-next.ensures.end, c.put_number-next.auto.out, number-most c.args.x (space ∷ []), number-most c.args.y (c.args.behind ∷ []))
 
 pub returns : goal.returns
 returns c =

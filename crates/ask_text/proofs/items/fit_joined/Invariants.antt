@@ -8,6 +8,3 @@ use Rattle.ask_text.proofs.items.fit_joined.Given as goal
 
 abbrev pub invariant-loop-k : goal.invariant-loop-k
 invariant-loop-k l = (l.k ≤ length l.items / 3) × (l.left + length (joined (items_of l.items)) ≡ l.room + length (left_of l.items l.k))
-
-abbrev pub decreases-loop-k : goal.decreases-loop-k
-decreases-loop-k l = length l.items / 3 - l.k

@@ -10,6 +10,3 @@ use Rattle.ask_text.proofs.items.put_joined.Given as goal
 abbrev pub invariant-loop-k : goal.invariant-loop-k
 invariant-loop-k l = (l.k ≤ length l.items / 3) × (length l.out ≡ length l.initial.out) × (l.end + length (left_of l.items l.k) ≡ l.at + length (joined (items_of l.items)))
     × (sets l.out l.end (left_of l.items l.k) ≡ sets l.initial.out l.at (joined (items_of l.items)))
-
-abbrev pub decreases-loop-k : goal.decreases-loop-k
-decreases-loop-k l = length l.items / 3 - l.k

@@ -20,6 +20,6 @@ returns-then-fits c =
     ∙ ap (λ (n : ℕ). fits c.args.len (c.args.at + length c.args.head.now) n) (c.text_length.ensures b)
     ∙ fits-then c.args.len c.args.at c.args.head.now (octets_text c.args.octets.now b) _ refl
 
-pub returns : goal.returns
-returns c =
-    λ b. sym (first-lacks c.args.len c.args.at c.args.head.now (octets_text c.args.octets.now b) (sym c.fits.ensures ∙ c.if-fits.false))
+pub returns-else-fits : goal.returns-else-fits
+returns-else-fits c =
+    λ b. c.if-fits.false ∙ sym (first-lacks c.args.len c.args.at c.args.head.now (octets_text c.args.octets.now b) (sym c.fits.ensures ∙ c.if-fits.false))

@@ -12,6 +12,10 @@ use Rattle.ask_text.specs.Replies.{space}
 use Rattle.ask_text.proofs.TextsFit.{said-parts}
 use Rattle.ask_text.proofs.profiles.write.Goals as goal
 
+pub put_number-n-requires : goal.put_number-n-requires
+put_number-n-requires c =
+    omega (arith, number-most c.args.said.port (space ∷ []))
+
 pub slice_bounds-port-end : goal.slice_bounds-port-end
 slice_bounds-port-end c =
     omega (arith, c.put_number-n.auto.out, c.put_number-n.ensures.end, number-most c.args.said.port (space ∷ []))

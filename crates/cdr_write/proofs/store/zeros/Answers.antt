@@ -1,10 +1,11 @@
-use native.Mathlib.Omega.{arith}
-use mathlib.Core.Path.{sym, ◌∙◌}
-use Prim.Native.Nat.{◌-◌}
-use lib.ListN.{length-set}
-use Rattle.cdr_write.proofs.BufferHolds.{zero-stored}
+-- The part is filled with zeros.
+use mathlib.Core.Path.{ap, ◌∙◌}
+use Prim.Native.Nat.{ℕ}
+use lib.ListN.{replicate, length-replicate}
+use Rattle.cdr_write.proofs.BufferHolds.{part-length, put-sets}
 use Rattle.cdr_write.proofs.store.zeros.Goals as goal
 
-pub loop-k-preserved : goal.loop-k-preserved
-loop-k-preserved c =
-    (omega arith, simp length-set c.loop-k.invariant.1, sym (zero-stored c.loop-k.out c.args.at c.args.count c.loop-k.k c.loop-k-test.true) ∙ c.loop-k.invariant.2)
+pub returns : goal.returns
+returns c =
+    put-sets c.args.out.now _ _ c.args.at _ c.requires (length-replicate c.args.count 0)
+    (c.fill.ensures.after (λ y e. e) ∙ ap (λ (n : ℕ). replicate n 0) (part-length c.args.out.now c.args.at c.args.count c.requires))

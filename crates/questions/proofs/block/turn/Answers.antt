@@ -20,4 +20,4 @@ slice_bounds-answer_line-end-2 c =
 pub returns : goal.returns
 returns c =
     turn-ended c.args.block.now c.args.at c.args.line.now c.args.out.now c.args.table.now c.requires _ _ c.take_line-taken.ensures (not-false c.take_line-taken.result.ended c.if-not-taken.false)
-    _ _ _ c.answer_line.ensures _ c.in-Upto.is
+    _ _ _ c.answer_line.ensures _ c.in-Some.is

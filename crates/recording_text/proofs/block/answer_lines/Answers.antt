@@ -1,4 +1,4 @@
-use Rattle.std.proofs.Common.{◌≡◌, ◌-◌, true, false, length, sym, ap, ◌∙◌, arith}
+use Rattle.std.proofs.Common.{◌≡◌, true, false, length, sym, ap, ◌∙◌, arith}
 use Rattle.recording_text.specs.Blocks.{Work, work_of, block_from, goes_on}
 use Rattle.recording_text.proofs.TurnEquations.{goes, turn-goes, block-turn, block-stops}
 use Rattle.recording_text.proofs.block.answer_lines.Goals as goal

@@ -1,6 +1,6 @@
 -- The characters are taken, and a line that ended is listed.
 use borrow.Author.Tests.{not-true, not-false}
-use Rattle.std.proofs.Common.{◌≤◌, length, sym, ap, arith, length-take-le}
+use Rattle.std.proofs.Common.{◌≤◌, length, refl, sym, ap, arith, length-take-le}
 use Rattle.lines.specs.declared.Taken.{Taken}
 use Rattle.lines.proofs.LinesOfBlocks.{kept-most}
 use Rattle.recording_text.specs.Blocks.{work_of}
@@ -23,4 +23,4 @@ slice_bounds-list_line-end-2 c =
 
 pub returns : goal.returns
 returns c =
-    answered-is c.args.block.now (work_of c.args.at c.args.line.now c.args.places.now c.args.out.now) _ _ c.take_line-taken.ensures (not-false c.take_line-taken.result.ended c.if-not-taken.false) _ c.wrapping_add_u64-number.ensures.value c.list_line-listed.result _ _ c.list_line-listed.ensures
+    answered-is c.args.block.now (work_of c.args.at c.args.line.now c.args.places.now c.args.out.now) _ _ c.take_line-taken.ensures (not-false c.take_line-taken.result.ended c.if-not-taken.false) _ refl c.list_line-listed.result _ _ c.list_line-listed.ensures

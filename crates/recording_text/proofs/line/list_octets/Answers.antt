@@ -3,6 +3,6 @@ use Rattle.std.proofs.Common.{sym, ◌∙◌}
 use Rattle.recording_text.proofs.EntryListed.{lists-shown}
 use Rattle.recording_text.proofs.line.list_octets.Goals as goal
 
-pub returns : goal.returns
-returns c =
-    lists-shown c.args.octets.now c.args.before c.args.places.now c.args.message.now c.join-outcome.result _ _ c.requires.1 c.join-outcome.ensures c.args.number _ c.args.out.now c.args.at _ _ c.number-2.ensures _ (sym c.output.ensures ∙ c.in-Message.is) c.put_shown-end.ensures
+pub returns-in-Some : goal.returns-in-Some
+returns-in-Some c =
+    lists-shown c.args.octets.now c.args.before c.args.places.now c.args.message.now c.join-answer.result _ _ c.requires.1 c.join-answer.ensures c.args.number _ c.args.out.now c.args.at _ _ c.answer_number-code.ensures _ (sym c.output_in.ensures ∙ c.in-Some.is) c.put_shown-end.ensures

@@ -1,7 +1,7 @@
 -- Kinds of one octet.
-use borrow.Author.Tests.{ltb-true}
+use native.Mathlib.Omega.{arith}
 use Rattle.rewrite.proofs.ItemsWritten.{octet-kind}
 use Rattle.rewrite.proofs.rows.is_octet.Goals as goal
 
-pub returns : goal.returns
-returns c = λ e. octet-kind c.args.kind c.if-kind-lt-BOOLEAN.false (ltb-true _ _ e)
+pub returns-in-8 : goal.returns-in-8
+returns-in-8 c = λ e. octet-kind c.args.kind (omega arith) (omega arith)

@@ -1,6 +1,5 @@
 -- Items one after the other.
 use mathlib.Core.Path.{◌≡◌}
-use Prim.Native.Nat.{◌-◌, ◌≤◌}
 use lib.ListN.{length}
 use lib.Seq.{sets}
 use Rattle.rewrite_meaning.specs.Written.{target}
@@ -9,10 +8,6 @@ use Rattle.rewrite.proofs.rows.write.Given as goal
 
 abbrev pub invariant-loop-k : goal.invariant-loop-k
 invariant-loop-k l =
-    (l.k ≤ l.n)
-    × (l.at ≡ reach l.index (row_of l.rows) l.k)
+    (l.at ≡ reach l.index (row_of l.rows) l.k)
     × (length l.out ≡ length l.initial.out)
     × (l.out ≡ sets l.initial.out 0 (up_to (target l.order l.index) l.value (row_of l.rows) l.k))
-
-abbrev pub decreases-loop-k : goal.decreases-loop-k
-decreases-loop-k l = l.n - l.k

@@ -1,9 +1,7 @@
 -- A gap, a number and octets as they are.
 use mathlib.Core.Path.{◌≡◌, ◌∙◌}
 use native.Mathlib.Omega.{arith}
-use Rattle.cdr.specs.Align.{octets}
 use Rattle.rewrite_meaning.specs.Written.{target}
-use Rattle.rewrite.specs.Inner.{head_of}
 use Rattle.rewrite.proofs.ItemsWritten as items
 use Rattle.rewrite.proofs.rows.write_wide.Goals as goal
 

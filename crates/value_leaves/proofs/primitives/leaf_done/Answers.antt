@@ -1,5 +1,5 @@
 -- What is done with the number of a primitive.
-use Rattle.std.proofs.Common.{ℕ, ◌-◌, sym, ap, ◌∙◌}
+use Rattle.std.proofs.Common.{ℕ, sym, ap, ◌∙◌}
 use Rattle.value_meaning.specs.Sinks.{item, done}
 use Rattle.value_meaning.proofs.ReadingCases as way
 use Rattle.value_cursor.specs.Walk.{sink_of, source_of, state_of}

@@ -1,5 +1,5 @@
 -- A profile.
-use Rattle.std.proofs.Common.{◌-◌, sym, ◌∙◌}
+use Rattle.std.proofs.Common.{sym, ◌∙◌}
 use Rattle.value_meaning.specs.Visit.{run_at, profile_at}
 use Rattle.value_meaning.proofs.ReadingCases as way
 use Rattle.value_cursor.specs.Walk.{sink_of, source_of}

@@ -1,5 +1,5 @@
 -- The profiles behind their count.
-use Rattle.std.proofs.Common.{◌-◌, sym, ◌∙◌}
+use Rattle.std.proofs.Common.{sym, ◌∙◌}
 use Rattle.value_meaning.specs.Sinks.{St, repeats}
 use Rattle.value_meaning.specs.Visit.{profile_at, profiles_at}
 use Rattle.value_meaning.proofs.ReadingCases as way

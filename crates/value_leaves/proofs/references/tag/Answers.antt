@@ -1,5 +1,5 @@
 -- The tag of a profile.
-use Rattle.std.proofs.Common.{◌-◌, sym, ap, ◌∙◌, arith}
+use Rattle.std.proofs.Common.{sym, ap, ◌∙◌, arith}
 use Rattle.cdr.specs.declared.Size.TheVariants.{Four}
 use Rattle.cdr.proofs.GapsBounded.{read-facts}
 use Rattle.value_meaning.specs.Sinks.{item, done}
@@ -13,24 +13,24 @@ overflow_add-at c =
     omega (
       arith,
       (read-facts c.args.value.now c.args.mode.start c.args.cursor.at Four c.args.mode.order _ _
-          (sym c.number_at.ensures ∙ c.in-Number.is)).fits,
+          (sym c.number_at.ensures ∙ c.in-Some.is)).fits,
     )
 
-pub returns-in-Number : goal.returns-in-Number
+pub returns-in-Some : goal.returns-in-Some
 unfolding tag_at tag_done
-returns-in-Number c =
+returns-in-Some c =
     let sink = sink_of c.args.mode in
     let src = source_of c.args.mode c.args.value.now in
     c.put.ensures
     ∙ ap (done sink (item 5 _ _)) (c.took.ensures c.args.mode c.args.table.now _ _ 4)
-    ∙ sym (way.number-some sink src Four (tag_done sink src) (state_of c.args.cursor c.args.table.now) _ _ (sym c.number_at.ensures ∙ c.in-Number.is))
+    ∙ sym (way.number-some sink src Four (tag_done sink src) (state_of c.args.cursor c.args.table.now) _ _ (sym c.number_at.ensures ∙ c.in-Some.is))
 
-pub returns-in-Ends : goal.returns-in-Ends
+pub returns-in-None : goal.returns-in-None
 unfolding tag_at
-returns-in-Ends c =
+returns-in-None c =
     let sink = sink_of c.args.mode in
     let src = source_of c.args.mode c.args.value.now in
     c.refused.ensures c.args.table.now
     ∙ sym
     (way.number-none sink src Four (tag_done sink src) (state_of c.args.cursor c.args.table.now)
-    (sym c.number_at.ensures ∙ c.in-Ends.is))
+    (sym c.number_at.ensures ∙ c.in-None.is))

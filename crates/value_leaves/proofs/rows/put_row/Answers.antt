@@ -1,5 +1,5 @@
 -- An item in its row.
-use Rattle.std.proofs.Common.{◌-◌, le-ltb, lt-ltb, le-leb}
+use Rattle.std.proofs.Common.{le-ltb, lt-ltb, le-leb}
 use borrow.Author.Tests.{lt-leb}
 use Rattle.value_cursor.specs.Lent.{row_put}
 use Rattle.value_leaves.proofs.rows.put_row.Goals as goal
