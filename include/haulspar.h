@@ -145,28 +145,28 @@ uint32_t haulspar_join(const uint8_t *octets, size_t octets_len, struct haulspar
 
 /* A TypeCode checked: 0, 30 to 40, or 42. `numbers` gets octets used and kinds written (k). Of each kind met, in the order of the octets,
  * `places` gets its place in the TypeCode, `starts` where the encapsulation that it stands in starts there, and `orders` that one's order
- * (0 big, 1 little); all three are 0 past the last. Stack: 162,424. */
+ * (0 big, 1 little); all three are 0 past the last. Stack: 146,584. */
 uint32_t haulspar_type(const uint8_t *octets, size_t octets_len, bool little, uint16_t places[HAULSPAR_KINDS],
                        uint16_t starts[HAULSPAR_KINDS], uint8_t orders[HAULSPAR_KINDS], uint64_t numbers[2]);
 
 /* A value read into the table: 0, 42, 30 to 40, or 50 to 56. Item i is the three numbers at 3 * i: kind (256 for an octet run), place in the value's
  * octets, content (signed ones sign-extended, floats as their bits, of texts and runs the length). `table_len` counts 64-bit numbers, not octets
  * or items: there is room for table_len / 3 items. `numbers` gets octets used and items, `visits` the visits begun, of a refusal too (0 where the
- * type is refused, or by 42). HAULSPAR_TABLE_NUMBERS are always enough, and so are 3 * value_len. Stack: 181,832. */
+ * type is refused, or by 42). HAULSPAR_TABLE_NUMBERS are always enough, and so are 3 * value_len. Stack: 178,056. */
 uint32_t haulspar_value(const uint8_t *type, size_t type_len, bool little, const uint8_t *value, size_t value_len, bool value_little,
                         size_t start, uint64_t *table, size_t table_len, uint64_t numbers[2], uint64_t *visits);
 
 /* An item of a value by its number, the first one 0: 0, 42, 30 to 40, 50 to 55, or 49. `given` gets which case it is (0 signed, 1 unsigned,
- * 2 single, 3 double) and its 64 bits: a signed one sign-extended, a single's 32 bits as they were recorded. Stack: 181,848. */
+ * 2 single, 3 double) and its 64 bits: a signed one sign-extended, a single's 32 bits as they were recorded. Stack: 178,056. */
 uint32_t haulspar_item(const uint8_t *type, size_t type_len, bool little, const uint8_t *value, size_t value_len, bool value_little,
                        size_t start, uint64_t number, uint64_t given[2]);
 
 /* A value rewritten in a chosen order and from a chosen index on: 0, 42, 30 to 40, 50 to 55, or 57 where `out` is too short. `count` gets the
- * number of octets. HAULSPAR_REWRITTEN_OCTETS are always enough, and so are value_len + 7. Stack: 575,416. */
+ * number of octets. HAULSPAR_REWRITTEN_OCTETS are always enough, and so are value_len + 7. Stack: 571,624. */
 uint32_t haulspar_rewrite(const uint8_t *type, size_t type_len, bool little, const uint8_t *value, size_t value_len, bool value_little,
                           size_t start, bool chosen_little, size_t index, uint8_t *out, size_t out_len, uint64_t *count);
 
-/* The same where no order is named, which means big-endian. Stack: 575,416. */
+/* The same where no order is named, which means big-endian. Stack: 571,624. */
 uint32_t haulspar_rewrite_unnamed(const uint8_t *type, size_t type_len, bool little, const uint8_t *value, size_t value_len,
                                   bool value_little, size_t start, size_t index, uint8_t *out, size_t out_len, uint64_t *count);
 
@@ -174,11 +174,11 @@ uint32_t haulspar_rewrite_unnamed(const uint8_t *type, size_t type_len, bool lit
 
 /* A profile body read, from its order octet on: 0, 42, or 60 to 64. `numbers` gets order (0 big, 1 little), major, minor, the index of the host's
  * first octet and its length without its zero, port, the index of the key's first octet and its length, number of components, number of octets after
- * them. Indices are those of `octets`, so host and key are the caller's own octets. Stack: 248. */
+ * them. Indices are those of `octets`, so host and key are the caller's own octets. Stack: 376. */
 uint32_t haulspar_profile(const uint8_t *octets, size_t octets_len, uint64_t numbers[10]);
 
 /* A component of a profile body by its number, the first one 0: 0, 42, 60 to 64, or 69. `found` gets its tag, the index of its octets'
- * first one, and their length. Stack: 280. */
+ * first one, and their length. Stack: 408. */
 uint32_t haulspar_component(const uint8_t *octets, size_t octets_len, uint64_t number, uint64_t found[3]);
 
 /* Request and Reply headers, of a whole or joined message. Refusals are tried in this order: 42, 12 to 21, 75; then 70 to 74, the first one met in the
@@ -207,7 +207,7 @@ enum {
     HAULSPAR_HEADER_NUMBERS = 17           /* so many numbers */
 };
 
-/* A header read: 0, 42, 12 to 21, 75, or 70 to 74. `numbers` gets what the constants above name. Stack: 512. */
+/* A header read: 0, 42, 12 to 21, 75, or 70 to 74. `numbers` gets what the constants above name. Stack: 496. */
 uint32_t haulspar_header(const uint8_t *octets, size_t octets_len, uint64_t numbers[HAULSPAR_HEADER_NUMBERS]);
 
 /* A context of a header by its number, the first one 0: 0, 42, 12 to 21, 75, 70 to 74, or 69. `found` gets its id, the index of its octets' first
@@ -220,7 +220,7 @@ uint32_t haulspar_context(const uint8_t *octets, size_t octets_len, uint64_t num
 uint32_t haulspar_target(const uint8_t *octets, size_t octets_len, uint64_t number, uint64_t found[3]);
 
 /* All octets of a message before its body written to `out`, gaps and reserved octets zero, and their number in `count`: 0, 42, 12 to 21, 75, 70 to 74,
- * or 76 where `out` is too short. HAULSPAR_MESSAGE_OCTETS are always enough, and so are octets_len. Stack: 608. */
+ * or 76 where `out` is too short. HAULSPAR_MESSAGE_OCTETS are always enough, and so are octets_len. Stack: 656. */
 uint32_t haulspar_head(const uint8_t *octets, size_t octets_len, uint8_t *out, size_t out_len, uint64_t *count);
 
 #ifdef __cplusplus

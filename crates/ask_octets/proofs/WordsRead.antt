@@ -51,7 +51,7 @@ module _ (word : List ℕ) (d : same_word word none_word ≡ false) where
     stands_by false true o a = rw (d, z, o, a)
     stands_by false false o a = rw (d, z, o, a)
 
-    word-digits : (n : ℕ) → r ≡ Ok n → WordRead (octets_word word) memory (Some n) last
+    pub word-digits : (n : ℕ) → r ≡ Ok n → WordRead (octets_word word) memory (Some n) last
     unfolding choose
     word-digits n e =
         let a = digits-accepted word (length memory) n (sym s.answer ∙ e) in
@@ -74,7 +74,7 @@ module _ (word : List ℕ) (d : same_word word none_word ≡ false) where
         (are-many (line_octets word) memory (omega (arith, octets-length word, ltb-true (length memory) (length word / 2) l)))
     other-by false true false o a l k = absurd (k (length word / 2) (rw (s.answer, o, a, l)))
 
-    word-other : (u : Undecoded) → r ≡ Err u → WordRead (octets_word word) memory None last
+    pub word-other : (u : Undecoded) → r ≡ Err u → WordRead (octets_word word) memory None last
     word-other u e = other-by _ _ _ refl refl refl (λ n f. clash cc)
 
 -- a word of digits or of other characters, by what decoding it says

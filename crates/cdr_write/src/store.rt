@@ -90,5 +90,8 @@ pub(crate) fn copy(out: &mut [u8], at: usize, octets: &[u8])
     requires { at + length «octets».now ≤ length out.old }
     ensures { out.new ≡ sets out.old at «octets».now }
 {
-    out[at..at + octets.len()].copy_from_slice(octets);
+    // No `copy_from_slice`: it takes memmove, which nothing else in the archive for C needs from outside.
+    for k in 0..octets.len() {
+        out[at + k] = octets[k];
+    }
 }

@@ -76,7 +76,7 @@ module _ (v : List ℕ) (r : Record) (places : List ℕ) where
       chosen Asks (bad_record r (length places)) _ _ (λ _. tt) (λ b. by-id-needs h (record { accepted = e; sound = b }) h.id)
   frame-needs (Err row) e = tt
 
-  step-needs : Asks (step_of v r places)
+  pub step-needs : Asks (step_of v r places)
   unfolding step_of
   step-needs = frame-needs (frame_of v) refl
 

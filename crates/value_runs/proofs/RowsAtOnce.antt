@@ -123,11 +123,11 @@ pub record OctetKind (kind : ℕ) : Type 0 where
   pub sized : One ≡ size_of kind
   pub same : (x : ℕ) → content_of kind x ≡ x
 
-char-kind : (kind : ℕ) → kind ≡ 9 → OctetKind kind
+pub char-kind : (kind : ℕ) → kind ≡ 9 → OctetKind kind
 unfolding size_of content_of
 char-kind kind e = record { sized = rw e; same = λ x. rw e }
 
-octet-kind : (kind : ℕ) → kind ≡ 10 → OctetKind kind
+pub octet-kind : (kind : ℕ) → kind ≡ 10 → OctetKind kind
 unfolding size_of content_of
 octet-kind kind e = record { sized = rw e; same = λ x. rw e }
 
