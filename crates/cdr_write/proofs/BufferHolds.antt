@@ -3,13 +3,12 @@ use Rattle.std.specs.Prelude.{Option, Some, None}
 use mathlib.Core.Path.{◌≡◌, refl, sym, ap, ◌∙◌}
 use mathlib.Core.List.{List, [], ◌∷◌, ◌++◌, append_assoc}
 use mathlib.Core.Bool.{true, false}
-use Prim.Native.Nat.{ℕ, suc, ◌+◌, ◌^◌, ◌-◌, ◌<◌, ◌≤◌, ◌%◌}
+use Prim.Native.Nat.{ℕ, suc, ◌+◌, ◌^◌, ◌-◌, ◌≤◌, ◌%◌}
 use native.Mathlib.Nat.{add-zero}
-use native.Mathlib.Numerals.{add-one}
 use native.Mathlib.Omega.{arith}
-use lib.ListN.{get_or, length, take, drop, set, length-append, length-drop, drop_of_length-le}
+use lib.ListN.{length, take, drop, set, length-append, length-drop}
 use borrow.Rule.Slice.PartMut.{put_mid}
-use lib.Seq.{sets, sets-eq, drop-cons, drop-drop, take_at, drop_at, length-take-le}
+use lib.Seq.{sets, sets-eq, drop-drop, take_at, drop_at, length-take-le}
 use Rattle.cdr.specs.declared.Order.{Order}
 use Rattle.cdr.specs.declared.Order.TheVariants.{Big, Little}
 use Rattle.cdr.specs.Number.{octets_of, little_octets}
@@ -37,21 +36,6 @@ module _ (l xs : List ℕ) (at : ℕ) (fits : at + length xs ≤ length l) where
   pub drop-stored : drop (at + length xs) (sets l at xs) ≡ drop (at + length xs) l
   drop-stored =
       rw (sets-eq xs l at fits) (drop_at (take at l ++ xs) (drop (at + length xs) l) (at + length xs) before-length)
-
--- the next of a run, which starts with all of it and ends with none
-pub stored : (l out : List ℕ) (at k : ℕ) → k < length l
-    → sets out (at + k) (drop k l) ≡ sets (set out (at + k) (get_or l k 0)) (at + (k + 1)) (drop (k + 1) l)
-stored l out at k h =
-    let e : suc (at + k) ≡ at + (k + 1) = omega arith in
-    ap (sets out (at + k)) (drop-cons l k 0 h)
-    ∙ ap (λ (j : ℕ). sets (set out (at + k) (get_or l k 0)) j (drop (suc k) l)) e
-    ∙ ap (λ (j : ℕ). sets (set out (at + k) (get_or l k 0)) (at + (k + 1)) (drop j l)) (sym (add-one k))
-
-pub stored-first : (l out : List ℕ) (at : ℕ) → sets out (at + 0) (drop 0 l) ≡ sets out at l
-stored-first l out at = ap (λ (j : ℕ). sets out j l) (add-zero at)
-
-pub stored_last : (l out : List ℕ) (at k : ℕ) → length l ≤ k → sets out (at + k) (drop k l) ≡ out
-stored_last l out at k h = ap (sets out (at + k)) (drop_of_length-le l h)
 
 pub part-length : (l : List ℕ) (at n : ℕ) → at + n ≤ length l → length (take (at + n - at) (drop at l)) ≡ n
 part-length l at n h =
